@@ -25,9 +25,9 @@ def python_with_selenium():
 
 
 def cases():
-    from lib.annotate import drawing, files, markup, offers, texts, trial, views
+    from lib.annotate import drawing, files, filling, keys, markup, offers, texts, trial, views
 
-    modules = (markup, offers, texts, views, files, drawing, trial)
+    modules = (keys, filling, markup, offers, texts, views, files, drawing, trial)
     return [case for module in modules for case in module.CASES]
 
 

@@ -68,15 +68,18 @@ def takes_over(program):
         need(isinstance(missing, int), f"something is missing: {missing}")
         count, moves = sum(1 for _ in editor.document.elements()), len(editor.made)
         same(completions.preview()["new"], missing, "the preview")
-        completions.take({"version": editor.version})
-        same((editor.session.need(), text_in(editor.shown())), (0, text_in(before)), "all of it")
-        same(sum(1 for _ in editor.document.elements()) - count, missing, "so many are new")
+        left = completions.take({"version": editor.version})["left"]
+        same((editor.session.need(), text_in(editor.shown())), (left, text_in(before)), "all of it, but for what may have several names")
+        same(sum(1 for _ in editor.document.elements()) - count, missing - left, "so many are new")
         same(editor.document.written().encode(), editor.shown(), "the tree")
+        same(len(editor.made), moves + (left < missing), "one move")
         editor.back({"version": editor.version, "to": moves})
         same(editor.shown(), before, "taken back in one move")
         for left in range(missing, 0, -1):
             same(completions.preview()["new"], left, "one by one")
-            completions.take({"version": editor.version, "new": random.choice(list(completions.news))})
+            new = random.choice(list(completions.news))
+            names = completions.choices.get(new, [completions.news[new][1].node.name])
+            completions.take({"version": editor.version, "new": new, "name": random.choice(names)})
         same((editor.session.need(), text_in(editor.shown())), (0, text_in(before)), "each of them")
         editor.back({"version": editor.version, "to": moves})
         for _ in range(missing):
@@ -84,8 +87,13 @@ def takes_over(program):
             if not lists:
                 break
             node, left = random.choice(lists), editor.session.need()
-            new = len(completions.missing({"node": node.id})["missing"])
-            completions.take({"version": editor.version, "node": node.id})
+            rows = completions.missing({"node": node.id})["missing"]
+            new, names = len(rows), {}
+            several = [row for row in rows if "choices" in row]
+            if several:
+                row = random.choice(several)
+                names[str(row["id"])] = random.choice(row["choices"])
+            completions.take({"version": editor.version, "node": node.id, "names": names})
             same((node.verdict, editor.session.need()), ("valid", left - new), f"list by list: {node.name}")
         same(editor.session.need(), 0, "all lists")
 
@@ -159,7 +167,7 @@ def types(program):
             made += 1
         need(made > 0, "something was typed")
         editor.back({"version": editor.version, "to": 0})
-        same(editor.shown(), editor.script.begin[1], "all taken back")
+        same(editor.shown(), editor.script.source, "all taken back")
 
 
 def ends_of(nodes, start, end):

@@ -8,6 +8,7 @@ import random
 import resource
 import sys
 import tempfile
+import threading
 
 sys.dont_write_bytecode = True
 
@@ -15,13 +16,17 @@ from lib.annotate.fixture import DRAFT, EXAMPLES, FOLDER, LETTER, Fault, fault_o
 
 sys.path[:0] = [FOLDER, os.path.dirname(FOLDER)]
 
+from attributes import Attributes  # noqa: E402
 from costs import Costs  # noqa: E402
 from declared import declared_by  # noqa: E402
-from editor import Editor, Stale  # noqa: E402
+from editor import Differs, Editor, Stale, Unseen, sum_of  # noqa: E402
+from everywhere import Everywhere  # noqa: E402
+from explain import Explainer  # noqa: E402
 from pvtag.document import ELEMENT, TEXT, Document  # noqa: E402
 from pvtag.program import Trouble  # noqa: E402
 from pvtag.session import Ended, Made, Refused, Session  # noqa: E402
 from script import Script  # noqa: E402
+from texts import Texts  # noqa: E402
 
 
 # Sessions.
@@ -310,7 +315,227 @@ def survives_a_full_disk(program):
         editor.close()
 
 
-CASES = [speaks_each_line, offers_names, keeps_the_tree, keeps_moves, saves, survives_cuts, survives_a_full_disk]
+def takes_back_whatever_raises(program):
+    """Whatever is raised while a move is made, what was played of it is taken back; what can't be written as UTF-8 is
+    refused."""
+    with tempfile.TemporaryDirectory() as folder:
+        editor = editor_on(program, folder, DRAFT)
+        wrap(editor, "person", "Mr Adams")
+        before = state(editor)
+        half = "\ud800"
+        same(wrap(editor, half, "Delft")["no"], "shape", "a name that is half a character")
+        same(wrap(editor, "place" + half, "Delft")["no"], "shape", "one that ends with it")
+        place = place_of(editor, "Delft")
+        texts, everywhere = Texts(editor), Everywhere(editor)
+        same(texts.type({"version": editor.version, "text": "a" + half, "place": place})["no"], "shape", "a text")
+        stretch = everywhere.places({"text": "Delft", "name": "place"})["places"][0]["place"]
+        same(everywhere.tag({"version": editor.version, "name": half, "places": [stretch]})["refused"], 1, "the same tag everywhere")
+        need(isinstance(fault_of(lambda: everywhere.tag({"version": editor.version, "name": "place", "places": [stretch, [9999, 0, 0, 1]]})), Stale), "a place that is gone")
+        same((state(editor), editor.ahead), (before, 0), "nothing of it is left")
+        # Each line of a move, and each line of its undo, raises once.
+        for count in range(1, 12):
+            fails_at(editor, count)
+            before = state(editor)
+            fault = fault_of(lambda: wrap(editor, "place", "Delft"))
+            unless_raised(editor)
+            if fault is None:
+                break
+            same((state(editor), editor.ahead), (before, 0), f"a move whose line {count} raises")
+        need(count > 3, "a move of several lines")
+        texts.type({"version": editor.version, "text": "x", "on": True, "place": place_of(editor, "have")})
+        for count in range(1, 20):
+            fails_at(editor, count)
+            before = state(editor)
+            node = next(node for node in editor.document.nodes.values() if node.kind == TEXT and "x met" in text_of(node) and is_there(editor.document, node))
+            at = text_of(node).index("x met") + 1
+            more = {"version": editor.version, "text": "y", "on": True, "place": {"list": node.owner.id, "from": [node.id, at], "to": [node.id, at]}}
+            fault = fault_of(lambda: texts.type(more))
+            unless_raised(editor)
+            if fault is None:
+                break
+            same((state(editor), editor.ahead), (before, 0), f"what is typed on, whose line {count} raises")
+        need(count > 6 and b"I xy met" in editor.shown(), "what was typed on is one move with what it goes on")
+        same(len(editor.made), 3, "the moves")
+        before = state(editor)
+        editor.close()
+        editor = editor_on(program, folder)
+        same(state(editor), before, "the next start")
+        # A machine that stops while the lines are written that take the place of others.
+        path = editor.script.path
+        editor.close()
+        with open(path, "rb") as file:
+            script = file.read()
+        instead = script.rindex(b"instead ")
+        shown = set()
+        for size in range(instead, len(script) + 1):
+            with open(path, "wb") as file:
+                file.write(script[:size])
+            editor = editor_on(program, folder)
+            shown.add(editor.shown().count(b"I x met") + 2 * editor.shown().count(b"I xy met"))
+            same(len(editor.made), 3, f"{size} bytes of the script")
+            editor.close()
+        same(shown, {1, 2}, "what was typed before is there, or all of it")
+
+
+def fails_at(editor, count):
+    """The session raises at so many lines from now, once."""
+    session, edit, undo = editor.session, editor.session.edit, editor.session.undo
+    left = [count]
+
+    def one(call):
+        def called(*words):
+            left[0] -= 1
+            if left[0] == 0:
+                session.edit, session.undo = edit, undo
+                raise KeyError("a fault of a test")
+            return call(*words)
+        return called
+
+    session.edit, session.undo = one(edit), one(undo)
+
+
+def unless_raised(editor):
+    """What didn't raise by now doesn't any more."""
+    for name in ("edit", "undo"):
+        editor.session.__dict__.pop(name, None)
+
+
+class Cut:
+    """A pipe from the session in which so many reads from now are cut off by this fault, or by the pipe's end."""
+
+    def __init__(self, pipe, count, fault):
+        self.pipe, self.left, self.fault = pipe, count, fault
+
+    def __getattr__(self, name):
+        return getattr(self.pipe, name)
+
+    def cut(self, read, *words):
+        self.left -= 1
+        if self.left > 0:
+            return read(*words)
+        if self.fault is None:
+            return b""
+        raise self.fault("a fault of a test")
+
+    def readline(self):
+        return self.cut(self.pipe.readline)
+
+    def read(self, size):
+        return self.cut(self.pipe.read, size)
+
+
+def ends_what_is_cut_off(program):
+    """Wherever a reply is cut off, also by want of memory or the keyboard, the session is ended, so that what is left of it isn't
+    taken for the next one; what was played is gone, and the next session has all that is written down."""
+    with tempfile.TemporaryDirectory() as folder:
+        editor = editor_on(program, folder, DRAFT)
+        wrap(editor, "person", "Mr Adams")
+        for fault in (KeyboardInterrupt, MemoryError, OSError, None):
+            for count in range(1, 40):
+                before, moves = state(editor), len(editor.made)
+                session = editor.session
+                session.output = Cut(session.output, count, fault)
+                told = None
+                try:
+                    wrap(editor, "place", "Delft")
+                except BaseException as raised:
+                    told = raised
+                is_whole = session.output.left > 0
+                if is_whole:
+                    session.output = session.output.pipe
+                else:
+                    need(editor.session is not session or isinstance(fault_of(session.need), Ended), f"{fault}: the session is ended")
+                if editor.session is session and not is_whole:
+                    editor.begin_again()
+                is_made = len(editor.made) > moves
+                # What is written down is made, also where it wasn't told any more.
+                need(is_made == (told is None) or is_made and fault is KeyboardInterrupt, f"{fault} at read {count}: {told!r}")
+                same(editor.document.written().encode(), editor.shown(), f"the tree, {fault} at read {count}")
+                same(sum(node.verdict == "possible" for node in editor.document.elements()), editor.open, "the verdicts")
+                if is_made:
+                    need(b"<place>Delft" in editor.shown(), "it is there")
+                    editor.undo({"version": editor.version})
+                else:
+                    same(state(editor), before, f"nothing of it is left, {fault} at read {count}")
+                if is_whole:
+                    break
+            need(count > 4, "a move has several replies")
+        editor.close()
+
+
+def explains_without_a_lock(program):
+    """While it is asked why a move was refused, and whether attributes are of the form of XML, other moves go on."""
+    with tempfile.TemporaryDirectory() as folder:
+        editor = editor_on(program, folder, DRAFT)
+        explainer, attributes = Explainer(editor), Attributes(editor)
+        told = wrap(editor, "lb", "have")
+        seen = []
+
+        def is_free():
+            other = threading.Thread(target=lambda: seen.append(editor.lock.acquire(timeout=5) and (editor.lock.release() or True)))
+            other.start()
+            other.join()
+
+        of_lists, check = explainer.reasons.of_lists, attributes.check
+        explainer.reasons.of_lists = lambda lists: (is_free(), of_lists(lists))[1]
+        attributes.check = lambda pairs: (is_free(), check(pairs))[1]
+        before = state(editor)
+        need("why" not in told and "`lb`" in told["later"]()["why"], "why a move was refused")
+        same(state(editor), before, "the document")
+        explainer.of_lists({"nodes": [editor.document.there("0").id]})
+        need("changes" in attributes.change({"version": editor.version, "node": editor.document.there("0").id, "pairs": [["id", "x"]]}), "attributes")
+        same(seen, [True] * 3, "the lock is free meanwhile")
+        attributes.close()
+        editor.close()
+
+
+def compares_what_it_saves(program):
+    """A tree that isn't the session's is never written."""
+    with tempfile.TemporaryDirectory() as folder:
+        editor = editor_on(program, folder, DRAFT)
+        wrap(editor, "person", "Mr Adams")
+        before = editor.shown()
+        next(node for node in editor.document.nodes.values() if node.kind == TEXT and text_of(node) == "Mr Adams").units = "Mr Adam"
+        fault = fault_of(lambda: editor.save({"version": editor.version}))
+        need(isinstance(fault, Differs) and "Mr Adam<" in fault.own and "Mr Adams<" in fault.shown, f"both are told: {fault!r}")
+        need(isinstance(fault_of(lambda: editor.save_beside({"name": "b.xml"})), Differs), "nor beside it")
+        same(open(editor.script.document, "rb").read(), DRAFT.encode(), "the document")
+        editor.begin()
+        same(editor.shown(), before, "begun anew, it is the one of the script")
+        need(isinstance(fault_of(lambda: editor.save({"version": editor.version, "seen": "0" * 64})), Unseen), "a page that shows another one")
+        editor.save({"version": editor.version, "seen": sum_of(editor.document)})
+        same(open(editor.script.document, "rb").read(), before, "what is saved")
+        editor.close()
+
+
+def begins_again(program):
+    """A session that dies is begun again, wherever it was: also after a Save, and where the document was changed by
+    another program; the tree's nodes stay."""
+    with tempfile.TemporaryDirectory() as folder:
+        editor = editor_on(program, folder, DRAFT)
+        path = editor.script.document
+        place = place_of(editor, "Delft")
+        editor.session.process.kill()
+        need(isinstance(fault_of(editor.shown), Ended), "it has died")
+        editor.begin_again()
+        editor.move({"version": editor.version, "kind": "wrap", "place": place, "name": "place"})
+        editor.save({"version": editor.version})
+        wrap(editor, "person", "Mr Adams")
+        before, place = state(editor), place_of(editor, "have")
+        for what in (None, "<letter/>"):
+            if what:
+                put(path, what)
+            editor.session.process.kill()
+            need(isinstance(fault_of(editor.shown), Ended), "it has died")
+            editor.begin_again()
+            same(state(editor), before, f"after a Save, the document being {what or 'as it was saved'}")
+        editor.move({"version": editor.version, "kind": "wrap", "place": place, "name": "date"})
+        need(b"<date>have</date>" in editor.shown(), "a place that was told before")
+        editor.close()
+
+
+CASES = [speaks_each_line, offers_names, keeps_the_tree, keeps_moves, saves, survives_cuts, survives_a_full_disk,
+         takes_back_whatever_raises, ends_what_is_cut_off, explains_without_a_lock, compares_what_it_saves, begins_again]
 
 
 def main():

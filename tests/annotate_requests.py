@@ -107,7 +107,7 @@ def says_what_is_wrong(program):
         need("declares no element lettre; it declares letter, opener," in said(LETTER, "lettre", doc), "a root that isn't declared")
         need("can't be run" in said(LETTER, "letter", doc, "--program", "/nowhere/pvtag"), "a program that isn't there")
         same(said(LETTER, "letter", server.path("no/new.xml"), "--from", LETTER), "no/new.xml: No such file or directory", "a folder that isn't there")
-        same(said(LETTER, "letter", server.folder), f"{server.folder}: Is a directory", "a folder")
+        same(said(LETTER, "letter", server.folder), f"{server.folder} is a folder, and no file", "a folder")
         server.write("a\x01b", "odd.txt")
         need(said(LETTER, "letter", new, "--from", server.path("odd.txt")).startswith("no document can be made of odd.txt: "), "a character")
         os.unlink(server.path("odd.txt"))
@@ -115,6 +115,30 @@ def says_what_is_wrong(program):
             port = taken.getsockname()[1]
             need(f"the port {port} of 127.0.0.1: " in said(LETTER, "letter", doc, "--port", str(port)), "a port that is taken")
         same(server.files(), ["bad.dtd", "doc.xml", "latin.txt", "latin.xml"], "nothing was made")
+
+
+def ends_while_it_opens(program):
+    """Ctrl-C before the address is there ends it without a word, and leaves nothing that it made."""
+    with Server(program, DRAFT) as server:
+        server.stop()
+        server.write("Dear brother", "plain.txt")
+        server.write(f'#!/bin/sh\n[ "$1" = "$STOPS_AT" ] && exec sleep 60\nexec {program} "$@"\n', "slow")
+        os.chmod(server.path("slow"), 0o755)
+        before, new = server.files(), server.path("new.xml")
+        for stops_at, waits_for in (("dtd", ""), ("session", "new.xml.pvtag")):
+            words = [*server.words[:2], LETTER, "letter", new, "--from", server.path("plain.txt"), "--program", server.path("slow")]
+            ran = subprocess.Popen(words, stdout=subprocess.PIPE, stderr=subprocess.PIPE, text=True, env={**os.environ, "STOPS_AT": stops_at})
+            soon(lambda: waits_for in server.files() if waits_for else children_of(ran.pid) != "", True, "it waits for the program")
+            time.sleep(0.2)
+            ran.send_signal(signal.SIGINT)
+            out, faults = ran.communicate(timeout=PATIENCE)
+            same((ran.returncode, out, faults), (130, "", ""), f"where the program is at `{stops_at}`")
+            same(server.files(), before, "nothing was made")
+
+
+def children_of(number):
+    with open(f"/proc/{number}/task/{number}/children", encoding="ascii") as file:
+        return file.read().strip()
 
 
 def makes_moves_again(program):
@@ -139,11 +163,18 @@ def makes_moves_again(program):
         need("3 of 3 moves were made again" in note, note)
         need("place" in [row.get("name") for row in server.ask("state")["tree"]], "they are there")
         server.stop()
-        server.write(DRAFT.replace("Mr Adams", "Mrs Adams"))
+        server.write(DRAFT.replace("Mr Adams", "Mr Adamo"))
         server.start("--again")
         note = server.ask("hello", {"window": "1"})["note"]
-        need("1 of 3 moves were made again" in note, f"up to the first that is about another text: {note}")
+        need("2 of 3 moves were made again" in note and "Not made: ⟨person⟩ round “Mr Adams”" in note, f"but for the one whose end was changed: {note}")
         same(server.files(), ["doc.xml", "doc.xml.pvtag", "doc.xml.pvtag.base", "doc.xml.pvtag.old"], "the script before is kept")
+        server.stop()
+        server.write("<letter>")
+        before = server.text("doc.xml.pvtag")
+        ran = subprocess.run([*server.words, "--again"], capture_output=True, text=True, timeout=PATIENCE)
+        need(ran.returncode == 1 and ran.stderr.startswith("annotate: doc.xml:1:9: ".replace("doc.xml", server.doc)), f"what is no document: {ran.stderr}")
+        same((server.text("doc.xml.pvtag"), server.files()), (before, ["doc.xml", "doc.xml.pvtag", "doc.xml.pvtag.base", "doc.xml.pvtag.old"]),
+             "the script stays where it was")
 
 
 def loses_nothing(program):
@@ -165,7 +196,7 @@ def loses_nothing(program):
         with open(f"/proc/{server.process.pid}/task/{server.process.pid}/children", encoding="ascii") as file:
             for process in file.read().split():
                 os.kill(int(process), signal.SIGKILL)
-        soon(lambda: server.ask("need"), lambda answer: answer.get("stale") or answer.get("trouble"), "a session that was killed is told")
+        soon(lambda: server.ask("need"), lambda answer: "it was begun again" in answer.get("again", ""), "a session that was killed is begun again, and told")
         need("salute" in [row.get("name") for row in server.ask("state")["tree"]], "and begun again")
         server.ask("undo", {"version": server.ask("state")["version"]})
         need("salute" not in [row.get("name") for row in server.ask("state")["tree"]], "with its moves")
@@ -205,7 +236,7 @@ def stays_for_windows(program, stay):
         return True
 
 
-CASES = [refuses_others, refuses_nonsense, makes_documents, says_what_is_wrong, makes_moves_again, loses_nothing, ends_behind_the_last_window]
+CASES = [refuses_others, refuses_nonsense, makes_documents, says_what_is_wrong, ends_while_it_opens, makes_moves_again, loses_nothing, ends_behind_the_last_window]
 
 
 def main():

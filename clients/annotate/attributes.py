@@ -1,21 +1,28 @@
 """The attributes of a tag: names and values as a form has them, and what a DTD declares of them.
 
 A session keeps attributes as they are, so they are edited beside it. Their form is asked of the program; what the DTD
-declares is only shown.
+declares, and what is missing or wrong by it, says libxml2 (`pvtag.attributes`). Where it can't be asked, what the DTD
+declares is read here, and only shown.
 """
 import re
+import threading
 from typing import Any
 
+from changes import one_line
 from editor import Editor
+from forms import are_attributes
 from moves import ATTRIBUTES
-from pvtag.document import NAMED, Told
-from pvtag.program import Trouble, file_of, read_file, run
+from pvtag import attributes as libxml
+from pvtag.document import NAMED, Told, decimal
+from pvtag.masks import mask
+from pvtag.program import Trouble, read_file
 from runs import element_of
 
 PAIR = re.compile(r"""([^\s=]+)\s*=\s*("[^"]*"|'[^']*')""")
 REFERENCE = re.compile(r"&(#x[0-9a-fA-F]+|#[0-9]+|\w+);")
 COMMENT = re.compile(r"<!--.*?-->|<\?.*?\?>", re.S)
 ENTITY = re.compile(r"""<!ENTITY\s+%\s+(\S+)\s+("[^"]*"|'[^']*')\s*>""")
+REFERENCE_IN_DTD = re.compile(r"%([^\s%;]+);")
 ATTLIST = re.compile(r"""<!ATTLIST\s+(\S+)((?:[^>"']|"[^"]*"|'[^']*')*)>""")
 DEFINITION = re.compile(
     r"""(\S+)\s+(CDATA|IDREFS?|ID|ENTIT(?:Y|IES)|NMTOKENS?|(?:NOTATION\s+)?\([^)]*\))\s*"""
@@ -23,6 +30,8 @@ DEFINITION = re.compile(
 )
 # So often texts of parameter entities are put in place, before it is given up.
 ROUNDS = 40
+# So much longer than the DTD its text may become by that, in bytes; what would be longer isn't built.
+MOST = 1 << 24
 SPECIAL = {"&": "&amp;", "<": "&lt;", '"': "&quot;", "\t": "&#9;", "\n": "&#10;", "\r": "&#13;"}
 
 
@@ -35,7 +44,7 @@ def character(reference: re.Match[str]) -> str:
     name = reference[1]
     if name.startswith("#x"):
         return chr(int(name[2:], 16))
-    return chr(int(name[1:])) if name.startswith("#") else NAMED.get(reference[0], reference[0])
+    return chr(decimal(name[1:])) if name.startswith("#") else NAMED.get(reference[0], reference[0])
 
 
 def written(pairs: list[tuple[str, str]], before: str = "") -> str:
@@ -48,6 +57,10 @@ def escaped(value: str) -> str:
     return "".join(SPECIAL.get(char, char) for char in value)
 
 
+class Grown(Exception):
+    """The texts of a DTD's parameter entities are too much."""
+
+
 def declared_in(dtd: str) -> dict[str, list[Told]]:
     """The attributes that a DTD declares for each element, as far as that can be read without other files."""
     text = COMMENT.sub("", dtd)
@@ -55,8 +68,11 @@ def declared_in(dtd: str) -> dict[str, list[Told]]:
     for name, value in ENTITY.findall(text):
         entities.setdefault(name, value[1:-1])
     for _ in range(ROUNDS):
-        more = re.sub(r"%([^\s%;]+);", lambda found: f" {entities.get(found[1], '')} ", text)
-        if more == text or len(more) > len(dtd) + (1 << 24):
+        size = sum(len(entities.get(found[1], "")) + 2 - len(found[0]) for found in REFERENCE_IN_DTD.finditer(text))
+        if len(text) + size > len(dtd) + MOST:
+            raise Grown
+        more = REFERENCE_IN_DTD.sub(lambda found: f" {entities.get(found[1], '')} ", text)
+        if more == text:
             break
         text = more
     declared: dict[str, list[Told]] = {}
@@ -68,30 +84,90 @@ def declared_in(dtd: str) -> dict[str, list[Told]]:
     return declared
 
 
+def unseen_in_words(count: int) -> str:
+    """What is to be said of entities that aren't declared, or bring what isn't seen."""
+    return "" if count == 0 else ", an entity isn't seen" if count == 1 else f", {count} entities aren't seen"
+
+
 class Attributes:
     def __init__(self, editor: Editor) -> None:
         self.editor = editor
         self.declared: dict[str, list[Told]] | None = None
+        # Why none can be told.
+        self.why = ""
+        # What libxml2 is asked, one question at a time, and what it answered last.
+        self.asking, self.known = threading.Lock(), libxml.Attributes(read_file(editor.dtd))
+        self.told: Told = {"version": -1}
+
+    def close(self) -> None:
+        self.known.close()
 
     def of(self, ask: Any) -> Told:
-        """The attributes of an element, and those that the DTD declares for it; none where it declares none at all."""
+        """The attributes of an element, and those that the DTD declares for it, required ones first; none where it declares
+        none at all, or where that can't be told."""
+        if self.declared is None:
+            self.declared = self.read()
         with self.editor.lock:
             node, _ = element_of(self.editor.document, ask["node"])
-            if self.declared is None:
-                self.declared = declared_in(read_file(self.editor.dtd).decode(errors="replace"))
             declared = self.declared.get(node.name, []) if self.declared else None
-            return {"name": node.name, "pairs": pairs_of(node.attrs), "declared": declared}
+            ids = self.ids() if any(each["kind"].startswith("IDREF") for each in declared or ()) else []
+            return {"name": node.name, "pairs": pairs_of(node.attrs), "declared": declared, "why": self.why, "ids": ids}
+
+    def read(self) -> dict[str, list[Told]]:
+        if not self.known.declares_any:
+            return {}
+        if not self.known.why_not:
+            return {name: list(map(told_of, row)) for name, row in self.known.declared.items()} if any(self.known.declared.values()) else {}
+        try:
+            return declared_in(read_file(self.editor.dtd).decode(errors="replace"))
+        except Grown:
+            self.why = "The declarations of attributes aren't read: the DTD's parameter entities grow past 16 MB."
+            return {}
+
+    def ids(self) -> list[str]:
+        """The IDs that are given in the document."""
+        names = {name: {each.name for each in row if each.type == "ID"} for name, row in self.known.declared.items()}
+        found = dict[str, None]()
+        for node in self.editor.document.elements():
+            if node.name and names.get(node.name):
+                found.update({value: None for name, value in pairs_of(node.attrs) if name in names[node.name]})
+        return list(found)
+
+    def faults(self, _: Any) -> Told:
+        """What is missing and wrong, by the elements; `sentence` says it in a few words, `valid` whether nothing is, all
+        entities are texts, and attributes were looked at. It is about `version`."""
+        editor = self.editor
+        with self.asking:
+            with editor.lock:
+                version = editor.version
+                if self.told["version"] == version:
+                    return self.told
+                source = editor.whole_source()
+                numbers = [node.id for node in editor.document.elements() if node.owner is not None]
+            masked = mask(source, self.known.dtd)
+            checked = self.known.check(masked)
+            unseen = sum(remark.kind in ("entity", "brings") for remark in masked.remarks)
+            rows = [
+                {"node": numbers[fault.number], "kind": fault.kind, "name": fault.attribute, "sentence": fault.sentence}
+                for fault in checked.faults if fault.number is not None and fault.number < len(numbers)
+            ]
+            self.told = {"version": version, "faults": rows, "sentence": checked.sentence + unseen_in_words(unseen),
+                         "valid": checked.are_valid and not unseen, "count": len(checked.faults)}
+            return self.told
 
     def change(self, ask: Any) -> Told:
         """Gives an element these attributes; a move."""
         pairs = [(str(name), str(value)) for name, value in ask["pairs"]]
         with self.editor.lock:
             since = self.editor.known(ask)
-            node, path = element_of(self.editor.document, ask["node"])
-            if pairs == pairs_of(node.attrs):
+            if pairs == pairs_of(element_of(self.editor.document, ask["node"])[0].attrs):
                 return self.editor.state(since)
-            self.check(pairs)
-            return self.editor.answer(since, [f"{ATTRIBUTES}{path} {one_line(written(pairs, node.attrs))}"])
+        # The program is asked, for which no move waits: one that was made meanwhile is told below.
+        self.check(pairs)
+        with self.editor.lock:
+            since = self.editor.known(ask)
+            node, path = element_of(self.editor.document, ask["node"])
+            return self.editor.answer(since, [f"{ATTRIBUTES}{path} {one_line(self.editor.with_entities(written(pairs, node.attrs)))}"])
 
     def check(self, pairs: list[tuple[str, str]]) -> None:
         """Asks the program whether a tag may have these attributes, by their form."""
@@ -107,13 +183,13 @@ class Attributes:
 
     def is_form(self, pair: tuple[str, str]) -> bool:
         attrs = written([pair])
-        if pairs_of(attrs) != [pair]:
-            return False
-        tag = f"<x{attrs}/>".encode(errors="surrogatepass")
-        with file_of(b"<!ELEMENT x EMPTY>", ".dtd") as dtd, file_of(tag) as doc:
-            return run(self.editor.program, "valid", dtd, "x", doc).status == 0
+        return pairs_of(attrs) == [pair] and are_attributes(self.editor.program, [attrs])
 
 
-def one_line(attrs: str) -> str:
-    """A line end in a value is a blank to a reader of XML (3.3.3), and a line of a script holds none."""
-    return attrs.replace("\r\n", " ").replace("\n", " ").replace("\r", " ")
+def told_of(each: libxml.Attribute) -> Told:
+    """A declared attribute as the form has it."""
+    kind, default = each.declared.rsplit(" #", 1) if " #" in each.declared and each.value is None else (each.declared, "")
+    return {
+        "name": each.name, "kind": kind, "default": f"#{default}" if default else "", "required": each.is_required,
+        "values": list(each.values) or ([each.value] if each.value is not None else []), "means": each.meaning, "only": each.only,
+    }

@@ -2,39 +2,74 @@
 
 A move is made whole or not at all, it is on the disk before it is told, and it is taken back whole. Whether it can be
 made says the session. Its lines for attributes alone are made in the tree only: a session keeps attributes as they are.
+First a move is played in the session; what is played there is taken back, whatever is raised. Then it is written down,
+and from there on it is made: where the tree can't be brought to it, both begin anew by what is written.
 """
+import hashlib
 import threading
 from collections.abc import Callable, Sequence
 from typing import Any
 
-from moves import ATTRIBUTES, Move, UNDO, groups_of, is_edit, surviving, title_of, undo_of
+from again import Again
+from changes import lines_of
+from forms import check_forms
+from moves import (
+    ATTRIBUTES, EDITS, LONGEST, BadLine, Move, exchanged, groups_of, is_edit, move_of, surviving, title_of, undo_of,
+)
 from pvtag.document import ELEMENT, Document, Told
-from pvtag.program import Trouble
+from pvtag.masks import Masked, mask
+from pvtag.program import Trouble, file_of, read_file
 from pvtag.session import Ended, Made, Refused, Session
-from runs import Stale, below, element_of, run_of
+from runs import Stale, below
 from script import Script, hash_of
 
 # A window that was away for more moves than these gets the whole tree.
 KEPT = 1000
-# The longest line of a session, in bytes.
-LONGEST = 1_048_576
+# So much of both is shown where the tree's document isn't that of the session, on both sides of the place, in bytes.
+ROUND = 200
+
+
+class Differs(Trouble):
+    """The tree's document isn't the one that the session shows: both, round the first place where they differ."""
+
+    def __init__(self, own: bytes, shown: bytes) -> None:
+        super().__init__("the document of the page isn't the one that the program shows; nothing is written")
+        size = min(len(own), len(shown))
+        at = next((at for at in range(size) if own[at] != shown[at]), size)
+        parts = (text[max(0, at - ROUND):at + ROUND] for text in (own, shown))
+        self.own, self.shown = (part.decode(errors="replace") for part in parts)
+
+
+class Unseen(Trouble):
+    """What a window shows isn't the document."""
 
 
 class Editor:
     def __init__(self, program: list[str], dtd: str, root: str, script: Script) -> None:
         self.program, self.dtd, self.root, self.script = program, dtd, root, script
         self.lock = threading.RLock()
-        self.made, self.undone = self.moves()
+        # What the session and the tree have: the document, its subset and its entities masked.
+        self.masked: Masked = mask(script.source, read_file(dtd) if b"&" in script.source else b"")
+        self.entities = {stand_in_of(form): form.decode() for form in self.masked.stands if form.startswith(b"&")}
+        try:
+            self.made, self.undone = self.moves()
+        except BadLine as bad:
+            raise script.trouble(bad) from None
         self.changes: list[Told] = []
         self.version, self.needed = 0, {"version": -1}
-        # What a refusal is explained by: the tree, the lines up to the one that was refused, and the path that was
-        # told.
-        self.explain: Callable[[Document, list[str], str], Told] = lambda *_: {}
+        # What a refusal is explained by: the tree, the lines up to the one that was refused, and the path that was told; it
+        # gives a call that asks the program, `later`, when the lock isn't held any more.
+        self.explain: Callable[[Document, list[str], str], Callable[[], Told]] | None = None
         self.failed: list[str] = []
         # Called where the document has changed.
         self.outdated: Callable[[], None] = lambda: None
+        # The edits that are played in the session ahead of the moves that are made, and whether the tree is that of the
+        # moves.
+        self.ahead, self.is_whole, self.first = 0, False, 1
+        # The window that asks.
+        self.asker = threading.local()
         self.begin()
-        self.note = self.make_again() if script.earlier else ""
+        self.note = self.make_again() if script.earlier is not None else ""
 
     needed: Told
     saved: list[Move] | None
@@ -50,60 +85,94 @@ class Editor:
         if part:
             undos = [undo_of(line.text) for line in reversed(part)]
             self.script.append(undos)
-            made, undone = surviving([*self.script.lines, *undos])
-        return list(map(Move, groups)), list(map(Move, groups_of(reversed(undone))[::-1]))
+            made, undone = surviving([*self.script.lines, *((0, undo) for undo in undos)])
+        check_forms(self.program, made + undone)
+        return list(map(move_of, groups_of(made))), list(map(move_of, groups_of(reversed(undone))[::-1]))
+
+    # The session.
+    def opened(self) -> Session:
+        """A session on the document that the script begins with."""
+        source = self.masked.data
+        with file_of(source) as path:
+            session = Session(self.program, self.dtd, self.root, path)
+            try:
+                if session.show() != source:
+                    raise Trouble(f"the program shows another document than {self.script.name}")
+            except BaseException:
+                session.close()
+                raise
+        return session
 
     def begin(self) -> None:
-        """Opens the session and makes the moves of the script."""
-        path, source = self.script.begin
-        self.session = Session(self.program, self.dtd, self.root, path)
+        """Opens the session and makes the moves of the script; nodes have other numbers then."""
+        session = self.opened()
         try:
-            if self.session.show() != source:
-                raise Trouble(f"{path} has changed while it was opened")
-            self.document = Document(source)
+            document = Document(self.masked.data, self.first)
             for move in self.made:
-                self.replay(move)
-        except Exception:
-            self.session.close()
+                replay(session, move, self.script)
+                redraw(document, move)
+        except (KeyError, IndexError, ValueError, AttributeError):
+            session.close()
+            raise Trouble(f"{self.script.path}, line {move.numbers[-1]}: what this line is about isn't there") from None
+        except BaseException:
+            session.close()
             raise
+        self.use(session)
+        self.document, self.first = document, max(document.nodes) + 1
         self.changes, self.version = [], self.version + 1
         self.outdated()
-        self.saved = self.made[:] if hash_of(self.shown()) == self.script.on_disk else None
         self.judge_all()
+        self.saved = self.made[:] if hash_of(self.whole_source()) == self.script.on_disk else None
+        self.is_whole = True
 
-    def replay(self, move: Move) -> None:
-        for line in move.lines:
-            reply = self.play(line)
-            if isinstance(reply, Refused):
-                why = f"{line}: {' '.join(reply)}"
-                raise Trouble(f"a move of {self.script.path} can't be made any more ({why}); was the DTD changed?")
-        self.redraw(move)
+    def begin_again(self) -> None:
+        """Opens another session in the place of one that has ended, and makes the moves in it. The tree stays as it is, so
+        that what was asked of it still is about something; unless it isn't the one that the session shows."""
+        with self.lock:
+            if not self.is_whole:
+                return self.begin()
+            self.end_session()
+            session = self.opened()
+            try:
+                for move in self.made:
+                    replay(session, move, self.script)
+                is_same = session.show() == self.given()
+            except BaseException:
+                session.close()
+                raise
+            self.use(session)
+            if is_same:
+                self.judge_all()
+            else:
+                self.begin()
 
-    def redraw(self, move: Move) -> list[Told]:
-        """Makes a move in the tree; the changes."""
-        last = max(at for at, line in enumerate(move.lines) if is_edit(line) or at == 0)
-        edits = []
-        for at, line in enumerate(move.lines):
-            if at == last:
-                move.title = title_of(move.lines, self.document)
-            edits.append(self.document.edit(line))
-        move.backs = [back for _, back in reversed(edits)]
-        return [change for change, _ in edits]
+    def use(self, session: Session) -> None:
+        """Goes on with this session."""
+        self.end_session()
+        self.session = session
+        self.ahead = 0
+
+    def end_session(self) -> None:
+        """Ends the session; whatever is asked of it then raises `Ended`."""
+        if hasattr(self, "session"):
+            self.session.process.kill()
+            self.session.close()
+
+    def whole(self) -> None:
+        """Begins anew where the tree couldn't be brought to what is written down."""
+        if not self.is_whole:
+            self.begin()
 
     def make_again(self) -> str:
-        """Makes the moves of the script that was put aside, as far as they go and are about the same texts; what came
-        of it."""
-        groups = groups_of(surviving(self.script.earlier)[0])
-        before, made = Document(self.script.earlier_base) if self.script.earlier_base else None, 0
-        for lines in groups:
-            move = Move(lines)
-            if before is not None and not is_about_the_same(lines, before, self.document):
-                break
-            if self.make(move, []) is not None:
-                break
-            made += 1
-        return (f"The document was changed by another program. {made} of {len(groups)} moves were made again on it; all "
-                f"of them are kept in {self.script.name}.pvtag.old.")
+        """Makes the moves of the script that was put aside on the document as it is; what came of it."""
+        assert self.script.earlier is not None
+        again = Again(self.script.earlier, self.script.name, self.masked, read_file(self.dtd))
+        try:
+            again.make_on(self)
+        except BadLine as bad:
+            raise self.script.trouble(bad) from None
+        self.script.settle()
+        return again.note
 
     # Verdicts.
     def judge_all(self) -> None:
@@ -171,44 +240,55 @@ class Editor:
     # Trying.
     def tried(self, lines: Sequence[str], ask: Callable[[], Any]) -> Any:
         """What is answered behind these lines, which are taken back; the refusal of one that can't be made."""
-        count = 0
+        start = self.ahead
         try:
             for line in lines:
                 reply = self.play(line)
                 if isinstance(reply, Refused):
                     return reply
-                count += reply is not None
             return ask()
         finally:
-            self.take_back(count)
+            self.rewind(start)
 
     def play(self, line: str) -> Made | Refused | None:
-        """Makes an edit in the session; none where it is no edit of a session."""
+        """Makes an edit in the session; none where it is no edit of a session. What is no line of a session, or can't be
+        written as UTF-8, is refused."""
+        word = line.split(" ", 1)[0]
+        if "\n" in line or "\r" in line or word not in (*EDITS, ATTRIBUTES.strip()):
+            return Refused("command")
+        try:
+            size = len(line.encode())
+        except UnicodeEncodeError:
+            return Refused("shape", "bad-text")
+        if size > LONGEST:
+            return Refused("limit")
         if line.startswith(ATTRIBUTES):
             return None
-        return self.session.edit(line) if len(line.encode()) <= LONGEST else Refused("limit")
+        reply = self.session.edit(line)
+        self.ahead += isinstance(reply, Made)
+        return reply
 
-    def take_back(self, count: int) -> None:
-        for _ in range(count):
-            if not isinstance(self.session.undo(), Made):
-                raise Ended(None, "a move can't be taken back")
+    def rewind(self, to: int) -> None:
+        """Takes back what was played in the session, but for the first so many edits. A session in which that can't be done
+        is ended; so nothing of it is left."""
+        while self.ahead > to:
+            try:
+                reply = self.session.undo()
+            except Ended:
+                self.ahead = 0
+                raise
+            if not isinstance(reply, Made):
+                self.end_session()
+                self.ahead = 0
+                raise Ended(None, "an edit can't be taken back")
+            self.ahead -= 1
 
     # Moves.
-    def lines_of(self, move: Any) -> list[str]:
-        """The lines of a move."""
-        kind = move["kind"]
-        if kind in ("wrap", "insert"):
-            cuts, path, start, end = run_of(self.document, move["place"])
-            ends = f"{start} {end}" if kind == "wrap" else f"{start}"
-            return [*cuts, f"{kind} {path} {ends} {name_of(move)}"]
-        path = element_of(self.document, move["node"])[1]
-        return [f"unwrap {path}"] if kind == "unwrap" else [f"rename {path} {name_of(move)}"]
-
     def move(self, ask: Any) -> Told:
         """Makes a move; the state behind it, or a refusal."""
         with self.lock:
             since = self.known(ask)
-            return self.answer(since, self.lines_of(ask))
+            return self.answer(since, lines_of(self.document, ask))
 
     def answer(self, since: int, lines: list[str]) -> Told:
         """Makes these lines one move; the state behind it, or a refusal."""
@@ -223,33 +303,74 @@ class Editor:
             return told
         word, path, *rest = self.failed[-1].split(" ")
         if word in ("wrap", "insert"):
-            told |= {"list": self.document.there(path).id, "new": refusal.what == below(path, int(rest[0]))}
-        return told | self.explain(self.document, self.failed, refusal.what)
+            node = self.document.node_at(path)
+            told |= {"list": node.id if node is not None and node.kind == ELEMENT else None,
+                     "new": refusal.what == below(path, int(rest[0]))}
+        return {**told, "later": self.explain(self.document, self.failed, refusal.what)} if self.explain else told
 
     def make(self, move: Move, undone: list[Move]) -> Refused | None:
-        """Makes a move in the session, writes it down, and makes it in the tree; or changes nothing and answers why.
-        What can be made again behind it is `undone`."""
-        before, count, last = self.session.moves, 0, None
-        for at, line in enumerate(move.lines):
-            reply = self.play(line)
-            if isinstance(reply, Refused):
-                self.take_back(count)
-                self.failed = move.lines[:at + 1]
-                return reply
-            count, last = count + (reply is not None), reply or last
-        self.write(move.written, lambda: self.take_back(count))
-        self.made.append(move)
+        """Makes a move, or changes nothing and answers why. What can be made again after it is `undone`."""
+        return self.exchange(0, move, undone)
+
+    def exchange(self, count: int, move: Move | None, undone: list[Move]) -> Refused | None:
+        """Takes the last so many moves back and makes another in their place, in one; or changes nothing and answers
+        why."""
+        old, before = self.made[len(self.made) - count:], self.session.moves
+        lines = move.lines if move is not None else []
+        taken: list[str] = []
+        last: Made | None = None
+        try:
+            for line in (line for each in reversed(old) for line in reversed(each.lines)):
+                if not line.startswith(ATTRIBUTES):
+                    last = made(self.session.undo())
+                    taken.append(line)
+            for at, line in enumerate(lines):
+                reply = self.play(line)
+                if isinstance(reply, Refused):
+                    self.failed = lines[:at + 1]
+                    self.restore(taken)
+                    return reply
+                last = reply or last
+            self.write(exchanged(old, move))
+        except BaseException as fault:
+            if isinstance(fault, Exception) and not isinstance(fault, MemoryError):
+                self.restore(taken)
+            else:
+                # It may come from anywhere, so what was played isn't sure: another session makes what is written down.
+                self.end_session()
+            raise
+        self.ahead, self.is_whole = 0, False
+        self.made[len(self.made) - count:] = [move] if move is not None else []
         self.undone = undone
-        self.tell(self.redraw(move), before, last)
+        try:
+            backs = [back() for each in reversed(old) for back in each.backs]
+            self.tell(backs + (redraw(self.document, move) if move is not None else []), before, last)
+            self.is_whole = True
+        except Exception:
+            # It is made, whatever has failed: both begin anew by what is written down.
+            self.begin()
         return None
 
-    def write(self, lines: list[str], otherwise: Callable[[], None]) -> None:
-        """Writes lines to the script; where that fails, nothing is changed."""
+    def restore(self, taken: list[str]) -> None:
+        """The session as it was before a move: what was played is taken back, and these edits, which were taken back, are
+        made again. A session in which that can't be done is ended; it is begun again when it is asked next."""
+        try:
+            self.rewind(0)
+            for line in reversed(taken):
+                if not isinstance(self.session.edit(line), Made):
+                    self.end_session()
+        except (Ended, OSError, ValueError):
+            self.end_session()
+        except BaseException:
+            self.end_session()
+            raise
+
+    def write(self, lines: list[str]) -> None:
+        """Writes lines to the script."""
         try:
             self.script.keep_base()
             self.script.append(lines)
         except OSError as fault:
-            otherwise()
             raise Trouble(f"the move can't be written to {self.script.path}: {fault.strerror}") from None
 
     def tell(self, changes: list[Told], before: int, reply: Made | None) -> None:
@@ -258,7 +379,8 @@ class Editor:
             self.open, self.bad = reply.open, reply.bad
         self.version += 1
         self.outdated()
-        self.changes.append({"changes": changes, "verdicts": verdicts})
+        by = getattr(self.asker, "window", "")
+        self.changes.append({"changes": changes, "verdicts": verdicts, "by": by})
         del self.changes[:-KEPT]
 
     def undo(self, ask: Any) -> Told:
@@ -269,22 +391,7 @@ class Editor:
             return self.state(since)
 
     def undo_one(self) -> None:
-        before, last, move = self.session.moves, None, self.made[-1]
-        count = move.undoing.count(UNDO)
-        for done in range(count):
-            reply = self.session.undo()
-            if isinstance(reply, Refused):
-                self.redo_some(done)
-                raise Trouble("there is too little memory")
-            last = reply
-        self.write(move.undoing, lambda: self.redo_some(count))
-        self.undone.append(self.made.pop())
-        self.tell([back() for back in move.backs], before, last)
-
-    def redo_some(self, count: int) -> None:
-        for _ in range(count):
-            if not isinstance(self.session.redo(), Made):
-                raise Ended(None, "a move can't be made again")
+        self.exchange(1, None, [*self.undone, self.made[-1]])
 
     def redo(self, ask: Any) -> Told:
         with self.lock:
@@ -311,32 +418,50 @@ class Editor:
 
     def known(self, ask: Any) -> int:
         """The version that the page knows, which must be the present one."""
+        self.whole()
         if ask["version"] != self.version:
             raise Stale
         return self.version
 
     # Files.
     def save(self, ask: Any) -> Told:
+        """Writes the document; but not where the page, which tells the sum of what it shows, shows another one."""
         with self.lock:
             since = self.known(ask)
-            self.script.save(self.shown())
+            source = self.whole_source()
+            if ask.get("seen", "") not in ("", sum_of(self.document)):
+                raise Unseen("what this window showed isn't the document. It is drawn anew; look at it, and save again")
+            self.script.save(source, str(ask.get("way", "")))
             self.saved = self.made[:]
             return self.state(since)
 
     def save_beside(self, ask: Any) -> Told:
         """Writes the document to another file in its folder."""
         with self.lock:
-            return {"path": self.script.save_beside(str(ask["name"]), self.shown())}
+            self.whole()
+            return {"path": self.script.save_beside(str(ask["name"]), self.whole_source())}
 
     def shown(self) -> bytes:
-        """The document's bytes: those of the session, with the attributes that were edited."""
+        """The document's bytes: those of the session, with the attributes that were edited. The tree's are compared with
+        them first."""
         with self.lock:
-            source: bytes = values(self.session.show())
-            if not self.document.given:
-                return source
-            if self.document.written(self.document.given).encode() != source:
-                raise Trouble("annotate has a fault: its tree isn't that of the session; attributes can't be written")
-            return self.document.written().encode()
+            source, own = values(self.session.show()), self.given()
+            if own != source:
+                raise Differs(own, source)
+            return self.document.written().encode() if self.document.given else own
+
+    def whole_source(self) -> bytes:
+        """The document as it is written: with its subset and its entities."""
+        return self.masked.restored(self.shown())
+
+    def with_entities(self, text: str) -> str:
+        """A text of a tag or a script, in which characters that stand for entities are what stands for them: they were
+        copied on the page."""
+        return "".join(self.entities.get(char, char) for char in text) if self.entities else text
+
+    def given(self) -> bytes:
+        """The tree's document as the session should show it."""
+        return self.document.written(self.document.given).encode(errors="surrogatepass")
 
     def close(self) -> None:
         """Ends it all; an answer that takes long isn't waited for."""
@@ -347,27 +472,45 @@ class Editor:
         self.script.close()
 
 
-def is_about_the_same(lines: list[str], before: Document, now: Document) -> bool:
-    """Whether the edits of a move, which is made in the first tree, would be about the same texts in the second."""
-    backs, is_same = [], True
-    try:
-        for line in lines:
-            is_same = is_same and not (is_edit(line) and before.excerpt(line, LONGEST) != now.excerpt(line, LONGEST))
-            before.edit(line)
-            backs.append(now.edit(line)[1])
-    except (KeyError, IndexError, ValueError):
-        is_same = False
-    for back in reversed(backs):
-        back()
-    return is_same
+def replay(session: Session, move: Move, script: Script) -> None:
+    """Makes a move of a script in a session."""
+    for number, line in zip(move.numbers, move.lines, strict=True):
+        if line.startswith(ATTRIBUTES):
+            continue
+        reply = session.edit(line)
+        if isinstance(reply, Refused):
+            where = f"{script.path}, line {number}" if number else script.path
+            why = f"`{line if len(line) < 80 else line[:80] + '…'}`: {' '.join(reply)}"
+            raise Trouble(f"{where}: a move can't be made any more ({why}); was the DTD changed?")
 
 
-def name_of(move: Any) -> str:
-    """The name of a move; a line holds no line end."""
-    name = move["name"]
-    if not isinstance(name, str) or "\n" in name or "\r" in name:
-        raise Stale
-    return name
+def redraw(document: Document, move: Move) -> list[Told]:
+    """Makes a move in a tree; the changes."""
+    last = max(at for at, line in enumerate(move.lines) if is_edit(line) or at == 0)
+    edits = []
+    for at, line in enumerate(move.lines):
+        if at == last:
+            move.title = title_of(move.lines, document)
+        edits.append(document.edit(line))
+    move.backs = [back for _, back in reversed(edits)]
+    return [change for change, _ in edits]
+
+
+def sum_of(document: Document) -> str:
+    """A sum of what a page shows of a document: its nodes in order, with their depth."""
+    sum_ = hashlib.sha256()
+    for row in document.told():
+        references = "".join(f"{at}={unit}" for at, unit in row.get("refs", {}).items())
+        parts = (str(row["depth"]), row["kind"], row.get("name", ""), row.get("attrs", ""), row.get("text", ""), references)
+        sum_.update("\0".join(parts).encode(errors="surrogatepass") + b"\n")
+    return sum_.hexdigest()
+
+
+def made(reply: Made | Refused) -> Made:
+    """The reply to an undo, which only want of memory refuses."""
+    if isinstance(reply, Refused):
+        raise Trouble("there is too little memory")
+    return reply
 
 
 def values(reply: Any) -> Any:
@@ -375,3 +518,8 @@ def values(reply: Any) -> Any:
     if isinstance(reply, Refused):
         raise Trouble("there is too little memory")
     return reply
+
+
+def stand_in_of(form: bytes) -> str:
+    """The character that a stand-in of an entity refers to."""
+    return chr(int(form[2:-1]))

@@ -3,7 +3,8 @@ wanted."""
 from collections.abc import Iterator
 from typing import Any
 
-from editor import Editor, name_of
+from changes import name_of
+from editor import Editor
 from pvtag.document import Document, Node, Told, shown
 from pvtag.session import Refused
 from runs import Stale, Stretch, run_over, texts_of
@@ -58,20 +59,17 @@ class Everywhere:
         """The lines of those that the session makes, one behind another, and how many it refuses; nothing is
         changed."""
         made: list[str] = []
-        refused = 0
+        editor, refused, start = self.editor, 0, self.editor.ahead
         try:
             for lines in moves:
-                count = 0
-                for line in lines:
-                    if isinstance(self.editor.play(line), Refused):
-                        self.editor.take_back(count)
-                        refused += 1
-                        break
-                    count += 1
+                before = editor.ahead
+                if any(isinstance(editor.play(line), Refused) for line in lines):
+                    editor.rewind(before)
+                    refused += 1
                 else:
                     made += lines
         finally:
-            self.editor.take_back(len(made))
+            editor.rewind(start)
         return made, refused
 
 

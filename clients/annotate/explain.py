@@ -1,5 +1,7 @@
 """Why not, in words: of a refused edit, and of a list that nothing can mend; with the kids that stand in each other's
-way."""
+way. The program is asked that in runs of its own, for which no move waits."""
+import threading
+from collections.abc import Callable
 from typing import Any
 
 from editor import Editor
@@ -13,30 +15,41 @@ class Explainer:
     def __init__(self, editor: Editor) -> None:
         self.editor = editor
         self.reasons = Reasons(editor.program, Dtd(editor.program, editor.dtd), editor.root)
+        # One is explained at a time; the editor's lock isn't held meanwhile.
+        self.lock = threading.Lock()
         self.told: dict[int, Told] = {}
         self.version = -1
         editor.explain = self.of_edit
 
-    def of_edit(self, document: Document, lines: list[str], path: str) -> Told:
-        """Why the last of these lines was refused, those before it having been made."""
-        refused = self.reasons.of_edit(document, lines, path)
-        if refused is None:
-            return {}
-        reason = refused.reason
-        kids = [number for kid in reason.kids if (number := refused.ids[kid]) is not None]
-        told: Told = {"why": reason.sentence(), "cause": reason.cause, "kids": kids}
-        return told if refused.owner is None else {**told, "list": refused.owner}
+    def of_edit(self, document: Document, lines: list[str], path: str) -> Callable[[], Told]:
+        """Why the last of these lines was refused, those before it having been made: a call that tells it, for which the tree
+        isn't needed any more."""
+        find = self.reasons.about_edit(document, lines, path)
+
+        def told() -> Told:
+            with self.lock:
+                refused = find()
+            if refused is None:
+                return {}
+            reason = refused.reason
+            kids = [number for kid in reason.kids if (number := refused.ids[kid]) is not None]
+            told: Told = {"why": reason.sentence(), "cause": reason.cause, "kids": kids}
+            return told if refused.owner is None else {**told, "list": refused.owner}
+
+        return told
 
     def of_lists(self, ask: Any) -> Told:
         """Why these lists can't be mended; nothing of one that can."""
         with self.editor.lock:
-            if self.version != self.editor.version:
-                self.told, self.version = {}, self.editor.version
+            version = self.editor.version
             there = [element_of(self.editor.document, number) for number in ask["nodes"]]
-            new = [(node, path) for node, path in there if node.id not in self.told]
-            reasons = self.reasons.of_lists([(path, node.name, kids_of(node.kids)) for node, path in new])
-            for (node, _), reason in zip(new, reasons, strict=True):
-                kids = [node.kids[kid].id for kid in reason.kids] if reason is not None else []
-                why = reason.sentence() if reason is not None else ""
-                self.told[node.id] = {"node": node.id, "why": why, "kids": kids}
+            lists = {node.id: ((path, node.name, kids_of(node.kids)), [kid.id for kid in node.kids]) for node, path in there}
+        with self.lock:
+            if self.version != version:
+                self.told, self.version = {}, version
+            new = {number: row for number, row in lists.items() if number not in self.told}
+            reasons = self.reasons.of_lists([asked for asked, _ in new.values()])
+            for (number, (_, ids)), reason in zip(new.items(), reasons, strict=True):
+                kids = [ids[kid] for kid in reason.kids] if reason is not None else []
+                self.told[number] = {"node": number, "why": reason.sentence() if reason is not None else "", "kids": kids}
             return {"reasons": [self.told[node.id] for node, _ in there]}

@@ -18,14 +18,14 @@ from attributes import Attributes
 from completions import Completions
 from costs import Costs
 from declared import Declared
-from editor import Editor
+from editor import Differs, Editor, Unseen
 from everywhere import Everywhere
 from explain import Explainer
 from pvtag.document import Told
-from pvtag.program import Trouble
+from pvtag.program import Trouble, shown_name
 from pvtag.session import Ended
 from runs import Stale
-from script import Changed
+from script import Changed, Question
 from texts import Texts
 
 FOLDER = os.path.join(os.path.dirname(os.path.abspath(__file__)), "page")
@@ -89,6 +89,7 @@ class Server(ThreadingHTTPServer):
         self.completions.stop()
         self.completions.wide.end("need")
         self.costs.close()
+        self.attributes.close()
 
     def handle_error(self, request: Any, client_address: Any) -> None:
         """A browser that goes away in mid-answer is no fault."""
@@ -170,34 +171,49 @@ class Handler(BaseHTTPRequestHandler):
         return "application/json", json.dumps(self.answer(name, ask)).encode()
 
     def answer(self, name: str, ask: Any) -> Told:
-        """What is answered, or `trouble`, a sentence for the user; `changed` says that the document was changed by
-        another program."""
+        """What is answered. Where the session has ended, another one makes the moves that were written down, and the same is
+        asked once more: what raised that wasn't made."""
+        editor = self.server.editor
+        told: Told = {}
+        editor.asker.window = str(ask.get("window", "")) if isinstance(ask, dict) else ""
+        for _ in range(2):
+            try:
+                return {**self.answered(name, ask), **told}
+            except Ended as ended:
+                if self.server.over.is_set():
+                    return {"trouble": "annotate is ending"}
+                try:
+                    editor.begin_again()
+                except (Ended, Trouble, OSError) as fault:
+                    return {"trouble": f"{ended}, and can't be begun again: {fault}"}
+                told["again"] = f"{ended}; it was begun again, with all moves that were made"
+        return {"trouble": f"{told['again']}. What was asked for ends it"}
+
+    def answered(self, name: str, ask: Any) -> Told:
+        """What is answered, or `trouble`, a sentence for the user; `changed` says that the document was changed by another
+        program, `differs` what this one shows in its place, `ways` how it may be written all the same."""
         try:
-            return ASKED[name](self.server, ask)
+            told = ASKED[name](self.server, ask)
+            # What is asked of the program for it is asked here, where no lock is held.
+            later = told.pop("later", None)
+            return {**told, **later()} if later else told
         except Stale:
             return {"stale": True}
         except Changed as changed:
             return {"trouble": str(changed), "changed": True}
+        except Question as question:
+            return {"trouble": str(question), "ways": question.ways}
+        except Differs as differs:
+            return {"trouble": str(differs), "differs": [differs.own, differs.shown]}
+        except Unseen as unseen:
+            return {"trouble": str(unseen), "unseen": True}
         except Trouble as trouble:
             return {"trouble": str(trouble)}
-        except Ended as ended:
-            return self.begin_again(ended)
+        except OSError as fault:
+            return {"trouble": f"{shown_name(fault.filename or 'a file that is needed')}: {fault.strerror}"}
         except (KeyError, TypeError, ValueError, AttributeError, IndexError):
             traceback.print_exc()
             raise Refusal(400, "that is no request") from None
-
-    def begin_again(self, ended: Ended) -> Told:
-        """The session is gone: another one makes the moves that were written down."""
-        editor = self.server.editor
-        if self.server.over.is_set():
-            return {"trouble": "annotate is ending"}
-        try:
-            with editor.lock:
-                editor.session.close()
-                editor.begin()
-        except (Ended, Trouble) as fault:
-            return {"trouble": f"{ended}, and can't be begun again: {fault}"}
-        return {"stale": True, "trouble": f"{ended}; it was begun again, with all moves that were made"}
 
     def log_message(self, *_: Any) -> None:
         pass
@@ -205,7 +221,21 @@ class Handler(BaseHTTPRequestHandler):
 
 def hello(server: Server, ask: Any) -> Told:
     server.hello(str(ask["window"]))
-    return {"title": server.title, "names": list(server.declared), "note": server.editor.note}
+    empty = [name for name, declared in server.declared.items() if declared.kind == "empty"]
+    return {"title": server.title, "names": list(server.declared), "empty": empty, "note": note_of(server.editor),
+            "entities": entities_of(server.editor)}
+
+
+def note_of(editor: Editor) -> str:
+    """What is to be said at the start: of moves that were made again, of entities and of the subset."""
+    remarks = [f"{remark.sentence[:1].upper()}{remark.sentence[1:]}." for remark in editor.masked.remarks]
+    more = f"{len(remarks) - 3} more entities aren't seen." if len(remarks) > 3 else ""
+    return " ".join(filter(None, [editor.note, *remarks[:3], more]))
+
+
+def entities_of(editor: Editor) -> Told:
+    """The references of the document by what stands for them in the tree."""
+    return {form.decode(): name.decode() for form, name in editor.masked.stands.items()}
 
 
 def bye(server: Server, ask: Any) -> Told:
@@ -241,6 +271,7 @@ ASKED: dict[str, Callable[[Server, Any], Told]] = {
     "type": lambda server, ask: server.texts.type(ask),
     "attributes": lambda server, ask: server.attributes.of(ask),
     "set-attributes": lambda server, ask: server.attributes.change(ask),
+    "attribute-faults": lambda server, ask: server.attributes.faults(ask),
     "places": lambda server, ask: server.everywhere.places(ask),
     "tag-places": lambda server, ask: server.everywhere.tag(ask),
     "why": lambda server, ask: server.explainer.of_lists(ask),

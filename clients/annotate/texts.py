@@ -4,11 +4,12 @@ What is typed on where the last keys left off is one move with them, so that und
 """
 from typing import Any, NamedTuple
 
+from changes import Side, lines_for, side_of
 from editor import Editor
 from moves import Move
-from pvtag.document import TEXT, Document, Told
+from pvtag.document import Told
 from pvtag.session import Refused
-from runs import Stretch, below, element_of, run_over, spot_at, stretch_of
+from runs import Stretch, element_of, spot_at, stretch_of
 
 # What was typed in one go, at most: more is another move.
 GO = 400
@@ -17,7 +18,7 @@ GO = 400
 class Typed(NamedTuple):
     """What was typed in one go: the stretch that it stands for, in the tree before, and the version behind it."""
 
-    move: Move
+    side: Side
     stretch: Stretch
     text: str
     version: int
@@ -37,11 +38,11 @@ class Texts:
             stretch = stretch_of(editor.document, ask["place"])
             last = self.last if ask.get("on") else None
             if last is not None and self.goes_on(last, stretch, text):
-                refusal = self.type_on(last, *merged(last, stretch, text))
+                refusal = self.replace(1, last.side, *merged(last, stretch, text))
             elif stretch.start == stretch.end and not text:
-                return editor.state(since)
+                return {**editor.state(since), "caret": self.caret(stretch, text)}
             else:
-                refusal = self.replace(stretch, text)
+                refusal = self.replace(0, side_of(editor.document, stretch), stretch, text)
             if refusal is not None:
                 return {**editor.state(since), **editor.refused(refusal)}
             return {**editor.state(since), "caret": self.caret(stretch, text)}
@@ -51,21 +52,13 @@ class Texts:
         is_beside = last.stretch.start <= stretch.end and stretch.start <= last.stretch.start + len(last.text)
         return is_there and is_beside and len(last.text) + len(text) <= GO
 
-    def type_on(self, last: Typed, stretch: Stretch, text: str) -> Refused | None:
-        """Makes what was typed in one go anew."""
-        self.editor.undo_one()
-        if stretch.start == stretch.end and not text:
-            self.editor.undone, self.last = [], None
-            return None
-        refusal = self.replace(stretch, text)
-        if refusal is not None:
-            self.editor.make(last.move, [])
-        return refusal
-
-    def replace(self, stretch: Stretch, text: str) -> Refused | None:
-        move = Move(lines_for(self.editor.document, stretch, written(text)))
-        refusal = self.editor.make(move, [])
-        self.last = None if refusal is not None else Typed(move, stretch, text, self.editor.version)
+    def replace(self, count: int, side: Side, stretch: Stretch, text: str) -> Refused | None:
+        """Puts a text in the place of a stretch, and this move in the place of so many of the last."""
+        is_nothing = stretch.start == stretch.end and not text
+        move = None if is_nothing else Move(lines_for(side, stretch, self.editor.with_entities(written(text))))
+        refusal = self.editor.exchange(count, move, [])
+        if refusal is None:
+            self.last = None if is_nothing else Typed(side, stretch, text, self.editor.version)
         return refusal
 
     def caret(self, stretch: Stretch, text: str) -> list[Any]:
@@ -84,26 +77,6 @@ def merged(last: Typed, stretch: Stretch, text: str) -> tuple[Stretch, str]:
     end = last.stretch.end + max(0, rest - size)
     whole = Stretch(stretch.owner, stretch.first, min(start, stretch.start), end)
     return whole, last.text[:front] + text + last.text[rest:]
-
-
-def lines_for(document: Document, stretch: Stretch, text: str) -> list[str]:
-    """Puts a text, as it is written, in the place of a stretch, and makes it one with the texts beside it."""
-    owner, path = element_of(document, stretch.owner)
-    cuts, path, start, end = run_over(document, stretch)
-    first = spot_at(owner, stretch.first, stretch.start)
-    last = spot_at(owner, stretch.first, stretch.end)
-    has_before = first[1] is not None or first[0] > stretch.first
-    has_behind = last[1] is not None or last[0] < len(owner.kids) and owner.kids[last[0]].kind == TEXT
-    lines = [*cuts, *[f"join {below(path, start)}"] * (end - start - 1)]
-    if start == end:
-        lines.append(f"addtext {path} {start} {text}")
-    else:
-        lines.append(f"text {below(path, start)} {text}" if text else f"deltext {below(path, start)}")
-    if has_before and (text or has_behind):
-        lines.append(f"join {below(path, start - 1)}")
-    if has_behind and text:
-        lines.append(f"join {below(path, start - has_before)}")
-    return lines
 
 
 def plain(text: Any) -> str:

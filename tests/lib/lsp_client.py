@@ -260,7 +260,8 @@ class Client:
         }
 
     def labels(self, uri, place):
-        return [each["label"] for each in self.ask("textDocument/completion", self.about(uri, place))["items"]]
+        answer = self.ask("textDocument/completion", self.about(uri, place))
+        return [each["label"] for each in answer["items"]] if answer is not None else []
 
 
 def run_cases(cases, *words):

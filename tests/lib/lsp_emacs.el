@@ -7,6 +7,12 @@
 ;; As docs/EDITORS.md says.
 (add-hook 'nxml-mode-hook (lambda () (dolist (sign '(?< ?> ?/)) (modify-syntax-entry sign "."))))
 
+(advice-add 'eglot-completion-at-point :around
+  (lambda (complete)
+    (if (derived-mode-p 'nxml-mode)
+        (save-restriction (narrow-to-region (point-min) (point)) (funcall complete))
+      (funcall complete))))
+
 (defvar asked (let ((json-object-type 'alist) (json-array-type 'list)) (json-read-file (getenv "PVTAG_ASKED"))))
 (defvar told nil)
 ;; The clocks of the client's own are for an idle machine.
@@ -80,6 +86,20 @@
     (insert chosen)
     (funcall (plist-get (nthcdr 3 found) :exit-function) chosen 'finished))
   (tell 'completed (text))
+  (erase-buffer)
+  (insert (mapconcat #'identity (asked 'lines) "\n") "\n")
+  (await "the diagnostics" #'are-missing)
+
+  ;; In the middle of a word, as completion-at-point replaces what it counts to the name.
+  (goto-char (+ 2 (place (nth 0 (asked 'type)) (nth 1 (asked 'type)))))
+  (insert "<")
+  (let* ((found (eglot-completion-at-point))
+         (names (all-completions "" (nth 2 found)))
+         (chosen (seq-find (lambda (each) (equal (string-trim each) (asked 'choose))) names)))
+    (delete-region (nth 0 found) (nth 1 found))
+    (insert chosen)
+    (funcall (plist-get (nthcdr 3 found) :exit-function) chosen 'finished))
+  (tell 'within (text))
   (erase-buffer)
   (insert (mapconcat #'identity (asked 'lines) "\n") "\n")
   (await "the diagnostics" #'are-missing)

@@ -1,7 +1,8 @@
 // The last tag again, and the same tag on all places of the same text.
-import { app, change, listeners, question, tell } from "./app.js"
-import { chosen } from "./choose.js"
+import { app, change, listeners, question, tell, turnsSoFar } from "./app.js"
+import { choose, chosen, leaveAt } from "./choose.js"
 import { make as element } from "./draw.js"
+import { closeMenu } from "./menu.js"
 import { make } from "./offers.js"
 import { isEmpty, plainTextOf, textOf, told } from "./place.js"
 
@@ -20,7 +21,19 @@ export function tagAgain() {
   if (!last) return tell("No tag was made yet that could be made again.")
   if (!run || run.owner.id === 0) return tell("Select what the tag is to go round, and press F4.")
   if (chosenElement) return make({ kind: "rename", node: chosenElement.id, name: last.name })
-  return make({ kind: isEmpty(run) ? "insert" : "wrap", place: told(run), name: last.name })
+  if (isEmpty(run)) return make({ kind: "insert", place: told(run), name: last.name })
+  wrapAgain(run)
+}
+
+// What is typed before it is answered comes after what was selected, not in its place. Where it is refused, and nothing was
+// done meanwhile, that is selected again.
+async function wrapAgain(run) {
+  const move = { kind: "wrap", place: told(run), name: last.name }
+  leaveAt({ owner: run.owner, to: run.to })
+  const done = make(move)
+  const turns = turnsSoFar()
+  const refusal = await done
+  if (refusal && refusal.no !== "stale" && turns === turnsSoFar()) choose(run)
 }
 
 // The last tag on all places of the text that is selected, or of its own.
@@ -34,11 +47,20 @@ export function tagEverywhere() {
 // Lists the places of a text; those that are left ticked are tagged, in one move.
 export async function openEverywhere(name, text) {
   if (!text.trim()) return tell(`⟨${name}⟩ holds no text of which there could be other places.`)
+  // It is there at once, so that no key comes anywhere else meanwhile.
+  closeMenu()
+  title.textContent = `⟨${name}⟩ round “${text.length > 40 ? `${text.slice(0, 40)}…` : text}”`
+  count.textContent = "…"
+  list.replaceChildren()
+  dialog.querySelector(".tag-all").disabled = true
+  dialog.onclose = null
+  dialog.returnValue = ""
+  dialog.showModal()
   const answer = await question("places", { name, text })
-  if (!answer) return
+  if (!dialog.open) return
+  if (!answer) return dialog.close()
   const { places, more } = answer
   const open = places.filter(({ refused }) => !refused)
-  title.textContent = `⟨${name}⟩ round “${text.length > 40 ? `${text.slice(0, 40)}…` : text}”`
   const rest = places.length - open.length
   const left = `${rest ? `; at ${rest} more it would be refused` : ""}${more ? "; there are more than are listed" : ""}`
   const counted = `${open.length} place${open.length === 1 ? "" : "s"}`
@@ -46,7 +68,6 @@ export async function openEverywhere(name, text) {
   list.replaceChildren(...open.map((place) => rowOf(place, text)))
   dialog.querySelector(".tag-all").disabled = open.length === 0
   dialog.onclose = () => close(name, open)
-  dialog.showModal()
 }
 
 function rowOf({ before, behind, part, in: owner }, text) {

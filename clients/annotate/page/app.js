@@ -1,5 +1,5 @@
 // What the page knows: the tree, its version, and what was drawn. Each answer of the program is taken over here.
-import { ask, whenGone } from "./ask.js"
+import { ask, whenGone, window_ } from "./ask.js"
 import { View } from "./draw.js"
 import { Tree } from "./tree.js"
 
@@ -12,20 +12,25 @@ const others = new BroadcastChannel(location.pathname)
 export const app = { tree: null, view: new View(host, host), state: null, made: null, where: null, changed: null, names: new Set() }
 // Called with whether something changed, behind each answer.
 export const listeners = []
-// Called where the document was changed by another program.
-export const onChanged = []
+// Called where an answer says that the document can't be saved as it is: what was asked for, and the answer.
+export const onTrouble = []
 
-// A sentence for the user; it stays until it is closed.
-export function tell(text) {
+// A sentence for the user; it stays until it is closed, or where `passes` until something else is done.
+export function tell(text, passes = false) {
   note.hidden = text === ""
   note.firstElementChild.textContent = text
+  note.classList.toggle("passing", (passing = passes))
 }
+let passing = false
+for (const event of ["pointerdown", "keydown"]) addEventListener(event, () => passing && tell(""), true)
 note.lastElementChild.addEventListener("click", () => tell(""))
 whenGone(() => tell("The program has ended. Each move is kept: start it again in the terminal, and open its address."))
 
-// One request at a time, in order.
+// One request at a time, in order: what a user does is done in the order in which it came, each after what came before.
 let busy = Promise.resolve()
+let turns = 0
 function inTurn(work) {
+  turns += 1
   const done = busy.then(work)
   busy = done.catch(() => {})
   document.body.ariaBusy = "true"
@@ -33,44 +38,87 @@ function inTurn(work) {
   busy.then(() => last === busy && (document.body.ariaBusy = "false"))
   return done
 }
+// How many requests there were, and when all of them are answered.
+export const turnsSoFar = () => turns
+export const settled = () => busy
 
-// Asks for a move, an undo or the like; gives what it was refused for, or nothing where it was made. `also` is called
-// with an answer that was taken.
-export function change(name, what = {}, also = () => {}) {
+// While a button of the mouse is held down nothing is drawn anew: what is being selected would be lost.
+let held = null
+export const isHeld = () => held !== null
+export function setHeld(is) {
+  if (!is) {
+    held?.end()
+    held = null
+  } else if (!held) {
+    held = {}
+    held.over = new Promise((end) => (held.end = end))
+  }
+}
+addEventListener("blur", () => setHeld(false))
+async function answered(name, what) {
+  const answer = await ask(name, what)
+  await held?.over
+  if (answer.again) tell(`${answer.again}.`)
+  return answer
+}
+
+// Asks for a move, an undo or the like; gives what it was refused for, or nothing where it was made. `what` is what it is
+// about, or a call that tells it when its turn has come: none where there is nothing any more. `also` is called with an
+// answer that was taken. What `goesOn` is asked again, with what is told then, where another window was quicker.
+export function change(name, what = {}, also = () => {}, goesOn = false) {
   return inTurn(async () => {
-    const answer = await ask(name, { ...what, version: app.state.version })
-    if (answer.trouble) tell(answer.trouble)
-    if (answer.changed) for (const call of onChanged) call()
-    if (answer.stale) {
-      take(await ask("state", { since: app.state.version }))
-      if (!answer.trouble) tell("The document was changed in another window. It is shown as it is; nothing was done here.")
-      return { no: "stale" }
+    for (let tries = 0; ; tries += 1) {
+      const told = typeof what === "function" ? await what() : what
+      if (!told) return { no: "gone" }
+      const answer = await answered(name, { ...told, version: app.state.version })
+      if (answer.stale) {
+        const isOther = await takeState()
+        if (goesOn && tries < 5) continue
+        tell(isOther ? OTHER : "What this was about isn't there any more; nothing was done.")
+        return { no: "stale" }
+      }
+      if (answer.trouble) {
+        tell(answer.trouble)
+        for (const call of onTrouble) call({ name, ...told }, answer)
+        if (answer.unseen) take(await answered("state"))
+        return { no: "trouble", why: answer.trouble }
+      }
+      if ("version" in answer) {
+        take(answer)
+        others.postMessage(app.state.version)
+      }
+      if (answer.no) return answer
+      also(answer)
+      return null
     }
-    if (answer.trouble) return { no: "trouble" }
-    if ("version" in answer) {
-      take(answer)
-      others.postMessage(app.state.version)
-    }
-    if (answer.no) return answer
-    also(answer)
-    return null
   })
 }
+const OTHER = "The document was changed in another window. It is shown as it is; nothing was done here."
 
 // Asks for what changes nothing; none where there is no such answer now.
 export function question(name, what = {}) {
   return inTurn(async () => {
-    const answer = await ask(name, what)
-    if (answer.stale) take(await ask("state", { since: app.state.version }))
-    if (answer.trouble) tell(answer.trouble)
-    return answer.stale || answer.trouble ? null : answer
+    for (let tries = 0; ; tries += 1) {
+      const told = typeof what === "function" ? what() : what
+      if (!told) return null
+      const answer = await answered(name, told)
+      if (answer.stale) await takeState()
+      if (answer.stale && typeof what === "function" && tries < 5) continue
+      if (answer.trouble) tell(answer.trouble)
+      return answer.stale || answer.trouble ? null : answer
+    }
   })
 }
 
-// Looks whether another window has changed something.
-export function catchUp() {
-  return inTurn(async () => take(await ask("state", { since: app.state?.version ?? null })))
+// Takes over what has changed; whether another window says that it was its doing.
+async function takeState() {
+  const state = await answered("state", { since: app.state?.version ?? null })
+  take(state)
+  return (state.changes ?? []).some(({ by }) => by && by !== window_)
 }
+
+// Looks whether another window has changed something.
+export const catchUp = () => inTurn(takeState)
 others.addEventListener("message", ({ data }) => data !== app.state?.version && catchUp())
 addEventListener("focus", catchUp)
 
@@ -78,12 +126,11 @@ function take(state) {
   const isNew = "tree" in state
   app.made = app.changed = null
   if (isNew) {
+    const marks = app.tree?.marks ?? new Set()
     app.tree = new Tree(state.tree, state.top)
+    app.tree.adopt(marks)
     app.view.draw(app.tree)
-  } else {
-    app.tree.pieced = []
-    keepInSight(() => state.changes.forEach(takeMove))
-  }
+  } else keepInSight(() => state.changes.forEach(takeMove))
   app.tree.top.verdict = state.top
   host.dataset.verdict = state.top
   app.state = { ...state, tree: undefined, changes: undefined }

@@ -1,6 +1,7 @@
 // Asks the program. Each answer is JSON; `gone` is called where the program doesn't answer any more.
 
-const window_ = crypto.randomUUID()
+// What this window is called among those of the program.
+export const window_ = crypto.randomUUID()
 let gone = () => {}
 
 export const whenGone = (call) => (gone = call)
@@ -9,7 +10,7 @@ export class Gone extends Error {}
 export async function ask(name, what = {}) {
   let answer
   try {
-    answer = await fetch(name, { method: "POST", headers: { "Content-Type": "application/json" }, body: JSON.stringify(what) })
+    answer = await fetch(name, { method: "POST", headers: { "Content-Type": "application/json" }, body: JSON.stringify({ ...what, window: window_ }) })
   } catch {
     gone()
     throw new Gone()
@@ -18,7 +19,7 @@ export async function ask(name, what = {}) {
   return answer.json()
 }
 
-export const hello = () => ask("hello", { window: window_ })
+export const hello = () => ask("hello")
 
 export function sayBye() {
   fetch("bye", { method: "POST", keepalive: true, headers: { "Content-Type": "application/json" }, body: JSON.stringify({ window: window_ }) })

@@ -1,5 +1,5 @@
-// The form of a tag's attributes: names and values. Whether the DTD declares them is shown, and nothing is refused for
-// it.
+// The form of a tag's attributes: names and values. Those that the DTD requires come first, with the values that it lists
+// and what a value must be; nothing is refused for it.
 import { change, question, tell } from "./app.js"
 import { closeMenu } from "./menu.js"
 import { make } from "./draw.js"
@@ -9,7 +9,10 @@ const rows = dialog.querySelector("tbody")
 const known = document.getElementById("declared")
 
 let declared = null
+let ids = []
 let node = null
+// The lists of values have names of their own.
+let lists = 0
 
 export async function openAttributes(of) {
   const answer = await question("attributes", { node: of.id })
@@ -17,33 +20,47 @@ export async function openAttributes(of) {
   closeMenu()
   node = of
   declared = answer.declared
+  ids = answer.ids ?? []
   dialog.querySelector("h2").textContent = `Attributes of ⟨${answer.name}⟩`
   dialog.querySelector(".about").textContent = aboutText(answer)
   known.replaceChildren(...(declared ?? []).map(({ name }) => new Option(name, name)))
-  rows.replaceChildren(...answer.pairs.map(([name, value]) => rowOf(name, value)))
-  if (answer.pairs.length === 0) add()
+  // Required ones first, also those that are missing, which are left out where they stay empty.
+  const required = (declared ?? []).filter((each) => each.required)
+  const given = new Map(answer.pairs)
+  const isRequired = ([name]) => required.some((each) => each.name === name)
+  const front = required.map(({ name, only }) => rowOf(name, given.get(name) ?? only ?? "", !given.has(name)))
+  rows.replaceChildren(...front, ...answer.pairs.filter((pair) => !isRequired(pair)).map(([name, value]) => rowOf(name, value)))
+  if (rows.children.length === 0) add()
   refuse("")
   dialog.showModal()
-  rows.querySelector("input")?.focus()
+  const empty = [...rows.querySelectorAll("tr.missing .value")].find(({ value }) => value === "")
+  ;(empty ?? rows.querySelector("input"))?.focus()
 }
 
-function aboutText({ name, declared: list }) {
+function aboutText({ name, declared: list, why }) {
+  if (why) return `${why} They are kept as they are written.`
   if (list === null) return "No declaration of attributes can be read in the DTD. They are kept as they are written."
   if (list.length === 0) return `The DTD declares no attributes of ⟨${name}⟩.`
-  const told = ({ name: each, kind, default: given }) => `${each} (${kind}${given === "#REQUIRED" ? ", required" : ""})`
+  const told = ({ name: each, kind, default: given, required }) => `${each} (${kind}${required || given === "#REQUIRED" ? ", required" : ""})`
   return `The DTD declares: ${list.map(told).join(", ")}.`
 }
 
-function rowOf(name, value) {
-  const row = make("tr", "")
+function rowOf(name, value, isMissing = false) {
+  const row = make("tr", isMissing ? "missing" : "")
   const [drop, note] = [make("button", "drop", "✕"), make("span", "note")]
   const cells = [field("Name", name, "declared"), field("Value", value), drop, note]
+  cells[1].classList.add("value")
+  const values = document.createElement("datalist")
+  values.id = `values-${(lists += 1)}`
+  cells[1].setAttribute("list", values.id)
   cells[2].type = "button"
   cells[2].ariaLabel = "Take this attribute away"
   cells[2].addEventListener("click", () => row.remove())
-  cells[0].addEventListener("input", () => judge(cells[0], cells[3]))
-  judge(cells[0], cells[3])
-  row.append(make("td", "", cells[0]), make("td", "", cells[1]), make("td", "", cells[2], " ", cells[3]))
+  const look = () => judge(cells[0], cells[1], values, note)
+  cells[0].addEventListener("input", look)
+  cells[1].addEventListener("input", look)
+  look()
+  row.append(make("td", "", cells[0]), make("td", "", cells[1], values), make("td", "", cells[2], " ", note))
   return row
 }
 
@@ -54,9 +71,18 @@ function field(label, value, list = null) {
   return input
 }
 
-function judge(input, note) {
-  const isKnown = declared === null || input.value === "" || declared.some(({ name }) => name === input.value)
-  note.textContent = isKnown ? "" : "not declared"
+// What is to be said of a name and its value, and the values that are offered for it.
+function judge(name, value, values, note) {
+  const known = declared?.find((each) => each.name === name.value)
+  const offered = known?.kind.startsWith("IDREF") ? ids : (known?.values ?? [])
+  values.replaceChildren(...offered.map((each) => new Option(each, each)))
+  const isMissing = known?.required && value.value === "" && known.kind !== "CDATA"
+  const isOther = known?.values?.length > 1 && value.value !== "" && !known.values.includes(value.value) && known.kind.startsWith("(")
+  const must = known?.means && known.means !== "any text" ? `: ${known.means}` : ""
+  if (declared !== null && name.value !== "" && !known) note.textContent = "not declared"
+  else if (isMissing) note.textContent = `required${must}`
+  else note.textContent = isOther ? `not listed${must}` : known?.required ? "required" : ""
+  note.title = known?.means ?? ""
 }
 
 function refuse(why) {
@@ -74,7 +100,8 @@ dialog.querySelector(".add").addEventListener("click", add)
 dialog.querySelector(".set").addEventListener("click", async (event) => {
   event.preventDefault()
   const all = [...rows.children].map((row) => [...row.querySelectorAll("input")].map(({ value }) => value))
-  const pairs = all.filter(([name, value]) => name || value)
+  const untouched = ([name, value], at) => value === "" && rows.children[at].classList.contains("missing")
+  const pairs = all.filter((pair, at) => (pair[0] || pair[1]) && !untouched(pair, at))
   const refusal = await change("set-attributes", { node: node.id, pairs })
   if (!refusal) return dialog.close()
   refuse(document.querySelector("#note span").textContent)

@@ -1,8 +1,11 @@
 // What is chosen in the document: a run of a list, a place in a text, or an element; and the caret.
-import { app, listeners } from "./app.js"
+import { app, isHeld, listeners } from "./app.js"
+import { empties } from "./draw.js"
 import { enterField, field, isIn, mirror, standAt } from "./field.js"
-import { isEmpty, rangeOf, runOf, runOver } from "./place.js"
-import { holdsText, lengthOf, lineOf } from "./tree.js"
+import { isLocked } from "./lock.js"
+import { isMenuOpen } from "./menu.js"
+import { isEmpty, markRun, rangeOf, runAt, runOf, runOver, unmark } from "./place.js"
+import { holdsText, lengthOf } from "./tree.js"
 
 const host = document.getElementById("document")
 const caret = document.getElementById("caret")
@@ -14,7 +17,11 @@ let element = null
 let ends = null
 let idle = null
 let byTouch = false
-let isHeld = false
+// What is chosen, or the caret's place, as it follows what becomes of the document; and how often a user chose another.
+let marks = null
+let times = 0
+// Where the caret stood before an element was chosen by its tag.
+let before = null
 
 export const chosen = () => ({ run, element })
 // Where text is typed: the caret's place, or what it takes the place of.
@@ -22,20 +29,34 @@ export const caretPlace = () => run ?? idle
 // Whether a finger was used last.
 export const setTouch = (is) => (byTouch = is)
 export const isByTouch = () => byTouch
-// Whether a button of the mouse is held down: what it selects would be lost to a field.
-export const setHeld = (is) => (isHeld = is)
+// How often something else was chosen: what is typed goes on where it was as long as this stays.
+export const timesChosen = () => times
 
 export function choose(newRun, newElement = null) {
+  times += 1
   mark(element, false)
   run = newRun
   element = newElement
   ends = idle = null
+  keep(run)
   mark(element, true)
   CSS.highlights?.delete("chosen")
   const range = run && !element && !isEmpty(run) ? rangeOf(run, app.view) : null
   if (range) CSS.highlights?.set("chosen", new Highlight(range))
   if (run && !element) mirror(run)
   showCaret()
+}
+
+function keep(place) {
+  unmark(app.tree, marks)
+  marks = place ? markRun(app.tree, place) : null
+}
+
+// Chooses for what the program did: what is typed goes on.
+function quietly(call) {
+  const before = times
+  call()
+  times = before
 }
 
 // Chooses the place where the caret stands.
@@ -45,6 +66,7 @@ export const chooseCaret = () => !run && idle && choose(idle)
 export function leaveAt(place) {
   choose(null)
   idle = place && { ...place, from: place.to }
+  keep(idle)
   showCaret()
 }
 
@@ -68,8 +90,8 @@ export function takeSelection() {
 // Gives the document the focus: its field, where text may be typed. That brings up a phone's keyboard, so a finger has to
 // have asked for it by `toType`.
 export function rest(toType = false) {
-  if (isHeld) return
-  const isWanted = toType || !byTouch || document.activeElement === field
+  if (isHeld()) return
+  const isWanted = !isLocked() && (toType || !byTouch || document.activeElement === field)
   if (!caretPlace() || element || !isWanted) return host.focus({ preventScroll: true })
   mirror(caretPlace())
   enterField()
@@ -87,8 +109,20 @@ export function selectAgain() {
 }
 
 export function chooseElement(node) {
+  const place = element ? null : caretPlace()
+  if (place || !element) {
+    unmark(app.tree, before)
+    before = place && markRun(app.tree, { ...place, from: place.to })
+  }
   getSelection().removeAllRanges()
   choose(runOver(node), node)
+}
+
+// Where the caret stands in this element, or stood before its tag was clicked on; none where it was elsewhere.
+export function caretIn(node) {
+  const place = element ? before && runAt(app.tree, before) : caretPlace()
+  for (let at = place?.owner; at; at = at.owner) if (at === node) return { ...place, from: place.to }
+  return null
 }
 
 // The place in an element that holds nothing.
@@ -141,7 +175,7 @@ function boxOfPlace({ owner, from: [kid, unit], to }) {
 function boxIn(node) {
   const box = app.view.box(node)
   const first = (...all) => all.map((each) => box?.querySelector(each)).find(Boolean)
-  const place = first(":scope > .list", ".tag.only", ":scope > .tag.end")
+  const place = first(":scope > .list", ":scope > .slot", ".tag.only", ":scope > .tag.end")
   if (!place) return null
   const { top, bottom, left, right } = place.getBoundingClientRect()
   const isTag = place.classList.contains("only")
@@ -168,39 +202,51 @@ export function scrollTo({ top, bottom, height }) {
   if (height && (top < sight.top || bottom > sight.bottom)) host.scrollTop += top - (sight.top + sight.height / 3)
 }
 
-// Shows what was made, and goes on behind its text.
-export function flash(node) {
-  const last = lastText(node)
-  if (last) leaveAt({ owner: last.owner, to: [last, lengthOf(last)] })
+// Shows what was made, and goes on after its text; in it, where it is to be filled, and after it where nothing can be.
+export function flash(node, isStart = false) {
+  const last = isStart ? firstText(node) : lastText(node)
+  if (last) leaveAt({ owner: last.owner, to: [last, isStart ? 0 : lengthOf(last)] })
+  else if (node.kind === "element" && node.kids.length === 0) {
+    const isEmpty = empties.has(node.name) && node.owner?.id
+    leaveAt(isEmpty ? { owner: node.owner, to: [node, 1] } : { owner: node, to: [null, 0] })
+  }
   const box = app.view.box(node)
   box?.classList.add("made")
   setTimeout(() => box?.classList.remove("made"), 1200)
 }
 
-// The last text in a node that is shown.
-function lastText(node) {
+// The last text in a node that is shown, or the first.
+const lastText = (node) => textAmong(node, (kids) => kids.toReversed())
+const firstText = (node) => textAmong(node, (kids) => kids)
+function textAmong(node, ordered) {
   if (node.kind === "text") return holdsText(node.owner) ? node : null
-  for (const kid of node.kids?.toReversed() ?? []) {
-    const found = lastText(kid)
+  for (const kid of ordered(node.kids ?? [])) {
+    const found = textAmong(kid, ordered)
     if (found) return found
   }
   return null
 }
 
-// Behind a change the caret stays, or it stands where something was changed.
+// The caret's place after what was typed; it is shown there, but where a user chose another one meanwhile.
+export function goOnAt(place, isCurrent) {
+  if (!isCurrent) return
+  const { owner, to: [kid, unit] } = place
+  quietly(() => choosePlace(owner, kid, unit))
+  if (isIn(host)) rest()
+  showCaret()
+  scrollTo(caret.getBoundingClientRect())
+}
+
+// Behind a change what is chosen stays so, and the caret stays, or stands where something was changed. An element stays
+// chosen that a menu is open for.
 listeners.push((changed) => {
   if (!changed) return
-  const place = caretPlace() && followed(caretPlace())
-  leaveAt(place && isThere(place) ? place : app.changed)
+  const place = marks && runAt(app.tree, marks)
+  const there = element && place && app.tree.nodes.get(element.id)
+  quietly(() => {
+    if (run && !element && place) choose(place)
+    else if (isMenuOpen() && there) choose(runOver(there), there)
+    else leaveAt(place ?? (app.changed && { ...app.changed, from: app.changed.to }))
+  })
   setTimeout(() => caretPlace() && mirror(caretPlace()))
 })
-
-function isThere({ owner, to: [kid] }) {
-  const line = lineOf(kid ?? owner)
-  return line[0] === app.tree.top && line.every((node, at) => at === 0 || line[at - 1].kids.includes(node)) && (!kid || kid.owner === owner)
-}
-
-function followed({ owner, to }) {
-  const [kid, unit] = app.tree.follow(to)
-  return { owner: kid?.owner ?? owner, to: [kid, kid?.kind === "text" ? Math.min(unit, lengthOf(kid)) : unit] }
-}

@@ -23,6 +23,9 @@ export function make(name, className, ...inside) {
 // A sentence, in which names and models stand between backticks.
 export const worded = (text) => text.split("`").map((part, at) => (at % 2 ? make("code", "", part) : part))
 
+// The names that are declared EMPTY: nothing can be put into these.
+export const empties = new Set()
+
 // What a list's verdict is called.
 const VERDICTS = { possible: ", not finished", impossible: ", can't be finished" }
 
@@ -167,7 +170,7 @@ export class View {
 
   block(node) {
     if (node.kind !== "element") return this.leaf(node, "div")
-    const list = make("div", "list")
+    const list = make("div", empties.has(node.name) ? "list void" : "list")
     list.role = "group"
     const depth = lineOf(node).length
     const box = this.element(node, "div", depth > DEEP ? "block deep" : "block", this.tag(node, "start"), list)
@@ -178,7 +181,8 @@ export class View {
   inline(node, row) {
     if (node.kind === "text") return this.text(node, row.from ?? 0, row.to)
     if (node.kind !== "element") return this.leaf(node, "span")
-    if (node.kids.length === 0) return this.element(node, "span", "inline", this.tag(node, "only"))
+    if (node.kids.length === 0 && empties.has(node.name)) return this.element(node, "span", "inline", this.tag(node, "only"))
+    if (node.kids.length === 0) return this.element(node, "span", "inline", this.tag(node, "start"), make("span", "slot"), this.tag(node, "end"))
     return this.element(node, "span", "inline", this.tag(node, "start"), ...node.kids.map((kid) => this.inline(kid, {})), this.tag(node, "end"))
   }
 
@@ -195,7 +199,7 @@ export class View {
 
   // A comment, a processing instruction or a CDATA section.
   leaf(node, name) {
-    return this.put(node, make(name, `leaf ${node.kind}`, node.text))
+    return this.put(node, make(name, `leaf ${node.kind}`, entities.get(node.text) ?? node.text))
   }
 
   put(node, box) {
@@ -222,7 +226,8 @@ export class View {
     let at = from
     for (const [place, source] of referencesOf(node, from, end)) {
       const reference = make("span", "reference", sliceOf(node, place, place + 1))
-      reference.title = source
+      reference.title = entities.get(source) ?? source
+      if (entities.has(source)) reference.dataset.entity = entities.get(source)
       text.append(sliceOf(node, at, place), reference)
       at = place + 1
     }
@@ -230,6 +235,9 @@ export class View {
     return text
   }
 }
+
+// The references to entities, by what stands for them in the document that the program reads.
+export const entities = new Map()
 
 // The references among units of a text, in order.
 function referencesOf(node, from, to) {

@@ -1,23 +1,27 @@
 // What the mouse, a finger and the keyboard do in the document.
-import { app } from "./app.js"
+import { app, setHeld } from "./app.js"
 import {
-  caretPlace, chooseCaret, chooseElement, choosePlaceIn, chosen, leaveAt, rest, scrollTo, selectAgain, setHeld, setTouch, showCaret, takeSelection,
+  caretPlace, chooseCaret, chooseElement, choosePlaceIn, chosen, leaveAt, rest, scrollTo, selectAgain, setTouch, showCaret, takeSelection,
 } from "./choose.js"
-import { field } from "./field.js"
+import { field, isIn } from "./field.js"
+import { onLocked, setLocked } from "./lock.js"
 import { closeMenu, isMenuOpen, stand } from "./menu.js"
-import { extendTo, openFor } from "./offers.js"
+import { askToDelete, extendTo, openFor } from "./offers.js"
 import { isEmpty, rangeOf } from "./place.js"
 import { erase, type } from "./type.js"
 
 const host = document.getElementById("document")
 
-// The mouse: a selection opens its menu, a tag that of its element.
+// The mouse: a selection opens its menu, a tag that of its element. All of it is done when the button goes up, before a
+// key can come.
 let isPressed = false
 let isTouch = false
 addEventListener("pointerdown", (event) => setTouch((isTouch = event.pointerType === "touch")), true)
 host.addEventListener("mousedown", (event) => {
-  if (event.target.closest("#reason")) return
+  if (event.target.closest("#reason") || isOnScrollbar(event)) return
   if (event.shiftKey) selectAgain()
+  // What is selected is let go here: by itself a browser does so after the button, where a click is inside it.
+  else if (event.button === 0) getSelection().removeAllRanges()
   setHeld((isPressed = event.button === 0))
   closeMenu()
 })
@@ -31,21 +35,28 @@ document.addEventListener("mouseup", (event) => {
     chooseElement(node)
     return void openFor()
   }
-  const empty = event.target.closest?.("#document .list.nothing")?.closest("[data-id]")
+  const empty = event.target.closest?.("#document .list.nothing:not(.void), #document .slot")?.closest("[data-id]")
   if (empty && getSelection().isCollapsed) {
     choosePlaceIn(app.tree.nodes.get(Number(empty.dataset.id)))
     return rest(true)
   }
-  // The browser takes a selection back only behind this event.
-  setTimeout(() => {
-    if (getSelection().rangeCount === 0) putCaretAt(event)
-    takeSelection()
-    if (!getSelection().isCollapsed) openFor()
-    else if (host === document.activeElement) rest(true)
-  })
+  if (getSelection().rangeCount === 0) putCaretAt(event)
+  takeSelection()
+  if (!getSelection().isCollapsed) openFor()
+  else if (isIn(host)) rest(true)
 })
 
-// A click into what is selected takes the selection away, and leaves no caret.
+// A scrollbar has the button go down, and not up.
+function isOnScrollbar({ target, clientX, clientY }) {
+  const { left, top } = host.getBoundingClientRect()
+  return target === host && (clientX >= left + host.clientWidth || clientY >= top + host.clientHeight)
+}
+// A button that went up where nothing heard of it isn't held any more.
+addEventListener("pointermove", ({ buttons }) => {
+  if (isPressed && buttons === 0) setHeld((isPressed = false))
+}, true)
+
+// Where a browser has put no caret.
 function putCaretAt({ clientX, clientY }) {
   const at = document.caretPositionFromPoint?.(clientX, clientY)
   if (at && host.contains(at.offsetNode)) getSelection().collapse(at.offsetNode, at.offset)
@@ -177,12 +188,20 @@ function moveInTree(event) {
   rest()
 }
 
-// Enter opens the menu of what is chosen; where the caret stands in a text it breaks the line.
+// Enter opens the menu of what is chosen; where the caret stands in a text, its menu offers to split what it is in. With
+// Shift it breaks the line.
 function enter(event) {
-  if (event.ctrlKey || event.metaKey) chooseCaret()
-  const { run, element } = chosen()
-  if (event.ctrlKey || event.metaKey || element || !run || !isEmpty(run)) openFor()
-  else type("\n")
+  if (event.shiftKey) return type("\n")
+  chooseCaret()
+  openFor(!event.ctrlKey && !event.metaKey)
+}
+
+// Takes away a character, or what is selected; an element that was chosen by its tag with all that it holds, when that was
+// asked.
+function remove(step) {
+  const { element } = chosen()
+  if (element) askToDelete(element)
+  else erase(step)
 }
 
 const isCharacter = ({ key, ctrlKey, metaKey, altKey }) => [...key].length === 1 && !metaKey && (ctrlKey === altKey)
@@ -202,11 +221,14 @@ function pressed(event) {
   else if ((event.key === "Home" || event.key === "End") && command) moveToEnd(event)
   else if (event.key in ARROWS) moveInText(event)
   else if (event.key in PAGES && isInField) host.scrollBy(0, PAGES[event.key] * host.clientHeight)
-  else if (event.key === "Backspace" && !(isInField && command)) erase(-1)
-  else if (event.key === "Delete" && !(isInField && command)) erase(1)
+  else if (event.key === "Backspace" && !(isInField && command)) remove(-1)
+  else if (event.key === "Delete" && !(isInField && command)) remove(1)
   else if (!isInField && isCharacter(event)) type(event.key)
   else return
   event.preventDefault()
 }
 for (const each of [host, field]) each.addEventListener("keydown", pressed)
 
+
+onLocked(() => app.tree && rest())
+setLocked(true)

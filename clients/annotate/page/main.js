@@ -2,13 +2,15 @@
 import { tagAgain, tagEverywhere } from "./again.js"
 import { app, catchUp, change, listeners, question, tell } from "./app.js"
 import { ask, Gone, hello, sayBye } from "./ask.js"
+import { empties, entities } from "./draw.js"
 import { choose, chooseElement, rest, setTouch, takeSelection } from "./choose.js"
 import { openFinder } from "./find.js"
 import { closeMenu, isMenuOpen } from "./menu.js"
-import { missingIn, missingText, takeOver } from "./offers.js"
-import { showElements, showHistory, showPreview } from "./panels.js"
+import { missingIn, missingParts, takeOver } from "./offers.js"
+import { save, showElements, showHistory, showPreview } from "./panels.js"
 import { forget, isSaying, say, showRefused, whyOf } from "./refusal.js"
-import { settled } from "./type.js"
+import { attributesSentence, attributesValid, countWrong, faultsOf, nextPlace, onWrong } from "./wrong.js"
+import "./type.js"
 import { toStart } from "./keys.js"
 
 const host = document.getElementById("document")
@@ -19,8 +21,7 @@ const counted = (count, one) => `${count} ${one}${count === 1 ? "" : "s"}`
 function showState() {
   const { open, bad, made, undone, saved } = app.state
   showNext(null)
-  button("next").disabled = open + bad === 0
-  button("next").dataset.verdict = bad ? "impossible" : open ? "possible" : "valid"
+  showVerdict()
   button("undo").disabled = made === 0
   button("redo").disabled = undone === 0
   button("save").disabled = saved
@@ -28,13 +29,26 @@ function showState() {
   countMissing()
 }
 
+// Green only where elements and attributes are valid.
+function showVerdict() {
+  const { open, bad } = app.state
+  button("next").disabled = open + bad + countWrong() === 0
+  button("next").dataset.verdict = bad ? "impossible" : open || !attributesValid() ? "possible" : "valid"
+}
+
+// What was counted last, so that it stays where attributes are told later.
+let lastNeed = null
+
 function showNext(need) {
+  lastNeed = need
   const { open, bad } = app.state
   const parts = []
   if (bad) parts.push(`${counted(bad, "place")} can't be finished`)
   if (need !== null && open) parts.push(`${need} missing`)
   else if (open) parts.push(`${counted(open, "place")} not finished`)
-  button("next").textContent = parts.join(", ") || "Valid"
+  const elements = parts.join(", ") || (attributesValid() ? "Valid" : "Elements valid")
+  button("next").textContent = attributesValid() ? elements : `${elements} · ${attributesSentence()}`
+  button("next").title = `Elements: proved. Attributes: ${attributesSentence()}, by libxml2. Go to the next place that isn't finished (F8)`
 }
 
 // Asked for behind the last move: a moment after it, since it may take long, but at once where it took next to nothing;
@@ -88,13 +102,14 @@ function whyUncounted({ no, list }) {
 // The next place that isn't finished, with what is missing there or why it can't be finished.
 let last = null
 async function goToNext(step) {
-  const node = app.tree.nextOpen(last && app.tree.nodes.get(last.id) === last ? last : null, step)
+  const node = nextPlace(last && app.tree.nodes.get(last.id) === last ? last : null, step)
   if (!node) return
   last = node
   app.view.reveal(node).scrollIntoView({ block: "center" })
   if (node.owner === null) choose(null)
   else chooseElement(node)
   host.focus({ preventScroll: true })
+  if (faultsOf(node).length && (node.verdict ?? "valid") === "valid") return say(node, `${faultsOf(node).map(({ sentence }) => sentence).join("; ")}. Enter opens the menu.`)
   if (node.verdict === "impossible") {
     const { why, kids } = (await whyOf(node)) ?? {}
     if (last === node && why) {
@@ -106,13 +121,13 @@ async function goToNext(step) {
   const looking = setTimeout(() => last === node && say(node, "What is missing here is looked for …"), 400)
   const answer = await missingIn(node)
   clearTimeout(looking)
-  if (last === node && answer) say(node, missingText(answer), answer.missing?.length ? () => takeOver(node) : null)
+  const chosen = () => Object.fromEntries(answer.missing.filter((each) => each.chosen).map(({ id, chosen }) => [id, chosen]))
+  if (last === node && answer) say(node, missingParts(answer), answer.missing?.length ? () => takeOver(node, chosen()) : null)
 }
 
 export async function act(name) {
   closeMenu()
-  await settled()
-  await change(name)
+  await (name === "save" ? save() : change(name))
   if (app.made) app.view.reveal(app.made).scrollIntoView({ block: "nearest" })
 }
 
@@ -166,9 +181,15 @@ addEventListener("unhandledrejection", (event) => {
 })
 
 listeners.push(showState)
-const { title, names, note } = await hello()
+onWrong(() => {
+  showVerdict()
+  showNext(lastNeed)
+})
+const { title, names, empty, note, entities: known } = await hello()
 button("title").textContent = document.title = title
 app.names = new Set(names)
+for (const name of empty) empties.add(name)
+for (const [form, name] of Object.entries(known)) entities.set(form, name)
 if (note) tell(note)
 await catchUp()
 toStart()

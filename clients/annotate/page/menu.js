@@ -16,13 +16,14 @@ let wanted = null
 const MOMENT = 250
 let seen = { labels: [], at: 0, time: -Infinity }
 
+// A menu opens at once, also while its choices are asked for: then it shows an ellipsis, and holds Enter until they come.
 // With `keepFocus` the menu's field doesn't take the focus: with a finger that would bring the keyboard over the page.
 // Opens at a box of the page, which `box` gives. `typed`, where it is there, takes a name that isn't among the choices;
 // `names` are those that are declared; `hint` stands where there is no choice, `about` above them all. `inSight` is called
 // where other choices come into sight.
 export function openMenu({ closed, keepFocus = false, ...menu }) {
   const before = open
-  open = { closed, names: new Set(), ...menu }
+  open = { closed, names: new Set(), entered: null, ...menu }
   if (before?.closed && before.closed !== closed) before.closed()
   title.textContent = open.name
   tellAbout(open.about)
@@ -31,6 +32,7 @@ export function openMenu({ closed, keepFocus = false, ...menu }) {
   seen.time = -Infinity
   refuse(null)
   box.hidden = false
+  tellWaiting()
   filter()
   stand()
   if (!keepFocus) input.focus({ preventScroll: true })
@@ -40,7 +42,11 @@ export function openMenu({ closed, keepFocus = false, ...menu }) {
 export function setChoices(choices, about = null) {
   if (!open) return
   open.choices = choices
-  seen = { labels: shown.map(({ label }) => label), at, time: performance.now() }
+  // What comes where nothing was seen hasn't moved.
+  const time = open.isWaiting && shown.length === 0 ? -Infinity : performance.now()
+  seen = { labels: shown.map(({ label }) => label), at, time }
+  open.isWaiting = false
+  tellWaiting()
   if (about !== null) {
     wanted ??= shown[at]?.label ?? null
     tellAbout(about)
@@ -51,6 +57,41 @@ export function setChoices(choices, about = null) {
   // What was scrolled to stays in sight, but for a row that an arrow key chose.
   list.scrollTop = top
   if (wanted !== null) document.getElementById(`choice${at}`)?.scrollIntoView({ block: "nearest" })
+  if (open.entered !== null) takeHeld()
+}
+
+// The choices are asked for anew: those that are shown stay, and Enter is held.
+export function waitAgain() {
+  if (!open) return
+  open.isWaiting = true
+  tellWaiting()
+  filter()
+}
+
+function tellWaiting() {
+  box.ariaBusy = String(Boolean(open.isWaiting))
+}
+
+// What Enter was pressed for before there were choices.
+function takeHeld() {
+  const text = open.entered
+  open.entered = null
+  const choice = ranked(text)[0]
+  if (choice) choice.take(choice.label)
+}
+
+// What stands where there is no choice.
+export function hint(text) {
+  if (open) open.hint = text
+}
+
+// There is nothing to choose any more, and why; what was typed stays.
+export function shut(why) {
+  if (!open) return
+  Object.assign(open, { choices: [], typed: null, hint: " ", isWaiting: false, entered: null })
+  tellWaiting()
+  filter()
+  refuse(why)
 }
 
 // The labels of the choices in sight.
@@ -111,12 +152,12 @@ function ranked(text) {
 
 function filter() {
   const text = input.value.trim()
-  shown = ranked(text)
+  shown = open.isWaiting && open.choices.length === 0 ? [] : ranked(text)
   const kept = shown.findIndex(({ label }) => label === wanted)
   at = Math.max(0, kept)
   const items = shown.map(itemOf)
   list.replaceChildren(...(text ? items : grouped(items)))
-  if (items.length === 0) list.append(line("li", "hint", open.hint ?? "nothing that begins so"))
+  if (items.length === 0) list.append(line("li", "hint", open.isWaiting ? "…" : open.hint ?? "nothing that begins so"))
   show()
   open.inSight?.()
 }
@@ -161,12 +202,13 @@ function show() {
 
 function take(number, before) {
   const choice = shown[number]
+  if (open.isWaiting) return void (open.entered = choice?.label ?? input.value.trim())
   const hasMoved = performance.now() - seen.time < MOMENT && choice?.label !== before
   if (choice && !hasMoved) choice.take(choice.label)
 }
 
 input.addEventListener("input", () => {
-  refuse(null)
+  if (open?.typed !== null) refuse(null)
   wanted = null
   seen.time = -Infinity
   filter()
@@ -179,7 +221,7 @@ input.addEventListener("keydown", (event) => {
     wanted = shown[at].label
     seen.time = -Infinity
     show()
-  } else if (event.key === "Enter") take(at, seen.labels[seen.at])
+  } else if (event.key === "Enter") event.repeat || take(at, seen.labels[seen.at])
   else if (event.key === "Escape" || event.key === "Tab") closeMenu()
   else return
   event.preventDefault()

@@ -1,30 +1,84 @@
 // The menu for what is chosen: the names that the session offers, by what they cost, or what can be done with an
 // element.
-import { app, change, listeners, question } from "./app.js"
+import { app, change, listeners, question, tell } from "./app.js"
 import { ask } from "./ask.js"
-import { boxOfChosen, choose, chosen, flash, isByTouch, rest } from "./choose.js"
+import { boxOfChosen, caretIn, choose, chosen, flash, isByTouch, rest } from "./choose.js"
+import { empties } from "./draw.js"
+import { isLocked, sayLocked } from "./lock.js"
 import { openAttributes } from "./attributes.js"
 import { openEverywhere } from "./again.js"
-import { closeMenu, isMenuOpen, openMenu, refuse, rowsInSight, setChoices } from "./menu.js"
-import { isEmpty, nameOf, runOver, textOf, told } from "./place.js"
+import { closeMenu, hint, isMenuOpen, openMenu, refuse, rowsInSight, setChoices, shut, stand, waitAgain } from "./menu.js"
+import { isEmpty, markRun, nameOf, runAt, runOver, singlesIn, textOf, told, unmark } from "./place.js"
 import { forget, isSaying, say, sentenceOf, showRefused, whyOf } from "./refusal.js"
 
-// So long what is missing in a list is waited for before the menu opens, in milliseconds.
-const WAIT = 250
-// And so long what names cost is waited for.
+// So long what names cost is waited for, in milliseconds.
 const SCREENFUL = 120
 // So long the names out of sight are counted too: under a large DTD that takes long for some hundred of them.
 const ALL = 2000
 // Where names stand that aren't counted: behind those that are, and before those that can't be.
 const UNCOUNTED = 1e9
-// Opens the menu for what is chosen.
-export function openFor() {
+
+// What the open menu is for: what it offers, and where; none where no menu is open.
+let offer = null
+
+// Opens the menu for what is chosen. It is there, and has the focus, at once: a key that comes then goes to it. Where the
+// caret stands in an element, that may be split there; first of all where `splits`.
+export function openFor(splits = false) {
   const { run, element } = chosen()
   if (element) return openForElement(element)
   if (!run || run.owner.id === 0) return
-  const kind = isEmpty(run) ? "insert" : "wrap"
-  const name = isEmpty(run) ? `A new element in ⟨${run.owner.name}⟩` : `Tags round ${nameOf(run)}`
-  return offerNames(name, { kind, place: told(run) })
+  if (!isEmpty(run)) return offerNames(`Tags round ${nameOf(run)}`, { kind: "wrap", run }, { first: extensions })
+  const splitting = (place) => splitsAt(place)
+  offerNames(`A new element in ⟨${run.owner.name}⟩`, { kind: "insert", run }, splits ? { first: splitting } : { last: splitting })
+}
+
+// The elements round a place that may be split there, the innermost first; the root can't be.
+function splitsAt(place) {
+  const choices = []
+  for (let node = place.owner; node.owner?.id; node = node.owner) {
+    const one = node
+    choices.push({ label: `Split ⟨${node.name}⟩ here`, group: "in two", take: (_, at) => splitAt(one, at) })
+  }
+  return choices
+}
+
+// Splits an element where the place is then, and goes on at the start of its second part.
+function splitAt(node, at) {
+  const second = (made) => {
+    const { kids } = made.owner
+    return node.attrs ? kids.slice(kids.indexOf(made) + 1).find(({ kind }) => kind === "element") : made
+  }
+  return make(() => (app.tree.isThere(node) && at() ? { kind: "split", node: node.id, place: told(at()) } : null), "move", (made) => flash(second(made), true))
+}
+
+// The elements that a selection holds or touches, each the only one of its name: they may reach as far as it does, with
+// their attributes.
+function extensions(run) {
+  const extended = (node, at) => (at() && app.tree.isThere(node) ? { kind: "extend", node: node.id, place: told(at()) } : null)
+  return singlesIn(run).map((node) => ({
+    label: `⟨${node.name}⟩ extended to here`, note: node.attrs ?? "", group: "one that is there", take: (_, at) => make(() => extended(node, at)),
+  }))
+}
+
+// Takes away an element with all that it holds, or its tags, or makes one of it and the next: asked first.
+export function askToDelete(node) {
+  const text = textOf(node).trim().replace(/\s+/g, " ")
+  const all = { label: "Delete with content", note: text.length > 40 ? `${text.slice(0, 40)}…` : text, take: () => deleteAll(node) }
+  begin({ fill: () => (app.tree.isThere(node) ? setChoices([all, ...partsOf(node)]) : shut(GONE)) })
+  openMenu({ name: `Take ⟨${node.name}⟩ away?`, box: boxOfChosen, choices: [all, ...partsOf(node)], closed, keepFocus: isByTouch() })
+}
+
+function partsOf(node) {
+  return [
+    { label: "Join with the next", take: () => make({ kind: "join", node: node.id }) },
+    { label: "Unwrap: take its tags away", take: () => make({ kind: "unwrap", node: node.id }) },
+  ]
+}
+
+function deleteAll(node) {
+  if (!isLocked() || textOf(node) === "") return make({ kind: "delete", node: node.id })
+  closeMenu()
+  sayLocked()
 }
 
 // From what is chosen to this element.
@@ -33,33 +87,56 @@ export function extendTo(node) {
   openFor()
 }
 
-async function openForElement(node) {
+function openForElement(node) {
+  begin({ fill: () => fillForElement(node, openings) })
+  openMenu({ name: `⟨${node.name}⟩`, box: boxOfChosen, choices: choicesFor(node), closed, keepFocus: isByTouch() })
+  fillForElement(node, openings)
+}
+
+function choicesFor(node) {
   const inside = (at) => ({ owner: node, from: at, to: at })
   const beside = (unit) => ({ owner: node.owner, from: [node, unit], to: [node, unit] })
   const name = `⟨${node.name}⟩`
-  const insertAt = (label, where) => offerNames(`${label} ${name}`, { kind: "insert", place: told(where) })
+  const insertAt = (label, run) => offerNames(`${label} ${name}`, { kind: "insert", run })
   const insert = (label, end, where) => ({ label: label + end, take: () => insertAt(label, where) })
   const choices = [
-    { label: "Rename", take: () => offerNames(`Another name for ${name}`, { kind: "rename", node: node.id }) },
-    { label: "Wrap", take: () => offerNames(`Tags round ${name}`, { kind: "wrap", place: told(runOver(node)) }) },
+    { label: "Rename", take: () => offerNames(`Another name for ${name}`, { kind: "rename", node }) },
+    { label: "Wrap", take: () => offerNames(`Tags round ${name}`, { kind: "wrap", run: runOver(node) }) },
     { label: "Unwrap: take its tags away", take: () => make({ kind: "unwrap", node: node.id }) },
-    insert("Insert first in", " it", inside([node.kids[0] ?? null, 0])),
+    ...(empties.has(node.name) ? [] : [insert("Insert first in", " it", inside([node.kids[0] ?? null, 0]))]),
   ]
   if (node.kids.length > 0) choices.push(insert("Insert last in", " it", inside([null, 0])))
-  if (node.owner.id !== 0) choices.push(insert("Insert before", "", beside(0)), insert("Insert behind", "", beside(1)))
+  if (node.owner.id !== 0) choices.push(insert("Insert before", "", beside(0)), insert("Insert after", "", beside(1)))
+  const caret = caretIn(node)
+  if (caret && node.owner.id !== 0) {
+    const marks = markRun(app.tree, caret)
+    choices.push({ label: "Split here", note: "where the caret stood", take: () => splitAt(node, () => runAt(app.tree, marks)) })
+  }
+  if (node.owner.id !== 0) {
+    choices.push({ label: "Join with the next", take: () => make({ kind: "join", node: node.id }) })
+    choices.push({ label: "Delete with content", take: () => askToDelete(node) })
+  }
   choices.push({ label: "Attributes", note: node.attrs ?? "", take: () => openAttributes(node) })
   const text = textOf(node)
   const everywhere = { label: "The same on all places of this text", take: () => openEverywhere(node.name, text) }
   if (text.trim()) choices.push(everywhere)
-  const news = newsOf(node)
-  const first = await Promise.race([news, new Promise((done) => setTimeout(done, WAIT))])
-  if (chosen().element !== node) return
-  const opened = openings
-  const all = [...(first?.choices ?? []), ...choices]
-  openMenu({ name, about: first?.about, box: boxOfChosen, choices: all, closed, keepFocus: isByTouch() })
-  if (first) return
-  const late = await news
-  if (late.about && isMenuOpen() && openings === opened) setChoices([...late.choices, ...choices], late.about)
+  return choices
+}
+
+// What is missing in the element comes in after its menu, and again where the document was changed meanwhile.
+async function fillForElement(node, opened) {
+  if (!app.tree.isThere(node)) return shut(GONE)
+  const late = await newsOf(node)
+  if (!isMenuOpen() || openings !== opened || !app.tree.isThere(node)) return
+  setChoices([...late.choices, ...choicesFor(node)], late.about)
+}
+const GONE = "The place that this menu was opened for isn't there any more: the document was changed. Escape closes it."
+
+// A menu is opened for something else.
+function begin(what) {
+  if (offer?.marks) unmark(app.tree, offer.marks)
+  openings += 1
+  offer = what
 }
 
 // What is missing in an element's list and can be taken over, or why nothing can mend it.
@@ -68,51 +145,79 @@ async function newsOf(node) {
   const answer = node.verdict === "possible" ? await missingIn(node) : null
   if (!answer?.missing?.length) return { about: "", choices: [] }
   const choice = { label: "Take over what is missing", note: namesOf(answer), take: () => takeOver(node) }
-  return { about: missingText(answer), choices: [choice] }
+  const others = answer.missing.flatMap(({ id, choices = [] }) => choices.slice(1).map((name) => (
+    { label: `Take over with ⟨${name}⟩`, take: () => takeOver(node, { [id]: name }) }
+  )))
+  return { about: missingText(answer), choices: [choice, ...others.slice(0, ALIKE)] }
 }
+// So many other names of what is missing stand in a menu.
+const ALIKE = 8
 
 // What is missing in a list; it may take long, and other requests go on.
 export async function missingIn(node) {
   const answer = await ask("missing", { node: node.id })
   return answer.stale || answer.trouble ? null : answer
 }
-export const takeOver = (node) => make({ node: node.id }, "take")
+export const takeOver = (node, names = {}) => make({ node: node.id, names }, "take")
 const namesOf = ({ missing }) => missing.map(({ name }) => name).join(", ")
 
-export function missingText({ missing, no, least }) {
-  if (no === "wide") return "Elements are missing here; the list is too wide to tell which."
-  if (no) return "Elements are missing here."
-  if (missing.length === 0) return "Nothing is missing here."
-  const where = ({ around, behind }) => (around ? ` round ${around}` : behind ? ` behind ${behind}` : "")
-  const each = (element) => `⟨${element.name}⟩${where(element)}`
-  return `Missing here${least ? "" : ", though fewer may do"}: ${missing.map(each).join(", ")}.`
+export const missingText = (answer) => missingParts(answer).map((part) => (typeof part === "string" ? part : `⟨${part.name}⟩`)).join("")
+
+// What is missing, in words; an element that may have several names stands among them as itself.
+export function missingParts({ missing, no, least }) {
+  if (no === "wide") return ["Elements are missing here; the list is too wide to tell which."]
+  if (no) return ["Elements are missing here."]
+  if (missing.length === 0) return ["Nothing is missing here."]
+  const where = ({ around, behind }) => (around ? ` round ${around}` : behind ? ` after ${behind}` : "")
+  const each = (element, at) => [at ? ", " : "", element.choices?.length > 1 ? element : `⟨${element.name}⟩`, where(element)]
+  return [`Missing here${least ? "" : ", though fewer may do"}: `, ...missing.flatMap(each), "."]
 }
 
-// The names that the session offers for a move, as their costs come in; another that is typed is tried.
-export async function offerNames(name, move) {
-  const before = chosen()
-  const answer = await question("offer", move.kind === "rename" ? { node: move.node } : move.place)
-  if (!answer) return closeMenu()
-  // Something else was chosen meanwhile.
-  const now = chosen()
-  if (now.run !== before.run || now.element !== before.element) return
-  const take = (label) => make({ ...move, name: label })
+// The names that the session offers for a move, as their costs come in; another that is typed is tried. A move is about a
+// run, which follows what becomes of it, or about a node.
+// What else may be done there stands `first` in its menu, or `last`.
+export function offerNames(name, { kind, run = null, node = null }, { first, last } = {}) {
+  const marks = run && markRun(app.tree, run)
+  const told_ = (label) => {
+    if (node) return app.tree.isThere(node) ? { kind, node: node.id, name: label } : null
+    const place = runAt(app.tree, marks)
+    return place && { kind, place: told(place), name: label }
+  }
+  const take = (label) => make(() => told_(label))
+  const at = () => marks && runAt(app.tree, marks)
+  const others = (call) => (call && at() ? call(at()).map((each) => ({ ...each, take: () => each.take(null, at) })) : [])
+  const here = { marks, told: told_, take, count: null, all: (names) => [...others(first), ...names, ...others(last)] }
+  here.fill = () => fillNames(here)
+  begin(here)
+  const menu = { name, box: boxOfChosen, choices: [], isWaiting: true, typed: take, names: app.names, inSight: () => here.count?.() }
+  openMenu({ ...menu, closed, keepFocus: isByTouch() })
+  fillNames(here)
+}
+
+async function fillNames(here) {
+  const asked = (here.asked = (here.asked ?? 0) + 1)
+  const isOpen = () => isMenuOpen() && offer === here && here.asked === asked
+  here.count = null
+  const answer = await question("offer", () => offered(here.told("")))
+  if (!isOpen()) return
+  if (!answer) return shut(here.told("") ? "What may stand here isn't known." : GONE)
   const costs = {}
   takeCosts(costs, answer.costs ?? {})
   for (const label of answer.whole ?? []) costs[label] = { more: 0 }
-  const choices = () => ordered(answer, costs).map((choice) => ({ ...choice, take }))
+  const choices = () => here.all(ordered(answer, costs).map((choice) => ({ ...choice, take: here.take })))
   const first = answer.task ? askCosts(answer.task, costs) : null
   if (first) await Promise.race([first, new Promise((done) => setTimeout(done, SCREENFUL))])
-  let count = null
-  const menu = { name, box: boxOfChosen, choices: choices(), typed: take, names: app.names, hint: hintOf(answer), inSight: () => count?.() }
-  openMenu({ ...menu, closed, keepFocus: isByTouch() })
+  if (!isOpen()) return
+  hint(hintOf(answer))
+  setChoices(choices())
   if (answer.no) refuse(sentenceOf(answer))
-  if (!first) return
-  const opened = openings
-  const isOpen = () => isMenuOpen() && opened === openings
-  count = counting({ ...answer, costs, first, isOpen, show: () => setChoices(choices()) })
-  count()
+  if (!first || !isOpen()) return
+  here.count = counting({ ...answer, costs, first, isOpen, show: () => setChoices(choices()) })
+  here.count()
 }
+
+// What is offered is asked by: the place, or the element.
+const offered = (move) => move && (move.place ?? { node: move.node })
 
 // What counts costs as long as a menu is open: first what is quickly told, then of the rows in sight, and for a while of
 // all. It is called again where others come into sight.
@@ -153,7 +258,7 @@ function takeCosts(costs, counts) {
   for (const [name, more] of Object.entries(counts)) costs[name] = more === null ? null : { more }
 }
 
-// How many menus were closed: what comes in for one of them isn't shown in the next.
+// How many menus were opened or closed: what comes in for one of them isn't shown in the next.
 let openings = 0
 
 // First those after which no more is missing, then by how many more; what was used lately first in each group, and what
@@ -187,18 +292,32 @@ function hintOf(answer) {
   return "No name that is offered begins so."
 }
 
-// Makes a move; where it is refused, says so where it was asked for, and shows the list and what stands in the way.
-export async function make(move, request = "move") {
+// Makes a move, which is told, or by a call when its turn has come; where it is refused, says so where it was asked for,
+// shows the list and what stands in the way, and gives that.
+export async function make(move, request = "move", then = flash) {
   forget()
   refused = null
-  const refusal = await change(request, move)
+  let told = null
+  const opened = openings
+  const refusal = await change(request, () => {
+    told = typeof move === "function" ? move() : move
+    making = told !== null
+    return told
+  })
+  making = false
+  // What is open by now may be another menu.
+  const isOpen = isMenuOpen() && opened === openings
   if (!refusal) {
-    closeMenu()
-    if (app.made) flash(app.made)
-    rest()
-  } else if (refusal.no === "stale" || refusal.no === "trouble") closeMenu()
-  else showWhyNot(refusal, move)
+    if (isOpen) closeMenu()
+    if (app.made) then(app.made)
+    if (!isMenuOpen()) rest()
+  } else if (refusal.no === "gone") isOpen ? shut(GONE) : tell(GONE_)
+  else if (refusal.no === "trouble" && isOpen) closeMenu()
+  else if (refusal.no !== "stale" && refusal.no !== "trouble") showWhyNot(refusal, told ?? {})
+  return refusal
 }
+const GONE_ = "The place isn't there any more; nothing was done."
+let making = false
 
 // The sentence stands in the menu, or at the tag where no menu is open.
 export function showWhyNot(refusal, move = {}) {
@@ -213,9 +332,16 @@ export function showWhyNot(refusal, move = {}) {
 let refused = null
 
 function closed() {
-  openings += 1
+  begin(null)
   rest()
   if (refused && !isSaying()) say(refused.node, refused.text)
   refused = null
 }
-listeners.push((changed) => changed && closeMenu())
+
+// A change that the menu didn't make leaves it open, with what was typed; what it offers is asked again.
+listeners.push((changed) => {
+  if (!changed || making || !isMenuOpen() || !offer) return
+  waitAgain()
+  offer.fill()
+  stand()
+})

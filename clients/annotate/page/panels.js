@@ -1,8 +1,9 @@
 // What stands beside the document, its history and its elements by name, and the preview over it.
-import { app, change, listeners, onChanged, question, tell } from "./app.js"
+import { app, change, listeners, onTrouble, question, tell } from "./app.js"
 import { ask } from "./ask.js"
 import { chooseElement, rest } from "./choose.js"
 import { make, View } from "./draw.js"
+import { choiceOf } from "./refusal.js"
 import { Tree } from "./tree.js"
 
 const moves = document.getElementById("moves")
@@ -100,13 +101,20 @@ export async function showPreview() {
   const told = `Valid with ${count}${answer.least ? ", and no fewer" : "; fewer may do"}. The document itself is as it was.`
   title.textContent = answer.new ? told : "The document is valid as it is"
   all.hidden = completed.querySelector(".about").hidden = answer.new === 0
-  new View(view, view, "new").draw(new Tree(answer.tree, "valid"))
+  const tree = new Tree(answer.tree, "valid")
+  new View(view, view, "new").draw(tree)
+  news = tree.nodes
   for (const tag of view.querySelectorAll(".new > .tag:not(.end)")) makeButton(tag)
   view.querySelector(".new")?.scrollIntoView({ block: "center" })
 }
 
-// A tag that can be taken over, also by keys.
+// What is new in the preview, by its number.
+let news = new Map()
+
+// A tag that can be taken over, also by keys. Where other names would do, they are chosen in it.
 function makeButton(tag) {
+  const node = news.get(Number(tag.dataset.tag))
+  if (node.choices?.length > 1) tag.firstChild.replaceWith(choiceOf(node))
   Object.assign(tag, { role: "button", tabIndex: 0, ariaHidden: "false", ariaLabel: `Take over ${tag.textContent}` })
   tag.title = "Take this element over"
 }
@@ -118,18 +126,20 @@ function whyNot({ no, list }) {
 }
 
 async function take(what) {
-  const refusal = await change("take", what)
+  const left = ({ left }) => left && tell(`${left === 1 ? "An element that may have several names wasn't" : `${left} elements that may have several names weren't`} taken over: Preview shows them.`)
+  const refusal = await change("take", what, left)
   if (refusal?.no) tell("What was shown can't be taken over any more.")
   return !refusal
 }
 
 all.addEventListener("click", async () => (await take({})) && completed.close())
 view.addEventListener("click", async ({ target }) => {
-  const tag = target.closest(".new > .tag")
-  if (tag && (await take({ new: Number(tag.dataset.tag) }))) showPreview()
+  const tag = target.closest("select") ? null : target.closest(".new > .tag")
+  const number = tag && Number(tag.dataset.tag)
+  if (tag && (await take({ new: number, name: news.get(number).chosen ?? null }))) showPreview()
 })
 view.addEventListener("keydown", (event) => {
-  if (event.key !== "Enter" || !event.target.closest(".new > .tag")) return
+  if (event.key !== "Enter" || event.target.closest("select") || !event.target.closest(".new > .tag")) return
   event.preventDefault()
   event.target.click()
 })
@@ -138,14 +148,43 @@ completed.addEventListener("close", () => {
   ask("stop")
 })
 
-// Where the document was changed by another program.
-onChanged.push(() => {
+// Where the document can't be written as it is: it was changed by another program, it has to be asked first how, or the
+// page has another one than the program shows.
+const ways = document.getElementById("ways")
+const differs = document.getElementById("differs")
+onTrouble.push((_, answer) => {
+  if (answer.changed) askForName()
+  else if (answer.ways) askForWay(answer)
+  else if (answer.differs) showBoth(answer.differs)
+})
+
+function askForWay({ trouble, ways: open }) {
+  tell("")
+  ways.querySelector(".about").textContent = trouble
+  for (const button of ways.querySelectorAll(".choices button")) button.hidden = button.value !== "beside" && !open.includes(button.value)
+  ways.returnValue = ""
+  ways.showModal()
+}
+ways.addEventListener("close", () => {
+  if (ways.returnValue === "beside") askForName()
+  else if (["replace", "into"].includes(ways.returnValue)) save(ways.returnValue)
+})
+
+function showBoth(both) {
+  for (const [at, part] of [...differs.querySelectorAll("pre")].entries()) part.textContent = both[at]
+  differs.showModal()
+}
+
+// Writes the document: the sum of what is shown here goes with it, and where that isn't the document nothing is written.
+export const save = (way = "") => change("save", async () => ({ way, seen: await app.tree.sum() }))
+
+function askForName() {
   const input = beside.querySelector("input")
   input.value ||= document.title.replace(/(\.\w+)?$/, "-marked$1")
   beside.returnValue = ""
   beside.showModal()
   input.select()
-})
+}
 beside.addEventListener("close", async () => {
   if (beside.returnValue !== "save") return
   const answer = await question("save-beside", { name: beside.querySelector("input").value })

@@ -27,6 +27,29 @@ export function runOver(node, run = null) {
 
 export const isEmpty = (run) => run.from[0] === run.to[0] && run.from[1] === run.to[1]
 
+// Marks a run, or a place, in the tree: what it was before a change, it is after it.
+export function markRun(tree, { owner, from, to }) {
+  const isPlace = from[0] === to[0] && from[1] === to[1]
+  const end = tree.mark(owner, to, -1)
+  return { start: isPlace ? end : tree.mark(owner, from, 1), end }
+}
+
+// The run that is marked; none where it is gone, or isn't in one list any more.
+export function runAt(tree, { start, end }) {
+  const [from, to] = [tree.placeOf(start), tree.placeOf(end)]
+  if (!from || !to) return null
+  if (start === end) return { owner: to.owner, from: to.at, to: to.at }
+  const kids = from.owner.kids
+  const order = ([kid, unit]) => [kid ? kids.indexOf(kid) : kids.length, unit]
+  const [[first, cut], [last, lastCut]] = [order(from.at), order(to.at)]
+  if (from.owner !== to.owner || first > last || (first === last && cut >= lastCut)) return null
+  return { owner: from.owner, from: from.at, to: to.at }
+}
+
+export function unmark(tree, marks) {
+  for (const mark of marks ? [marks.start, marks.end] : []) tree?.marks.delete(mark)
+}
+
 // As the program takes it.
 export const told = (run) => ({ list: run.owner.id, from: [run.from[0]?.id ?? null, run.from[1]], to: [run.to[0]?.id ?? null, run.to[1]] })
 
@@ -41,7 +64,7 @@ function caretIn(range) {
 function itemsIn(range, host) {
   const common = range.commonAncestorContainer
   const text = textAt(common)
-  const among = text ? [text] : common.querySelectorAll(".text, .leaf, .tag.only")
+  const among = text ? [text] : common.querySelectorAll(".text, .leaf, .tag.only, .slot")
   const items = [...among].filter((item) => range.intersectsNode(item) && isTouched(range, item))
   if (items.length === 0 || !host.contains(items[0])) return null
   const [first, last] = [items[0], items.at(-1)]
@@ -57,6 +80,7 @@ const numberOf = (item) => Number(item.closest("[data-id]").dataset.id)
 const textAt = (node) => (node.nodeType === Node.TEXT_NODE ? node.parentElement : node).closest(".text")
 
 function isTouched(range, item) {
+  if (item.matches(".slot")) return true
   const inside = document.createRange()
   inside.selectNodeContents(item)
   if (range.compareBoundaryPoints(Range.START_TO_START, inside) > 0) inside.setStart(range.startContainer, range.startOffset)
@@ -150,6 +174,19 @@ function pointIn(piece, units) {
     left -= size
   }
   return [text, text.length ?? 0]
+}
+
+// The elements of a run's list that it holds or touches, each the only one of its name among them.
+export function singlesIn({ owner, from: [first, from], to: [last, to] }) {
+  const { kids } = owner
+  const start = first === null ? kids.length : kids.indexOf(first)
+  const end = last === null ? kids.length - 1 : kids.indexOf(last)
+  const isBefore = from === 0 ? kids[start - 1] : null
+  const isBehind = to === (last === null ? 0 : lengthOf(last)) ? kids[end + 1] : null
+  const among = [isBefore, ...kids.slice(start, end + 1), isBehind].filter((kid) => kid?.kind === "element")
+  const counts = new Map()
+  for (const { name } of among) counts.set(name, (counts.get(name) ?? 0) + 1)
+  return among.filter(({ name }) => counts.get(name) === 1)
 }
 
 // All text in a node.

@@ -51,10 +51,12 @@ export function showRefused({ list, kids = [] }) {
   for (const kid of kids) outline(kid, "in-way")
 }
 
-// Says a sentence behind a node's tag, where it covers nothing; `take` may be offered with it.
+// Says a sentence behind a node's tag, where it covers nothing; `take` may be offered with it. Parts of the sentence may be
+// elements that are missing and may have several names: they are chosen here.
 export function say(node, text, take = null) {
   told = node
-  sentence.replaceChildren(...worded(text))
+  const parts = typeof text === "string" ? [text] : text
+  sentence.replaceChildren(...parts.flatMap((part) => (typeof part === "string" ? worded(part) : [choiceOf(part)])))
   takeOver.hidden = take === null
   takeOver.onclick = take
   box.dataset.kind = take ? "missing" : "why"
@@ -65,6 +67,17 @@ export function say(node, text, take = null) {
   if (tag) tag.after(box)
   else host.prepend(box)
   box.hidden = false
+}
+
+// The names that an element may have, the first chosen; which of them is, stands in its `chosen`.
+export function choiceOf(element) {
+  const choice = document.createElement("select")
+  choice.className = "names"
+  choice.ariaLabel = "The name of a missing element"
+  choice.append(...element.choices.map((name) => new Option(name, name)))
+  element.chosen = element.choices[0]
+  choice.addEventListener("change", () => (element.chosen = choice.value))
+  return choice
 }
 
 export function forget() {

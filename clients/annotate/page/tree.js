@@ -8,7 +8,8 @@ export class Tree {
   constructor(rows, verdict) {
     this.top = { id: 0, kind: "element", name: "", kids: [], owner: null, size: 1, verdict }
     this.nodes = new Map([[0, this.top]])
-    // What became of units of texts in the changes of one answer.
+    // Places that follow what becomes of them, and what became of units of texts in the last change.
+    this.marks = new Set()
     this.pieced = []
     const open = [this.top]
     for (const row of rows) {
@@ -56,12 +57,78 @@ export class Tree {
       return node
     }
     const owner = this.nodes.get(change.list)
+    this.pieced = []
     const nodes = change.kids.map((told) => this.given(told))
     const old = owner.kids.splice(change.from, change.to - change.from, ...nodes)
     for (const node of nodes) node.owner = owner
     const grown = sizeOf(nodes) - sizeOf(old)
     for (let node = owner; node; node = node.owner) node.size += grown
+    for (const mark of this.marks) if (old.includes(mark.kid ?? mark.owner)) this.moveMark(mark, owner, change.from, old, nodes)
     return owner
+  }
+
+  // Marks a place of a list: it follows what becomes of it, until it is let go. `leans` says on which side of a cut it
+  // stays, where it is cut there: 1 behind it, -1 before it.
+  mark(owner, [kid, unit], leans = -1) {
+    const mark = { owner, kid, unit, leans, isLost: false }
+    this.marks.add(mark)
+    return mark
+  }
+
+  // Where a mark stands now; none where its place is gone.
+  placeOf(mark) {
+    if (mark.isLost || !this.isThere(mark.kid ?? mark.owner)) return null
+    return { owner: mark.kid?.owner ?? mark.owner, at: [mark.kid, mark.unit] }
+  }
+
+  isThere(node) {
+    for (let at = node; at !== this.top; at = at.owner) if (!at?.owner?.kids.includes(at)) return false
+    return true
+  }
+
+  // A mark in one of the old nodes, in whose place these stand now.
+  moveMark(mark, owner, from, old, nodes) {
+    const { kid, unit } = mark
+    if (kid && (nodes.includes(kid) || nodes.some(({ kids }) => kids?.includes(kid)))) return void (mark.owner = kid.owner)
+    if (kid?.kind === "text") {
+      const fits = this.pieced.filter(({ number, from, to }) => number === kid.id && unit >= from && unit <= to)
+      const piece = mark.leans > 0 ? fits.at(-1) : fits[0]
+      if (piece) return put(mark, owner, this.nodes.get(piece.id), piece.at + unit - piece.from)
+      const isOne = old.length === 1 && nodes.length === 1 && nodes[0].kind === "text"
+      if (isOne) return put(mark, owner, nodes[0], unitAcross(kid, nodes[0], unit))
+    }
+    const isBehind = kid === null || (unit > 0 && unit === lengthOf(kid))
+    put(mark, owner, owner.kids[isBehind ? from + nodes.length : from] ?? null, 0)
+  }
+
+  // Takes over the marks of another tree of the same document: in nodes of the same number, or at the same path.
+  adopt(marks) {
+    for (const mark of marks) {
+      const node = mark.kid ?? mark.owner
+      const same = this.nodes.get(node.id) ?? this.at(pathOf(node))
+      const isSame = same?.kind === node.kind && same.name === node.name && same.text === node.text
+      if (isSame) put(mark, mark.kid ? same.owner : same, mark.kid && same, mark.unit)
+      else mark.isLost = true
+    }
+    this.marks = marks
+  }
+
+  // A sum of all that is shown: the program has one of the document, and compares them. None where the browser has no sums.
+  async sum() {
+    const rows = []
+    const todo = [...this.top.kids].reverse().map((node) => [1, node])
+    while (todo.length) {
+      const [depth, node] = todo.pop()
+      const references = Object.entries(node.refs ?? {}).map(([at, source]) => `${at}=${source}`).join("")
+      rows.push([depth, node.kind, node.name ?? "", node.attrs ?? "", node.text ?? "", references].join("\0") + "\n")
+      for (const kid of (node.kids ?? []).toReversed()) todo.push([depth + 1, kid])
+    }
+    const sum = await crypto.subtle?.digest("SHA-256", new TextEncoder().encode(rows.join("")))
+    return sum ? [...new Uint8Array(sum)].map((byte) => byte.toString(16).padStart(2, "0")).join("") : ""
+  }
+
+  at(path) {
+    return path.reduce((node, at) => node?.kids?.[at], this.top)
   }
 
   // A node that is told by its number, or one that is new, round nodes that are told by theirs.
@@ -77,16 +144,6 @@ export class Tree {
     }
     node.size = 1 + sizeOf(kids ? node.kids : [])
     return node
-  }
-
-  // Where a place in a text is behind the changes that cut it or made it one with others.
-  follow([kid, unit]) {
-    let place = [kid, unit]
-    for (const { number, from, to, id, at } of this.pieced) {
-      const [node, here] = place
-      if (node?.id === number && here >= from && here <= to) place = [this.nodes.get(id), at + here - from]
-    }
-    return place
   }
 
   // The text of units of other texts.
@@ -137,9 +194,28 @@ function sizeOf(nodes) {
   return size
 }
 
+function put(mark, owner, kid, unit) {
+  Object.assign(mark, { owner, kid, unit })
+}
+
+// Where a node stands, by the numbers of kids from the document node on.
+const pathOf = (node) => (node.owner ? [...pathOf(node.owner), node.owner.kids.indexOf(node)] : [])
+
+// The unit of a text that stands for that of another, in whose place it is.
+function unitAcross(old, now, unit) {
+  const [before, after] = [lengthOf(old), lengthOf(now)]
+  const most = Math.min(before, after)
+  let front = 0
+  while (front < most && unitAt(old, front) === unitAt(now, front)) front += 1
+  if (unit <= front) return unit
+  let rest = 0
+  while (rest < most - front && unitAt(old, before - rest - 1) === unitAt(now, after - rest - 1)) rest += 1
+  return before - unit <= rest ? after - (before - unit) : after - rest
+}
+
 // A text's units are its characters; one outside the plane has two of the places that strings count.
 const unitsOf = (node) => (node.units ??= /[\ud800-\udfff]/.test(node.text) ? [...node.text] : node.text)
-export const lengthOf = (node) => unitsOf(node).length
+export const lengthOf = (node) => (node.text === undefined || node.kind !== "text" ? 1 : unitsOf(node).length)
 export const unitAt = (node, at) => unitsOf(node)[at]
 export function sliceOf(node, from, to) {
   const units = unitsOf(node)

@@ -2,6 +2,7 @@
 
     fixture   a server on a document in a folder of its own, and what the tests of its requests share with those of the page
     browser   a window of a headless browser, as a user handles it
+    keys      what keys reach, whatever is asked for meanwhile
     markup    marking up by mouse and keyboard
     offers    what is offered and refused, and what is missing
     texts     texts and attributes, the same tag again, and finding

@@ -75,11 +75,13 @@ def begun(options):
 class Page:
     """A window of the browser, as a user handles it."""
 
-    def __init__(self, driver, url):
+    def __init__(self, driver, url, unlocked=False):
         self.driver = driver
         driver.get(url)
         self.window = driver.current_window_handle
         soon(lambda: self.js("return document.getElementById('next').textContent"), lambda text: text != "…", "the page opens")
+        if unlocked:
+            self.js("document.getElementById('lock').click()")
 
     def js(self, code, *words):
         return self.driver.execute_script(code, *words)
@@ -151,6 +153,7 @@ class Page:
 
     def open_menu(self):
         soon(lambda: self.menu() is not None and self.find("#menu h2").text, lambda name: name, "the menu opens")
+        soon(lambda: self.js("return document.getElementById('menu').ariaBusy"), "false", "its rows come")
         return self.menu()
 
     def take(self, text):
@@ -190,11 +193,11 @@ class Page:
         """The choices of the menu with their notes, each behind the name of its group."""
         return self.js(NOTES)
 
-    def type(self, text):
+    def type(self, *keys):
         """Types where the caret stands, and waits until all of it is made."""
         version = self.version()
-        self.keys(text)
-        soon(lambda: self.version() > version and self.js(SETTLED), True, f"{text!r} is typed")
+        self.keys(*keys)
+        soon(lambda: self.version() > version and self.js(SETTLED), True, f"{keys!r} is typed")
 
     def written(self):
         """The document as boxes, written as tags."""

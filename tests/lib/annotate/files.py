@@ -1,4 +1,6 @@
 """The page of `clients/annotate`: its files, and what a window says of them. Cases of `annotate.py`."""
+import os
+
 from lib.beside import WIDE, Beside
 from .browser import Page
 from .fixture import ARTICLE, Server, need, same, soon
@@ -29,6 +31,45 @@ def saves_beside(driver, program):
         soon(lambda: page.find("#beside").is_displayed(), True, "and again")
         page.keys("mine.xml", Keys.ENTER)
         soon(page.tell, "mine.xml is there already", "nothing is written over")
+
+
+def asks_how_to_save(driver, program):
+    """A document that has another name isn't replaced unasked: it is written into, replaced, or written to another file."""
+    with Server(program, LETTER) as server:
+        os.link(server.doc, server.path("other.xml"))
+        page = Page(driver, server.url)
+        page.wrap("place", "Delft")
+        page.keys(Keys.CONTROL, "s")
+        soon(lambda: page.find("#ways").is_displayed(), True, "it is asked")
+        need("1 more name" in page.find("#ways .about").text, "why")
+        same(page.texts("#ways .choices button:not([hidden])"), ["Write into the file that is there", "Put another file in its place", "Save as another file"], "the ways")
+        page.find("#ways .close").click()
+        same((server.text(), page.find("#save").text), (LETTER, "Save"), "nothing is written")
+        page.keys(Keys.CONTROL, "s")
+        soon(lambda: page.find("#ways").is_displayed(), True, "it is asked again")
+        page.find("#ways button[value=into]").click()
+        soon(lambda: page.find("#save").text, "Saved", "it is written")
+        same(server.text(), server.text("other.xml"), "under both names")
+        page.wrap("date", "met")
+        page.keys(Keys.CONTROL, "s")
+        soon(lambda: page.find("#ways").is_displayed(), True, "and again")
+        page.find("#ways button[value=replace]").click()
+        soon(lambda: page.find("#save").text, "Saved", "it is written")
+        need("<date>" in server.text() and "<date>" not in server.text("other.xml"), "another file in its place")
+
+
+def saves_what_it_shows(driver, program):
+    """A window that shows another document than the one to be saved is drawn anew, and nothing is written."""
+    with Server(program, LETTER) as server:
+        page = Page(driver, server.url)
+        page.wrap("place", "Delft")
+        page.js("return import('./app.js').then(({ app }) => { [...app.tree.all()].find(({ text }) => text === 'Delft').text = 'Delf' })")
+        page.keys(Keys.CONTROL, "s")
+        soon(page.tell, lambda text: "isn't the document" in text, "it is told")
+        same((server.text(), page.find("#save").text), (LETTER, "Save"), "nothing is written")
+        page.keys(Keys.CONTROL, "s")
+        soon(lambda: page.find("#save").text, "Saved", "drawn anew, it is saved")
+        need("<place>Delft</place>" in server.text(), "the document")
 
 
 def asks_before_it_closes(driver, program):
@@ -84,4 +125,4 @@ def counts_wide_lists(driver, program):
             soon(lambda: page.find("#completed h2").text, lambda text: "Valid with 2 new elements; fewer may do." in text, "the preview")
 
 
-CASES = [saves_beside, asks_before_it_closes, goes_on_behind_dialogs, names_wide_lists, counts_wide_lists]
+CASES = [saves_beside, asks_how_to_save, saves_what_it_shows, asks_before_it_closes, goes_on_behind_dialogs, names_wide_lists, counts_wide_lists]

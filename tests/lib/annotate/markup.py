@@ -219,7 +219,7 @@ def keeps_windows_together(driver, program):
         # What another browser does, a window hears of when it asks for something; then it does nothing but catch up.
         page.click_text("his")
         version = page.version()
-        server.ask("undo", {"version": version})
+        server.ask("undo", {"version": version, "window": "other"})
         page.keys(Keys.CONTROL, "z")
         soon(page.tell, lambda text: "another window" in text, "a window that is behind is told so")
         same((page.moves(), page.version()), (0, version + 1), "it has caught up")

@@ -12,14 +12,14 @@ ATTLISTS = """<!ELEMENT doc (#PCDATA|q)*><!ENTITY % who "who CDATA #REQUIRED">
 def types_text(driver, program):
     """A caret, typing, deleting, line breaks, and what is typed in one go is one move."""
     with Server(program, LETTER) as server:
-        page = Page(driver, server.url)
+        page = Page(driver, server.url, unlocked=True)
         before = page.written()
         # All of it is typed in one go, however slow the machine is.
         page.js("const now = performance.now(); performance.now = () => now")
         page.click_text("have")
         page.type("now & ")
         page.type("then")
-        page.type(Keys.ENTER)
+        page.type(Keys.SHIFT, Keys.ENTER)
         page.type("I ")
         need("<p>I now & then\nI have met" in page.written(), f"what was typed: {page.written()}")
         page.type(Keys.BACKSPACE)
@@ -63,7 +63,7 @@ def compose(page, *steps):
 def types_by_keyboards(driver, program):
     """Dead keys, input methods, and what a phone's keyboard corrects."""
     with Server(program, LETTER) as server:
-        page = Page(driver, server.url)
+        page = Page(driver, server.url, unlocked=True)
         page.click_text("Adams")
         compose(page, "´", "é")
         soon(lambda: "met Mr éAdams" in page.written(), True, "a dead key")
@@ -109,7 +109,7 @@ def types_by_keyboards(driver, program):
 def keeps_the_caret(driver, program):
     """Behind a move, an undo and a menu the caret stands where it did, and keys go on from there."""
     with Server(program, LETTER) as server:
-        page = Page(driver, server.url)
+        page = Page(driver, server.url, unlocked=True)
         page.wrap("person", "Mr Adams")
         page.type("on")
         soon(lambda: "<person>Mr Adamson</person>" in page.written(), True, "behind what was tagged")
@@ -138,7 +138,7 @@ def keeps_the_caret(driver, program):
         page.keys(Keys.SHIFT, Keys.ARROW_LEFT)
         soon(lambda: page.js("return import('./choose.js').then(({ chosen }) => chosen().run).then(({ from, to }) => to[1] - from[1])"), 3, "Shift goes on with the selection")
     with Server(program, "<doc><head>H</head><sec><p>ab<em>c</em>d</p></sec></doc>", ARTICLE, "doc") as server:
-        page = Page(driver, server.url)
+        page = Page(driver, server.url, unlocked=True)
         page.click_text("ab")
         page.type(Keys.DELETE)
         page.type(Keys.DELETE)
@@ -148,7 +148,7 @@ def keeps_the_caret(driver, program):
 
 def pastes_text(driver, program):
     with Server(program, LETTER) as server:
-        page = Page(driver, server.url)
+        page = Page(driver, server.url, unlocked=True)
         page.click_text("lives")
         paste = """
         const data = new DataTransfer()
@@ -193,7 +193,7 @@ def edits_attributes(driver, program):
 
         form()
         need("who (CDATA, required), kind ((said | written))" in page.find("#attributes .about").text, "what the DTD declares")
-        same(page.texts("#attributes td:last-child .note"), ["not declared"], "what it doesn't")
+        same(page.texts("#attributes td:last-child .note"), ["required", "not declared"], "what it requires, and doesn't declare")
         page.find("#attributes .add").click()
         page.keys("who", Keys.TAB, "Anna & \"Tom\" <")
         page.find("#attributes .set").click()
@@ -243,7 +243,7 @@ def tags_again(driver, program):
         page.wrap("place", "Delft")
         page.keys(Keys.SHIFT, Keys.F4)
         soon(lambda: page.find("#everywhere").is_displayed(), True, "the places of the same text")
-        same(page.texts("#everywhere mark"), ["Delft"] * 3, "each that has no such tag")
+        soon(lambda: page.texts("#everywhere mark"), ["Delft"] * 3, "each that has no such tag")
         same([box.is_selected() for box in page.all("#everywhere input")], [True, False, True], "a part of a word is left out")
         need("is fine" in page.texts("#everywhere .context")[0], "with what stands beside it")
         page.all("#everywhere input")[1].click()
@@ -260,7 +260,7 @@ def finds(driver, program):
     """In the whole document, of which only what is in sight is drawn; its ends; its elements by name."""
     sections = "".join(f"<sec><title>Part {k}</title><p>Text of <em>part</em> {k}, long.</p></sec>" for k in range(3000))
     with Server(program, f"<doc><head>Big</head>{sections}</doc>", ARTICLE, "doc") as server:
-        page = Page(driver, server.url)
+        page = Page(driver, server.url, unlocked=True)
         page.keys(Keys.CONTROL, "f")
         page.keys("of part 2717")
         soon(lambda: page.find("#finder output").text, "1 of 1", "a text over tags, far away")

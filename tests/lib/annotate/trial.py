@@ -90,10 +90,10 @@ class User:
         self.page.keys(Keys.ESCAPE)
         self.done(moves)
 
-    def type(self, before, text):
+    def type(self, before, *keys):
         """Types before these words."""
         self.page.click_text(before)
-        self.page.type(text)
+        self.page.type(*keys)
         self.steps += 1
 
     def everywhere(self, count):
@@ -101,7 +101,7 @@ class User:
         moves = self.page.moves()
         self.page.keys(Keys.SHIFT, Keys.F4)
         soon(lambda: self.page.find("#everywhere").is_displayed(), True, "the places")
-        same(len(self.page.texts("#everywhere li")), count, "so many places")
+        soon(lambda: len(self.page.texts("#everywhere li")), count, "so many places")
         self.page.find("#everywhere .tag-all").click()
         self.done(moves + 1)
 
@@ -244,7 +244,7 @@ def finish(user):
     user.type("Pieter", "his brother ")
     user.preview("Valid with 1 new element")
     user.find("know why")
-    user.type("why.", Keys.ENTER)
+    user.type("why.", Keys.SHIFT, Keys.ENTER)
     user.missing("teiHeader")
     page.find("#document .list.nothing").click()
     page.type("Jan")
@@ -257,7 +257,7 @@ def finishes_a_letter(driver, program):
         server.write(PLAIN, "plain.txt")
         server.words[2] = server.path("letter.dtd")
         server.start("--from", server.path("plain.txt"))
-        user = User(Page(driver, server.url))
+        user = User(Page(driver, server.url, unlocked=True))
         tag_the_frame(user)
         tag_the_names(user)
         finish(user)

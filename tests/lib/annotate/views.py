@@ -126,7 +126,7 @@ def fits_a_phone(driver, program):
     narrow(driver)
     driver.execute_cdp_cmd("Emulation.setTouchEmulationEnabled", {"enabled": True})
     with Server(program, LETTER.replace("<closer>Yours</closer>", "")) as server:
-        page = Page(driver, server.url)
+        page = Page(driver, server.url, unlocked=True)
         soon(page.status, lambda text: text.startswith("1 element missing"), "what leads")
         tops = page.js("return [...document.querySelectorAll('body > header > *')].map((each) => each.getBoundingClientRect()).filter(({ width }) => width).map(({ top, bottom }) => (top + bottom) / 2 | 0)")
         need(max(tops) - min(tops) <= 2, f"the head is one row: {tops}")
