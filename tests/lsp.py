@@ -7,11 +7,15 @@ ends with 1 where one failed.
 import os
 import re
 import sys
+import tempfile
 
 sys.dont_write_bytecode = True
+sys.path.insert(0, os.path.join(os.path.dirname(os.path.dirname(os.path.abspath(__file__))), "clients"))
 
 from lib.lsp_client import CAPABILITIES, DRAFT, EXAMPLES, LETTER, URI, Client  # noqa: E402
-from lib.lsp_client import codes, edited, edits_of, finished, need, run_cases, same, uri_of  # noqa: E402
+from lib.lsp_client import at, codes, edited, edits_of, finished, need, run_cases, same, uri_of  # noqa: E402
+from lib.waiting import until  # noqa: E402
+from pvtag.attributes import python_with_lxml  # noqa: E402
 
 
 # Diagnostics.
@@ -28,7 +32,7 @@ def tells_what_is_missing(program):
         need("1 element is missing" in count["message"], count["message"])
         start = DRAFT.index("Dear")
         client.change(URI, start, start, "<salute>")
-        same(codes(client.diagnostics(URI)), ["fault"], "half a change")
+        same(codes(client.diagnostics(URI)), ["fault", "missing", "possible"], "half a change")
         end = client.documents[URI][0].index("</opener>")
         client.change(URI, end, end, "</salute>")
         same(client.diagnostics(URI), [], "a valid document")
@@ -56,7 +60,27 @@ def tells_what_stands_in_the_way(program):
         same(list(client.actions(URI, (60, 60), ["quickfix"])), [], "nothing is to be inserted")
         client.open(URI, f"{LETTER}<letter><opener/><body>{'<p><zz/></p>' * 60}</body></letter>", 2)
         told = client.diagnostics(URI, lambda told: "isn't declared" in told[0]["message"])
-        same(codes(told), ["impossible"] * 50 + ["more", "possible"], "the first of many lists")
+        same(codes(told), ["impossible"] * 25 + ["more", "possible"], "the first of many lists, each name once")
+
+
+def keeps_what_was_told(program):
+    """While a tag is half typed, what was told stays at its place, and the fault stands beside it."""
+    with Client(program) as client, open(os.path.join(EXAMPLES, "letter-swapped.xml"), encoding="utf-8") as file:
+        text = LETTER + file.read()
+        client.open(URI, text)
+        before = client.diagnostics(URI, lambda told: told and "(line 3)" in told[0]["message"])
+        place = text.index("<opener>")
+        client.change(URI, place, place, "<!-- a line\n and more --><")
+        now = client.diagnostics(URI)
+        same(codes(now), ["fault", "impossible", "impossible"], "half a tag")
+        others = [each for each in now if each["code"] == "impossible"]
+        same([each["range"]["start"]["line"] for each in others], [each["range"]["start"]["line"] + 1 for each in before], "their lines")
+        need("(line 4)" in others[0]["message"], others[0]["message"])
+        same(others[0]["relatedInformation"][0]["location"]["range"], others[1]["range"], "the other kid")
+        # What stood in a part that is gone is told no more.
+        place = client.documents[URI][0].index("<closer>")
+        client.change(URI, place, place + 8, "<")
+        same(codes(client.diagnostics(URI)), ["fault", "impossible"], "a tag that is gone")
 
 
 def tells_faults(program):
@@ -64,7 +88,7 @@ def tells_faults(program):
         for number, (text, line, character) in enumerate(
             (
                 ("<letter><opener></letter>", 1, 16),
-                ("<letter>&nbsp;</letter>", 1, 8),
+                ("<letter>&;</letter>", 1, 8),
                 ("<letter>", 1, 8),
                 ("<letter></letter></letter>", 1, 17),
             )
@@ -75,6 +99,65 @@ def tells_faults(program):
             same((codes(told), told[0]["range"]["start"]), (["fault"], {"line": line, "character": character}), text)
         client.open(URI, "<!DOCTYPE letter SYSTEM 'letter.dtd'>\n" + "<letter>" * 513)
         same(codes(client.diagnostics(URI)), ["fault"], "513 elements in one another")
+
+
+# Attributes, entities and subsets.
+STRICT = """<!ATTLIST letter id ID #REQUIRED lang NMTOKEN "en" kind (private|business) #REQUIRED>
+<!ATTLIST p rend (italic|plain) "plain" n NMTOKEN #IMPLIED><!ATTLIST person key IDREF #IMPLIED>"""
+WITH_SUBSET = """<!DOCTYPE letter SYSTEM "strict.dtd" [
+<!ENTITY me "Anna"> <!-- ]> -->
+]>
+<letter id="a" kind="private"><opener><salute>Dear &me;</salute></opener><body><p>&me; and &none;</p></body></letter>
+"""
+
+
+def tells_attributes(program):
+    if python_with_lxml() is None:
+        print("skipped: attributes (no lxml, package python3-lxml)")
+        return
+    with tempfile.TemporaryDirectory() as folder, Client(program) as client:
+        with open(os.path.join(EXAMPLES, "letter.dtd"), encoding="utf-8") as file, open(f"{folder}/strict.dtd", "w", encoding="utf-8") as strict:
+            strict.write(file.read() + STRICT)
+        uri, front = uri_of("a.xml", folder), '<!DOCTYPE letter SYSTEM "strict.dtd">\n'
+        body = "<opener><salute>Dear</salute></opener><body><p rend='itallic'>I</p><p/><p n='1'><person key='b'/></p></body></letter>"
+        text = f"{front}<letter id='a' >{body}"
+        client.open(uri, text)
+        told = client.diagnostics(uri, bool)
+        same(codes(told), ["attribute"] * 3, "missing and wrong")
+        messages = [(each["severity"], each["range"]["start"]["character"], each["message"]) for each in told]
+        need("lacks the attribute `kind`" in messages[0][2] and messages[0][:2] == (2, 1), messages)
+        need("Most like it" not in messages[1][2] and "must be `italic` or `plain`" in messages[1][2] and messages[1][0] == 1, messages)
+        need("refers to the ID `b`" in messages[2][2], messages)
+        # Names: those that are missing in the tag, required ones first; values; IDs.
+        same(client.labels(uri, text.index(" >") + 1), ["kind", "lang"], "names")
+        for piece, place, wanted in (
+            (' kind="', text.index(" >"), ["private", "business"]),
+            (' lang="', text.index(" >"), ["en"]),
+            (" r", text.index("<p/>") + 2, ["rend", "n"]),
+        ):
+            client.change(uri, place, place, piece)
+            same(client.labels(uri, place + len(piece)), wanted, piece)
+            client.change(uri, place, place + len(piece), "")
+        same(client.labels(uri, text.index("'b'") + 2), ["a"], "IDs")
+        place = text.index("rend=") + 2
+        value = client.ask("textDocument/hover", client.about(uri, place))["contents"]["value"]
+        need('(italic | plain) "plain"' in value and "`italic` or `plain`" in value, value)
+        value = client.ask("textDocument/hover", client.about(uri, text.index("<letter") + 3))["contents"]["value"]
+        need("Attributes: required " in value and "`kind`" in value, value)
+        # A subset and entities.
+        client.open(uri, WITH_SUBSET, 2)
+        told = client.diagnostics(uri, bool)
+        same([(each["code"], each["range"]["start"]) for each in told], [("entity", {"line": 3, "character": WITH_SUBSET.splitlines()[3].index("&none;")})], "an entity that isn't declared")
+        client.open(uri, WITH_SUBSET.replace(" and &none;", "<salute>&me;</salute>"), 3)
+        told = client.diagnostics(uri, lambda told: told and "`salute`" in told[0]["message"])
+        column = WITH_SUBSET.splitlines()[3].index(" and &none;")
+        same((codes(told), told[0]["range"]["start"]), (["impossible"], {"line": 3, "character": column}), "a place behind a subset")
+        client.open(uri, WITH_SUBSET.replace("<salute>Dear &me;</salute>", "&me; &me;").replace(" and &none;", ""), 4)
+        same(codes(client.diagnostics(uri, finished)), ["missing", "possible"], "elements that are missing")
+        # Under a DTD that declares none, one diagnostic says it of all.
+        client.open(URI, DRAFT.replace("<p>", "<p a='b' c='d'>"))
+        told = client.diagnostics(URI, lambda told: "attribute" in codes(told))
+        same((codes(told), [each["severity"] for each in told if each["code"] == "attribute"]), (["attribute", "missing", "possible"], [3]), "no ATTLIST")
 
 
 def ends_older_work(program):
@@ -108,14 +191,14 @@ def completes(program):
         for piece in ("<", "<sa", "<p"):
             client.change(URI, place, place, piece)
             same(
-                client.labels(URI, place + len(piece)),
-                ["dateline", "place", "date", "salute"],
+                sorted(client.labels(URI, place + len(piece))),
+                ["date", "dateline", "place", "salute"],
                 f"before the text, behind {piece}",
             )
             client.change(URI, place, place + len(piece), "")
         end = DRAFT.index("</opener>")
         client.change(URI, end, end, "<")
-        same(client.labels(URI, end + 1), ["place", "date", "salute"], "behind the text")
+        same(sorted(client.labels(URI, end + 1)), ["date", "place", "salute"], "behind the text")
         client.change(URI, end, end + 1, "</")
         same(client.labels(URI, end + 2), ["opener"], "an end tag")
         client.change(URI, end, end + 2, "")
@@ -138,7 +221,7 @@ def completes_what_was_chosen(program):
                 each["label"]: each
                 for each in client.ask("textDocument/completion", client.about(URI, place + 1))["items"]
             }
-            same([*items], ["place", "date", "person", "lb"], "in a paragraph")
+            same(sorted(items), ["date", "lb", "person", "place"], "in a paragraph")
             same(edited(text, [items["lb"]["textEdit"]]), DRAFT.replace("met", "<lb/>met"), f"EMPTY behind {piece}")
             same(
                 edited(text, [items["person"]["textEdit"]]),
@@ -151,6 +234,53 @@ def completes_what_was_chosen(program):
         need("salute" in items, f"other names for a tag: {[*items]}")
         changed = edited(DRAFT, [items["salute"]["textEdit"], *items["salute"]["additionalTextEdits"]])
         same(changed, DRAFT.replace("opener>", "salute>"), "both tags")
+
+
+def orders_names(program):
+    """What the model allows directly comes first, by use below the same parent, then what needs more elements."""
+    text = DRAFT.replace("<p>I have", "<p><date>May</date><date>June</date><place>Delft</place>I have")
+    with Client(program) as client:
+        client.open(URI, text)
+        client.diagnostics(URI, finished)
+
+        def labels(place):
+            items = client.ask("textDocument/completion", client.about(URI, place))["items"]
+            items.sort(key=lambda each: each["sortText"])
+            return [(each["label"], each.get("detail", "").split(" ")[0]) for each in items]
+
+        start = text.index("met Mr")
+        client.change(URI, start, start, "<")
+        # What is known after a request on a busy machine is used by the next one.
+        wanted = ["date", "place", "person", "lb"]
+        need(until(lambda: [name for name, _ in labels(start + 1)] == wanted), f"by use: {labels(start + 1)}")
+        client.change(URI, start, start + 1, "")
+        start = text.index("Dear")
+        client.change(URI, start, start, "<")
+        found = until(lambda: (found := labels(start + 1))[0][0] == "salute" and found)
+        need(found and dict(found)["place"] == "+1", f"what is missing: {labels(start + 1)}")
+
+
+def asks_for_one_of_many(program):
+    """Of more than 20 wraps the others are asked for."""
+    capabilities = CAPABILITIES | {"workspace": {"workspaceEdit": {"documentChanges": True}, "applyEdit": True}}
+    with tempfile.TemporaryDirectory() as folder, Client(program, capabilities) as client:
+        names = [f"n{number}" for number in range(30)]
+        with open(f"{folder}/many.dtd", "w", encoding="utf-8") as file:
+            file.write(f"<!ELEMENT a (#PCDATA|{'|'.join(names)})*>" + "".join(f"<!ELEMENT {name} (#PCDATA)>" for name in names))
+        uri, text = uri_of("many.xml", folder), "<!DOCTYPE a SYSTEM 'many.dtd'>\n<a>one two</a>\n"
+        client.open(uri, text)
+        client.diagnostics(uri)
+        start = text.index("one")
+        actions = client.actions(uri, (start, start + 3), ["refactor"])
+        same([len(actions), [*actions][-1]], [21, "Wrap in… (30 names)"], "actions")
+        number = client.begin("workspace/executeCommand", actions["Wrap in… (30 names)"]["command"])
+        asked = client.wait(lambda each: each.get("method") == "window/showMessageRequest", "a question")
+        same(sorted(each["title"] for each in asked["params"]["actions"]), sorted(f"<{name}>" for name in names), "all names")
+        client.send({"jsonrpc": "2.0", "id": asked["id"], "result": {"title": "<n29>"}})
+        applied = client.wait(lambda each: each.get("method") == "workspace/applyEdit", "an edit")
+        client.send({"jsonrpc": "2.0", "id": applied["id"], "result": {"applied": True}})
+        same(edited(text, edits_of(applied["params"]["edit"])), text.replace("one", "<n29>one</n29>"), "the wrap")
+        same(client.answer(number)["result"], None, "the answer")
 
 
 def completes_while_typing(program):
@@ -174,7 +304,7 @@ def wraps(program):
         client.diagnostics(URI, finished)
         start = DRAFT.index(" Mr Adams ")
         actions = client.actions(URI, (start, start + 10), ["refactor"])
-        same([*actions], [f"Wrap in <{name}>" for name in ("place", "date", "person")], "what is offered")
+        same(sorted(actions), [f"Wrap in <{name}>" for name in ("date", "person", "place")], "what is offered")
         changed = edited(DRAFT, edits_of(actions["Wrap in <person>"]["edit"]))
         same(changed, DRAFT.replace("Mr Adams", "<person>Mr Adams</person>"), "blanks are left out")
         same(
@@ -217,6 +347,44 @@ def changes_tags(program):
             ],
             "at an end tag",
         )
+
+
+def mends_lists(program):
+    """In a list that is impossible the names are those that it has room for, and moves that mend it are quick fixes."""
+    text = DRAFT.replace("<p>I have met", "<p>I <para>have</para> met")
+    with Client(program) as client:
+        client.open(URI, text)
+        told = client.diagnostics(URI, lambda told: any("isn't declared" in each["message"] for each in told))
+        start = text.index("I <para")
+        client.change(URI, start, start, "<")
+        same(sorted(client.labels(URI, start + 1)), ["date", "lb", "person", "place"], "names beside what stands in the way")
+        client.change(URI, start, start + 1, "")
+        same(sorted(client.labels(URI, text.index("<para") + 4)), ["date", "person", "place"], "other names")
+        place = text.index("<para>")
+        names = ("place", "date", "person")
+        fixes = ["Unwrap <para>", *(f"Rename to <{name}>" for name in names)]
+        for span in ((place + 1, place + 1), (place, place + 6)):
+            found = client.actions(URI, span, ["quickfix"])
+            same(sorted(found), sorted(fixes), "quick fixes")
+            same({each["kind"] for each in found.values()}, {"quickfix"}, "their kind")
+            same([*client.actions(URI, span, ["refactor"])], [], "nothing else is of use")
+        error = next(each for each in told if each["code"] == "impossible")
+        params = client.about(URI, span=(place, place + 6), context={"diagnostics": [error], "only": ["quickfix"]})
+        actions = client.ask("textDocument/codeAction", params)
+        need(all(each["diagnostics"] == [error] for each in actions), "the error that they mend")
+        changed = edited(text, edits_of(next(each for each in actions if each["title"] == fixes[0])["edit"]))
+        same(changed, DRAFT, "unwrapped")
+        start = text.index("Mr Adams")
+        same(sorted(client.actions(URI, (start, start + 8), ["refactor"])), sorted(f"Wrap in <{name}>" for name in names), "a wrap")
+        # A kid that has a place elsewhere.
+        with open(os.path.join(EXAMPLES, "letter-swapped.xml"), encoding="utf-8") as file:
+            text = LETTER + file.read()
+        client.open(URI, text, 9)
+        place = text.index("<closer>") + 1
+        found = client.actions(URI, (place, place), ["quickfix"])
+        need("Move <closer> after <body>" in found, [*found])
+        client.open(URI, edited(text, edits_of(found["Move <closer> after <body>"]["edit"])), 10)
+        need("impossible" not in codes(client.diagnostics(URI)), "moved")
 
 
 def inserts_what_is_missing(program):
@@ -311,6 +479,83 @@ def renames(program):
         )
 
 
+# Where things are.
+DTD = """<!-- <!ELEMENT b EMPTY> -->
+<!ENTITY % more SYSTEM "more.mod"> %more;
+<!ELEMENT a (b|c)*>
+<!ELEMENT c EMPTY>
+"""
+
+
+def place_of(text, piece):
+    line = text[: text.index(piece)].count("\n")
+    return {"line": line, "character": len(text[: text.index(piece)]) - text[: text.index(piece)].rfind("\n") - 1}
+
+
+def defines(program):
+    """A name's declaration, in the DTD's file or in a module of it."""
+    with tempfile.TemporaryDirectory() as folder, Client(program) as client:
+        for name, text in (("a.dtd", DTD), ("more.mod", "<!-- -->\n<!ELEMENT b (c)>")):
+            with open(os.path.join(folder, name), "w", encoding="utf-8") as file:
+                file.write(text)
+        uri, text = uri_of("d.xml", folder), "<!DOCTYPE a SYSTEM 'a.dtd'>\n<a><b><c/></b><b/></a>"
+        client.open(uri, text)
+        found = client.ask("textDocument/definition", client.about(uri, text.index("<c/>") + 1))
+        if found is None:
+            print("skipped: definitions in modules (no lxml, package python3-lxml)")
+            return
+        same((found["uri"], found["range"]["start"]), (uri_of("a.dtd", folder), {"line": 3, "character": 10}), "a file")
+        found = client.ask("textDocument/definition", client.about(uri, text.index("</b>") + 3))
+        same((found["uri"], found["range"]["start"]), (uri_of("more.mod", folder), {"line": 1, "character": 10}), "a module")
+        same(client.ask("textDocument/definition", client.about(uri, 1)), None, "no tag")
+
+
+def refers(program):
+    """Other elements of a name, both tags of one, what folds, what is selected, what is linked to."""
+    text = LETTER + "<letter>\n<body>\n<p>One</p>\n<!-- two\nlines --><p>Two</p>\n</body>\n</letter>\n"
+    with Client(program) as client:
+        client.open(URI, text)
+        about = client.about(URI, text.index("<p>") + 1, context={"includeDeclaration": False})
+        found = client.ask("textDocument/references", about)
+        same([each["range"]["start"] for each in found], [{"line": 3, "character": 1}, {"line": 5, "character": 10}], "references")
+        about = client.about(URI, text.index("<p>") + 1, context={"includeDeclaration": True})
+        same(len(client.ask("textDocument/references", about)), 3, "the declaration too")
+        found = client.ask("textDocument/documentHighlight", client.about(URI, text.index("</body>") + 3))
+        same([each["range"]["start"] for each in found], [{"line": 2, "character": 1}, {"line": 6, "character": 2}], "both tags")
+        same(client.ask("textDocument/documentHighlight", client.about(URI, text.index("Two"))), [], "a text")
+        found = client.ask("textDocument/foldingRange", {"textDocument": {"uri": URI}})
+        lines = sorted((each["startLine"], each["endLine"], each.get("kind")) for each in found)
+        same(lines, [(1, 6, None), (2, 5, None), (4, 5, "comment")], "what folds")
+        place = place_of(text, "One")
+        (found,) = client.ask("textDocument/selectionRange", {"textDocument": {"uri": URI}, "positions": [place]})
+        pieces = []
+        while found:
+            start, end = (at(text, found["range"][side]) for side in ("start", "end"))
+            pieces.append(text[start:end])
+            found = found.get("parent")
+        same(pieces[:2], ["One", "<p>One</p>"], "the text, the element")
+        same((len(pieces), pieces[-1]), (7, text), "all up to the document")
+        need(all(one in other for one, other in zip(pieces, pieces[1:])), pieces)
+        text = "<?xml-model href='article.dtd'?>\n" + text
+        client.open(URI, text, 5)
+        found = client.ask("textDocument/documentLink", {"textDocument": {"uri": URI}})
+        same([each["target"] for each in found], [uri_of("article.dtd"), uri_of("letter.dtd")], "links")
+        same(found[1]["range"]["start"], place_of(text, "letter.dtd"), "where one is")
+        provided = client.told["capabilities"]
+        need("documentFormattingProvider" not in provided, "nothing is formatted")
+
+
+def tells_what_is_no_xml(program):
+    """Without a DTD: whether the text is well-formed."""
+    with Client(program) as client:
+        client.open(URI, "<a>\n<b></a>")
+        (told,) = client.diagnostics(URI)
+        same((told["code"], told["range"]["start"]["line"]), ("fault", 1), "a tag that isn't closed")
+        client.change(URI, 7, 7, "</b>")
+        same(client.diagnostics(URI), [], "it is")
+        same([each for each in client.aside if each.get("method") == "window/showMessage"], [], "no message")
+
+
 # Positions.
 def counts_positions(program):
     """Characters outside the BMP, all line ends, UTF-16 and UTF-8; all other bytes stay."""
@@ -377,16 +622,24 @@ def takes_changes_in_order(program):
 CASES = [
     tells_what_is_missing,
     tells_what_stands_in_the_way,
+    keeps_what_was_told,
     tells_faults,
+    tells_attributes,
     ends_older_work,
     completes,
     completes_what_was_chosen,
+    orders_names,
+    asks_for_one_of_many,
     completes_while_typing,
     wraps,
     changes_tags,
+    mends_lists,
     inserts_what_is_missing,
     makes_pairs_of_short_tags,
     shows,
+    defines,
+    refers,
+    tells_what_is_no_xml,
     renames,
     counts_positions,
     takes_changes_in_order,

@@ -57,6 +57,9 @@ class Case:
         need("fault" not in told, told.get("fault"))
         need(self.chosen in told["labels"], f"what may stand here: {told['labels']}")
         same(told["completed"], self.text.replace(self.typed, self.tags + self.typed), "completed")
+        if "within" in told:
+            within = self.typed[:2] + self.tags + self.typed[2:]
+            same(told["within"], self.text.replace(self.typed, within), "completed in the middle of a word")
         same(
             told["wrapped"], self.text.replace(self.piece, f"<{self.wrapper}>{self.piece}</{self.wrapper}>"), "wrapped"
         )
@@ -142,6 +145,49 @@ def run(editor, case, program, seconds):
         shutil.rmtree(folder)
 
 
+def one_server_a_folder(program, seconds):
+    """What docs/EDITORS.md says for Neovim: one server for each folder, which XHTML goes to as well."""
+    with open(os.path.join(TOP, "docs", "EDITORS.md"), encoding="utf-8") as page:
+        snippet = page.read().partition("```lua\n")[2].partition("```")[0]
+    folder = tempfile.mkdtemp()
+    try:
+        texts = {
+            "init.lua": snippet,
+            "pvtag-lsp": f"#!/bin/sh\nexec '{sys.executable}' '{SERVER}' --program '{program}'\n",
+            "one.xml": CASES[0].text,
+            "two.xml": CASES[0].text,
+            "three.xhtml": CASES[0].text,
+            "count.lua": COUNT % (1000 * seconds),
+        }
+        for name, text in texts.items():
+            with open(os.path.join(folder, name), "w", encoding="utf-8") as out:
+                out.write(text)
+        os.chmod(os.path.join(folder, "pvtag-lsp"), 0o755)
+        words = ["nvim", "--clean", "--headless", "-n", "-c", "luafile init.lua", "-c", "luafile count.lua"]
+        environment = os.environ | {"HOME": folder, "PATH": f"{folder}:{os.environ['PATH']}"}
+        subprocess.run(words, env=environment, cwd=folder, stdin=subprocess.DEVNULL, capture_output=True, timeout=20 * seconds)
+        with open(os.path.join(folder, "told"), encoding="utf-8") as told:
+            same(told.read().split(), ["1", "3"], "servers, and documents that they have")
+    finally:
+        shutil.rmtree(folder)
+
+
+COUNT = """
+local ok, fault = pcall(function()
+  for _, name in ipairs({ 'one.xml', 'two.xml', 'three.xhtml' }) do vim.cmd('edit ' .. name) end
+  local function documents()
+    local count = 0
+    for _, each in pairs(vim.lsp.get_active_clients()) do count = count + #vim.lsp.get_buffers_by_client_id(each.id) end
+    return count
+  end
+  vim.wait(%d, function() return documents() == 3 end, 20)
+  vim.fn.writefile({ #vim.lsp.get_active_clients() .. ' ' .. documents() }, 'told')
+end)
+if not ok then vim.fn.writefile({ tostring(fault) }, 'told') end
+vim.cmd('qall!')
+"""
+
+
 def has_eglot():
     return bool(
         glob.glob(PACKAGES + "eglot-*")
@@ -157,6 +203,13 @@ def main():
         if not is_there:
             print(f"skipped: the language server in {editor.__name__} (it isn't installed)")
             continue
+        if editor is neovim and not sys.argv[3:]:
+            try:
+                one_server_a_folder(program, seconds)
+                passed += 1
+            except Exception as fault:
+                failed += 1
+                print(f"differs: neovim, its servers: {type(fault).__name__}: {fault}", flush=True)
         for case in CASES:
             if sys.argv[3:] and f"{editor.__name__}-{case.name}" not in sys.argv[3:]:
                 continue

@@ -59,6 +59,12 @@ def finds_dtds(program):
             ("<?pvtag dtd='my letter.dtd'?>" + body, None),
             (body, {"dtd": os.path.join(EXAMPLES, "letter.dtd"), "root": "letter"}),
             (body, {"dtd": os.path.join(EXAMPLES, "letter.dtd")}),
+            ("<?xml-model href='my letter.dtd'?>" + body, None),
+            ("<?xml-model href='my%20letter.dtd' type='application/xml-dtd'?>" + body, None),
+            (body, {"associations": [{"pattern": "*.xhtml", "dtd": "none.dtd"}, {"pattern": "d*.xml", "dtd": "my letter.dtd"}]}),
+            # A document's own declaration comes first.
+            ("<!DOCTYPE letter SYSTEM 'my letter.dtd'>" + body, {"associations": [{"pattern": "*", "dtd": "none.dtd"}]}),
+            ("<letter/>", {"associations": [{"pattern": "**/d.xml", "dtd": "my letter.dtd", "root": "letter"}, 5]}),
             *([("<!DOCTYPE a SYSTEM 'all.dtd'><a/>", None)] if has_lxml() else []),
         ):
             with Client(program, options=options) as client:
@@ -134,7 +140,9 @@ def tells_once_what_is_not_found(program):
     with Client(program) as client:
         for text in ("<a/>", "<!DOCTYPE a SYSTEM 'nothing.dtd'><a/>", "<!DOCTYPE a SYSTEM 'letter.xml'><a/>"):
             client.open(URI, text)
-            message = client.wait(lambda each: each.get("method") == "window/showMessage", "a message")
+            # That no DTD is named is no fault: it stands in the log.
+            method = "window/logMessage" if text == "<a/>" else "window/showMessage"
+            message = client.wait(lambda each: each.get("method") == method, "a message")
             need(message["params"]["message"].startswith("pvtag: "), message)
             same(client.diagnostics(URI), [], "no diagnostics")
             for count in range(3):
@@ -142,7 +150,7 @@ def tells_once_what_is_not_found(program):
                 client.diagnostics(URI)
                 same(client.labels(URI, len(text)), [], "nothing is offered")
                 same(client.ask("textDocument/hover", client.about(URI, len(text) - 2)), None, "nothing is shown")
-            same([each for each in client.aside if each.get("method") == "window/showMessage"], [], "once")
+            same([each for each in client.aside if each.get("method", "").startswith("window/")], [], "once")
             need(client.ask("textDocument/documentSymbol", OUTLINE), "the outline needs no DTD")
             same(
                 len(edits_of(client.ask("textDocument/rename", client.about(URI, len(text) - 2, newName="b")))),
@@ -152,6 +160,108 @@ def tells_once_what_is_not_found(program):
     with Client("/nowhere/pvtag") as client:
         client.open(URI, DRAFT)
         client.wait(lambda each: each.get("method") == "window/showMessage", "a message")
+
+
+# Documents side by side.
+SLOW = """#!/bin/sh
+case "$*" in
+*slow.dtd*) echo $$ >> "$0.pids"; exec sleep 600 ;;
+esac
+exec '%s' "$@"
+"""
+
+
+@contextlib.contextmanager
+def stalling(program):
+    """A folder with a DTD, and a program that never comes to an end with it."""
+    with tempfile.TemporaryDirectory() as folder:
+        script = os.path.join(folder, "slow")
+        with open(script, "w", encoding="utf-8") as file:
+            file.write(SLOW % program)
+        os.chmod(script, 0o755)
+        shutil.copy(os.path.join(EXAMPLES, "letter.dtd"), os.path.join(folder, "slow.dtd"))
+        yield folder, script
+
+
+def pids_of(script):
+    with contextlib.suppress(FileNotFoundError), open(f"{script}.pids", encoding="utf-8") as file:
+        return [int(line) for line in file.read().split()]
+    return []
+
+
+def is_running(pid):
+    with contextlib.suppress(FileNotFoundError), open(f"/proc/{pid}/stat", encoding="utf-8") as file:
+        return file.read().rpartition(")")[2].split()[0] != "Z"
+    return False
+
+
+def waits_for_no_other_document(program):
+    """A DTD that is never read holds up the requests of its own documents alone, which can be cancelled; it is read once
+    for all of them."""
+    with stalling(program) as (folder, script), Client(script) as client:
+        numbers = []
+        for name in ("a.xml", "b.xml"):
+            client.open(uri_of(name, folder), DRAFT.replace("letter.dtd", "slow.dtd"))
+            numbers += [client.begin("textDocument/hover", client.about(uri_of(name, folder), 60)) for _ in range(6)]
+        client.open(URI, DRAFT)
+        client.diagnostics(URI, finished)
+        need(client.ask("textDocument/hover", client.about(URI, DRAFT.index("<opener>") + 1)), "a hover")
+        for number in numbers:
+            client.tell("$/cancelRequest", {"id": number})
+        same({client.answer(number)["error"]["code"] for number in numbers}, {-32800}, "what waits is cancelled")
+        same(len(pids_of(script)), 1, "runs for one DTD")
+
+
+def ends_all_runs(program):
+    """At the end of the server, by `exit` or by a signal, nothing that it began goes on."""
+    if shutil.which("setpriv") is None:
+        print("skipped: runs that end with the server (no setpriv)")
+        return
+    for is_killed in (False, True):
+        with stalling(program) as (folder, script), Client(script) as client:
+            client.open(uri_of("a.xml", folder), DRAFT.replace("letter.dtd", "slow.dtd"))
+            need(until(lambda: pids_of(script)), "the DTD is being read")
+            if is_killed:
+                client.process.kill()
+            else:
+                client.tell("exit", None)
+            client.process.wait(PATIENCE)
+            need(until(lambda: not any(map(is_running, pids_of(script)))), f"a run goes on; killed: {is_killed}")
+
+
+def keeps_no_names_of_roots(program):
+    """While the root's name is typed, its DTD is read once."""
+    with tempfile.TemporaryDirectory() as folder:
+        script = os.path.join(folder, "counting")
+        with open(script, "w", encoding="utf-8") as file:
+            file.write(f"#!/bin/sh\necho \"$1\" >> \"$0.log\"\nexec '{program}' \"$@\"\n")
+        os.chmod(script, 0o755)
+        with Client(script, options={"dtd": os.path.join(EXAMPLES, "letter.dtd")}) as client:
+            client.open(URI, "<l/>")
+            for letter in "etter":
+                place = len(client.documents[URI][0]) - 2
+                client.change(URI, place, place, letter)
+                client.diagnostics(URI)
+        with open(f"{script}.log", encoding="utf-8") as file:
+            same(file.read().split().count("dtd"), 1, "runs of `dtd`")
+
+
+def finds_dtds_by_catalogs(program):
+    """An address that a catalog rewrites to a folder."""
+    if not has_lxml():
+        print("skipped: catalogs (no lxml, package python3-lxml)")
+        return
+    with tempfile.TemporaryDirectory() as folder:
+        shutil.copy(os.path.join(EXAMPLES, "letter.dtd"), os.path.join(folder, "letter.dtd"))
+        with open(os.path.join(folder, "catalog.xml"), "w", encoding="utf-8") as file:
+            file.write(
+                "<catalog xmlns='urn:oasis:names:tc:entity:xmlns:xml:catalog'>"
+                f"<rewriteSystem systemIdStartString='http://example.org/dtds/' rewritePrefix='file://{folder}/'/></catalog>"
+            )
+        environment = os.environ | {"XML_CATALOG_FILES": os.path.join(folder, "catalog.xml")}
+        with Client(program, environment=environment) as client:
+            client.open(URI, DRAFT.replace("letter.dtd", "http://example.org/dtds/letter.dtd"))
+            need(client.diagnostics(URI, finished), "rewritten")
 
 
 # The protocol.
@@ -186,6 +296,12 @@ def refuses_nonsense(program):
             "prepareRename",
             "rename",
             "linkedEditingRange",
+            "definition",
+            "references",
+            "documentHighlight",
+            "foldingRange",
+            "selectionRange",
+            "documentLink",
         ):
             for params in (
                 None,
@@ -197,7 +313,7 @@ def refuses_nonsense(program):
                 {"textDocument": {"uri": uri_of("closed.xml")}},
             ):
                 same(client.error(f"textDocument/{method}", params), -32602, f"{method} {params}")
-            if method != "documentSymbol":
+            if method not in ("documentSymbol", "foldingRange", "documentLink"):
                 for place in (
                     None,
                     5,
@@ -212,6 +328,7 @@ def refuses_nonsense(program):
                         "textDocument": {"uri": URI},
                         "position": place,
                         "newName": "x",
+                        "positions": [place],
                         "range": {"start": place, "end": place},
                     }
                     same(client.error(f"textDocument/{method}", params), -32602, f"{method} at {place}")
@@ -241,7 +358,7 @@ def refuses_nonsense(program):
             client.tell(f"textDocument/{method}", params)
             client.wait(lambda each: each.get("method") == "window/logMessage", f"a log of {method}")
         client.open("file://[x", "<a/>")
-        told = client.wait(lambda each: each.get("method") == "window/showMessage", "a document of no address")
+        told = client.wait(lambda each: each.get("method") == "window/logMessage", "a document of no address")
         need("no DTD is named" in told["params"]["message"], f"a document of no address: {told}")
         need(client.ask("textDocument/documentSymbol", OUTLINE), "it goes on")
         same(client.complaints, [], "nothing unforeseen")
@@ -328,6 +445,15 @@ def cancels(program):
         same(client.complaints, [], "nothing unforeseen")
 
 
+def answers_whole(program):
+    """A token for partial results is passed over: the answer is whole."""
+    with Client(program) as client:
+        client.open(URI, DRAFT)
+        symbols = client.ask("textDocument/documentSymbol", OUTLINE | {"partialResultToken": "t", "workDoneToken": 5})
+        same(len(symbols), 1, "the outline")
+        same([each for each in client.aside if each.get("method") == "$/progress"], [], "nothing in part")
+
+
 def writes_no_file(program):
     """Not in the documents' folder, nor where temporary files are."""
     folder = tempfile.mkdtemp()
@@ -366,10 +492,15 @@ CASES = [
     keeps_no_old_dtds,
     builds_nothing,
     tells_once_what_is_not_found,
+    finds_dtds_by_catalogs,
+    waits_for_no_other_document,
+    ends_all_runs,
+    keeps_no_names_of_roots,
     keeps_to_its_life,
     refuses_nonsense,
     refuses_bad_messages,
     cancels,
+    answers_whole,
     writes_no_file,
     withstands_hostile_texts,
 ]

@@ -4,12 +4,12 @@ from typing import Any
 
 import wire
 from documents import Asked, Document, put
-from grammar import Grammar
-from lists import WHITE, alone_with, cut, is_too_deep, names, wraps
+from lists import WHITE, cut, is_too_deep
+from mending import Move, changes_of, moves_of, wraps
 from missing import Completed, completed
 from nodes import Element
+from order import ordered, used
 from pvtag.long import Counted
-from pvtag.session import Ended, Made
 from text import Json
 from wire import INVALID_PARAMS, Error
 from work import Work
@@ -17,6 +17,8 @@ from work import Work
 REWRITE, FIX = "refactor.rewrite", "quickfix"
 ALL_KINDS = [FIX, REWRITE]
 CONTENT_MODIFIED = -32801
+# The command of an action that asks for a name, and the most wraps that are actions of their own.
+WRAP, MOST_WRAPS = "pvtag.wrap", 20
 # So long, in seconds, the judgement of the text is waited for.
 PATIENCE = 2.0
 
@@ -24,16 +26,22 @@ PATIENCE = 2.0
 def actions(asked: Asked, work: Work) -> list[Json]:
     start, end = asked.span
     context = asked.params.get("context")
-    only = context.get("only") if isinstance(context, dict) else None
+    context = context if isinstance(context, dict) else {}
     if asked.client.can("textDocument", "codeAction", "codeActionLiteralSupport") is None:
         return []
-    found: list[Json] = []
-    if is_wanted(REWRITE, only):
-        found += wrapping(asked, work, start, end)
+    only = context.get("only")
+    found: list[Json] = inserting(asked, work, context) if is_wanted(FIX, only) else []
+    if is_wanted(FIX, only) or is_wanted(REWRITE, only):
+        found += wrapping_first(asked, work, start, end) if is_wanted(REWRITE, only) else []
         found += at_tag(asked, work, start, end)
-    if is_wanted(FIX, only):
-        found = inserting(asked, work, context if isinstance(context, dict) else {}) + found
-    return found
+    return [told(each, context) for each in found if is_wanted(each["kind"], only)]
+
+
+def told(each: Json, context: Json) -> Json:
+    """An action with the errors that it mends, where the editor has told them."""
+    known = context.get("diagnostics")
+    mended = [it for it in known if isinstance(it, dict) and it.get("code") == "impossible"] if isinstance(known, list) else []
+    return each | ({"diagnostics": mended} if mended and each["kind"] == FIX and "diagnostics" not in each else {})
 
 
 def is_wanted(kind: str, only: Any) -> bool:
@@ -43,8 +51,8 @@ def is_wanted(kind: str, only: Any) -> bool:
     )
 
 
-def action(asked: Asked, title: str, edits: list[Json]) -> Json:
-    return {"title": title, "kind": REWRITE, "edit": asked.document.edit(asked.client, edits)}
+def action(asked: Asked, title: str, edits: list[Json], is_fix: bool = False) -> Json:
+    return {"title": title, "kind": FIX if is_fix else REWRITE, "edit": asked.document.edit(asked.client, edits)}
 
 
 # A selection.
@@ -58,9 +66,44 @@ def wrapping(asked: Asked, work: Work, start: int, end: int) -> list[Json]:
     found = cut(owner, document.data, start, end)
     if found is None or found.start >= found.end or is_too_deep(owner, start, end, document.data):
         return []
-    (offered,) = wraps(work, asked.grammar, owner.label, found.kids, [(found.start, found.end)])
+    uses = used(document, owner.label)
+    (offered,) = wraps(work, asked.grammar, owner.label, found.kids, [(found.start, found.end)], uses)
     first, last = document.text.range(start, start), document.text.range(end, end)
-    return [action(asked, f"Wrap in <{name}>", [put(first, f"<{name}>"), put(last, f"</{name}>")]) for name in offered]
+    return [
+        action(asked, f"Wrap in <{each.name}>", [put(first, f"<{each.name}>"), put(last, f"</{each.name}>")])
+        for each in ordered(work, asked.grammar, document, owner.label, offered)
+    ]
+
+
+def wrapping_first(asked: Asked, work: Work, start: int, end: int) -> list[Json]:
+    """The first of these, and an action that asks for one of all where there are more."""
+    found = wrapping(asked, work, start, end)
+    if len(found) <= MOST_WRAPS or not asked.client.can("workspace", "applyEdit"):
+        return found
+    where = {"uri": asked.document.uri, "version": asked.document.version, "range": asked.params["range"]}
+    title = f"Wrap in… ({len(found)} names)"
+    more = {"title": title, "kind": REWRITE, "command": {"title": title, "command": WRAP, "arguments": [where]}}
+    return [*found[:MOST_WRAPS], more]
+
+
+def execute(asked: Asked, work: Work) -> None:
+    """Asks in the editor for one of all names that a selection may be wrapped in, and makes that wrap there."""
+    where = asked.params["arguments"][0]
+    asked.params = where
+    if asked.params.get("version") != asked.document.version:
+        raise Error(CONTENT_MODIFIED, "the document has changed")
+    found = {each["title"].removeprefix("Wrap in "): each for each in wrapping(asked, work, *asked.span)}
+
+    def chosen(answer: Any) -> None:
+        each = found.get(str(answer.get("title"))) if isinstance(answer, dict) else None
+        if each is not None and asked.is_current():
+            asked.ask("workspace/applyEdit", {"label": each["title"], "edit": each["edit"]}, lambda _: None)
+
+    asked.ask(
+        "window/showMessageRequest",
+        {"type": 3, "message": "Wrap in which element?", "actions": [{"title": name} for name in found]},
+        chosen,
+    )
 
 
 def trimmed(data: bytes, start: int, end: int) -> tuple[int, int]:
@@ -97,25 +140,28 @@ def at_tag(asked: Asked, work: Work, start: int, end: int) -> list[Json]:
     tag = document.tree.tag(start)
     if tag is None or end > tag.end:
         return []
-    element = tag.element
-    others, is_unwrapped = changes_of(work, asked.grammar, element, document.data)
-    found = [action(asked, f"Unwrap <{element.label}>", unwrapping(document, element))] if is_unwrapped else []
+    element, found = tag.element, list[Json]()
+    changes = changes_of(work, asked.grammar, element, document.data)
+    if changes.is_unwrapped:
+        title = f"Unwrap <{element.label}>"
+        found.append(action(asked, title, unwrapping(document, element), changes.is_fix))
+    found += [moving(asked, element, move) for move in moves_of(work, asked.grammar, element, document.data)] if changes.is_fix else []
     places = [document.text.range(*span) for span in element.names()]
-    for name in others:
-        found.append(action(asked, f"Rename to <{name}>", [put(place, name) for place in places]))
+    for name in changes.names:
+        found.append(action(asked, f"Rename to <{name}>", [put(place, name) for place in places], changes.is_fix))
     return found
 
 
-def changes_of(work: Work, grammar: Grammar, element: Element, data: bytes) -> tuple[list[str], bool]:
-    """The other names that a session gives to an element, and whether it takes its tags away."""
-    alone = alone_with(element, data)
-    try:
-        with work.session(grammar, alone.root(grammar), alone.data) as session:
-            path = alone.kid_path(element.at)
-            others = [name for name in names(session.offer(path)) if name != element.label]
-            return others, isinstance(session.unwrap(path), Made)
-    except Ended:
-        return [], False
+def moving(asked: Asked, element: Element, move: Move) -> Json:
+    """The element before or after another kid of its list."""
+    assert element.owner is not None
+    document, other = asked.document, element.owner.kids[move.other]
+    name = f"<{other.label}>" if isinstance(other, Element) else "the text"
+    title = f"Move <{element.label}> {'after' if move.is_after else 'before'} {name}"
+    place = other.end if move.is_after else other.start
+    text = document.data[element.start : element.end].decode()
+    edits = [document.put(element.start, element.end, ""), document.put(place, place, text)]
+    return action(asked, title, edits, is_fix=True)
 
 
 def renaming(document: Document, element: Element, name: str) -> list[Json]:
@@ -164,8 +210,11 @@ def title_of(missing: Counted | None) -> str:
 
 
 def uri_of(params: Json) -> str:
-    """The document of an action that was offered."""
+    """The document of an action that was offered, or of one that is executed."""
     data = params.get("data")
+    arguments = params.get("arguments")
+    if params.get("command") == WRAP and isinstance(arguments, list) and len(arguments) == 1:
+        data = arguments[0]
     if not isinstance(data, dict) or not isinstance(data.get("uri"), str):
         raise Error(INVALID_PARAMS, "an action that this server didn't offer")
     return str(data["uri"])

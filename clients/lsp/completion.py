@@ -1,12 +1,15 @@
 """Completion: behind `<` the names that an element may have that begins here, behind `</` the name of the open
-element."""
+element, in a start tag names of attributes and their values."""
 import re
+from collections.abc import Mapping
 
+import attributes
 from documents import Asked, Document, put
 from grammar import Grammar
-from lists import Cut, alone_with, cut, names, wraps
+from lists import Cut, cut
+from mending import changes_of, wraps
 from nodes import ITEM, NAME, START, Element
-from pvtag.session import Ended
+from order import Named, ordered, used
 from text import Json
 from work import Work
 
@@ -30,6 +33,8 @@ def complete(asked: Asked, work: Work) -> Json:
         at = offset - len(found[0])
         element = whole(asked.document, at)
         items = renaming(asked, work, element, offset) if element is not None else opening(asked, work, at, offset)
+    elif attributes.place_of(asked.document, offset) is not None:
+        items = attributes.complete(asked, offset)
     return {"isIncomplete": False, "items": items}
 
 
@@ -72,20 +77,17 @@ def renaming(asked: Asked, work: Work, element: Element, offset: int) -> list[Js
     (start, end), *others = element.names()
     place, places = document.text.range(start, max(end, offset)), [document.text.range(*other) for other in others]
     items = []
-    for name in renames(work, grammar, element, document.data):
-        item = named(grammar, name, put(place, name))
+    for number, name in enumerate(renames(work, grammar, element, document.data)):
+        item = named(grammar, name, put(place, name), number)
         items.append(item | ({"additionalTextEdits": [put(other, name) for other in places]} if places else {}))
     return items
 
 
 def renames(work: Work, grammar: Grammar, element: Element, data: bytes) -> list[str]:
-    """The names that an element may have instead."""
-    alone = alone_with(element, data)
-    try:
-        with work.session(grammar, alone.root(grammar), alone.data) as session:
-            return names(session.offer(alone.kid_path(element.at)))
-    except Ended:
-        return []
+    """The names that an element may have, its own among them where it may stay."""
+    found = changes_of(work, grammar, element, data)
+    named = found.names if found.is_fix else [*found.names, element.label]
+    return sorted(named, key=lambda name: grammar.order().get(name, 0))
 
 
 def opening(asked: Asked, work: Work, start: int, offset: int) -> list[Json]:
@@ -94,31 +96,36 @@ def opening(asked: Asked, work: Work, start: int, offset: int) -> list[Json]:
     rest, end = without(document, start, offset)
     tree = document.tree_of(rest)
     owner = tree.around(start)
+    offered = dict[str, bool]()
+    costs = dict[str, Named]()
     if owner.owner is None:
         offered = {} if owner.kids or not grammar.root else {grammar.root: True}
-    else:
-        found = cut(owner, rest, start, start)
-        offered = beginning(work, grammar, owner.label, found) if found is not None else {}
+    elif (found := cut(owner, rest, start, start)) is not None:
+        first, *others = beginning(work, grammar, owner.label, found, used(document, owner.label))
+        costs = {each.name: each for run in (first, *others) for each in run}
+        are_whole = {each.name for each in first}
+        offered = {each.name: each.name in are_whole for each in ordered(work, grammar, document, owner.label, [*costs.values()])}
     is_closed = end > offset
     snippets = bool(asked.client.can("textDocument", "completion", "completionItem", "snippetSupport"))
-    order, place = grammar.order(), document.text.range(start + 1, offset)
+    place = document.text.range(start + 1, offset)
     items = []
-    for name in sorted(offered, key=lambda name: order.get(name, 0)):
+    for number, name in enumerate(offered):
         text = tags_of(grammar, name, offered[name], snippets)
-        item = named(grammar, name, put(place, text[:-1] if is_closed else text))
+        item = named(grammar, name, put(place, text[:-1] if is_closed else text), number, costs.get(name))
         if snippets:
             item["insertTextFormat"] = SNIPPET
         items.append(item)
     return items
 
 
-def beginning(work: Work, grammar: Grammar, owner: str, place: Cut) -> dict[str, bool]:
-    """The names, and whether an element of each may end where it begins."""
+def beginning(
+    work: Work, grammar: Grammar, owner: str, place: Cut, uses: Mapping[str, int]
+) -> list[list[Named]]:
+    """The names of elements that may end where they begin, and then those of others that may begin here."""
     last = len(place.kids)
     ends = [*range(place.start, min(place.start + min(NEXT, TRIED // (last + 1)), last) + 1), last]
     runs = [(place.start, end) for end in dict.fromkeys(ends)]
-    first, *others = wraps(work, grammar, owner, place.kids, runs)
-    return dict.fromkeys((name for each in others for name in each), False) | dict.fromkeys(first, True)
+    return wraps(work, grammar, owner, place.kids, runs, uses)
 
 
 def tags_of(grammar: Grammar, name: str, is_whole: bool, snippets: bool) -> str:
@@ -131,9 +138,9 @@ def tags_of(grammar: Grammar, name: str, is_whole: bool, snippets: bool) -> str:
     return f"{shown}>{'$0' if snippets else ''}</{shown}>"
 
 
-def named(grammar: Grammar, name: str, edit: Json) -> Json:
-    """An item for a name; items stand in the DTD's order."""
-    number = f"{grammar.order().get(name, 0):04}"
-    item = {"label": name, "kind": PROPERTY, "sortText": number, "filterText": name, "textEdit": edit}
-    model = grammar.model(name)
-    return item | ({"detail": model} if model else {})
+def named(grammar: Grammar, name: str, edit: Json, number: int, cost: Named | None = None) -> Json:
+    """An item for a name, with its number in the order, and how many more elements are missing with it."""
+    item = {"label": name, "kind": PROPERTY, "sortText": f"{number:05}", "filterText": name, "textEdit": edit}
+    more = f"+{cost.cost}" if cost is not None and cost.cost is not None and cost.cost > 0 else ""
+    detail = " ".join(filter(None, (more, grammar.model(name))))
+    return item | ({"detail": detail} if detail else {})

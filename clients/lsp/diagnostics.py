@@ -5,9 +5,12 @@ import threading
 import time
 from collections.abc import Callable
 
+import attributes
+import wholeness
 from documents import Client, Document, Judged
-from grammar import Finder, Grammar
+from grammar import Finder, Grammar, NoDtd
 from lists import WHITE, kids_of
+from moving import Change
 from nodes import Element, Node, Tree
 from pvtag.faults import fault_of
 from pvtag.long import Counted
@@ -30,7 +33,7 @@ ERROR, INFORMATION, HINT = 1, 3, 4
 class Watch:
     """Judges the texts of one document in a thread of its own. A newer text ends the work on an older one."""
 
-    def __init__(self, writer: Writer, finder: Finder, client: Client, say: Callable[[str, str], None]) -> None:
+    def __init__(self, writer: Writer, finder: Finder, client: Client, say: Callable[[str, str, bool], None]) -> None:
         self.writer, self.finder, self.client, self.say = writer, finder, client, say
         self.changed = threading.Condition()
         self.newest: Document | None = None
@@ -74,11 +77,14 @@ class Watch:
                 Judging(document, work, self).judge()
             except Cancelled:
                 pass
+            except NoDtd as trouble:
+                Judging(document, work, self).judge_form()
+                self.say(document.uri, str(trouble), True)
             except Trouble as trouble:
                 self.publish(document, work, [])
-                self.say(document.uri, str(trouble))
+                self.say(document.uri, str(trouble), False)
             except Exception as fault:
-                self.say(document.uri, f"{type(fault).__name__}: {fault}")
+                self.say(document.uri, f"{type(fault).__name__}: {fault}", False)
             finally:
                 document.settled.set()
 
@@ -99,17 +105,34 @@ class Judging:
     def __init__(self, document: Document, work: Work, watch: Watch) -> None:
         self.document, self.work, self.watch = document, work, watch
         self.rows: list[tuple[str, bool]] = []
+        self.of_elements: list[Json] = []
         self.order, self.is_told = threading.Lock(), False
+        # The places of names of which no element can be valid: each is told once, of its list or of itself.
+        self.named = set[tuple[int, int]]()
 
     def judge(self) -> None:
-        grammar = self.watch.finder.grammar(self.document.uri, self.document.data)
+        grammar = self.watch.finder.grammar(self.document.uri, self.document.data, self.work.wait_for)
         if not grammar.root:
-            return self.watch.publish(self.document, self.work, [])
+            return self.publish([])
         try:
             with self.work.session(grammar, grammar.root, self.document.data) as session:
                 self.listed(session, grammar)
+            self.attributes(grammar)
         except Ended as ended:
             self.refused(ended)
+
+    def judge_form(self) -> None:
+        """Without a DTD: whether the text is well-formed."""
+        found = wholeness.fault_of(self.document.text)
+        told = [self.diagnostic(found[0], found[0], ERROR, "fault", f"Not well-formed: {found[1]}.")] if found else []
+        self.watch.publish(self.document, self.work, told)
+
+    def attributes(self, grammar: Grammar) -> None:
+        """What is wrong with attributes, and what is to be said of entities, behind what is said of elements."""
+        found = list[Json]()
+        self.work.aside(lambda: found.extend(attributes.diagnostics(self.document, grammar, self.work)))
+        if found:
+            self.publish([*self.of_elements, *found])
 
     def refused(self, ended: Ended) -> None:
         """The text is no document, or passes a limit."""
@@ -117,9 +140,15 @@ class Judging:
         if fault.span is None and ended.status not in (7, 8):
             raise Trouble(str(fault))
         start, end = fault.span if fault.span is not None else (0, 0)
-        self.watch.publish(
-            self.document, self.work, [self.diagnostic(start, max(start, end), ERROR, "fault", fault.sentence)]
-        )
+        told = [self.diagnostic(start, max(start, end), ERROR, "fault", fault.sentence)]
+        last = self.document.accepted.told
+        # What was told of the last document stays, at its place, until the text is one again.
+        self.watch.publish(self.document, self.work, told + (Change(last[0], self.document.text).moved(last[1]) if last else []))
+
+    def publish(self, diagnostics: list[Json]) -> None:
+        """Tells what is wrong with a document."""
+        self.document.accepted.told = self.document.text, diagnostics
+        self.watch.publish(self.document, self.work, diagnostics)
 
     def listed(self, session: Session, grammar: Grammar) -> None:
         """The text is a document: what is to be told of its lists."""
@@ -130,7 +159,7 @@ class Judging:
         self.document.judged = judged = Judged(len(found), sum(is_bad for _, is_bad in found))
         tree = self.document.accept()
         if not found:
-            return self.watch.publish(self.document, self.work, [])
+            return self.publish([])
         bad = [path for path, is_bad in found if is_bad][:MOST_BAD]
         lists = [(path, tree.node(path)) for path in bad]
         self.rows = [*[(path, True) for path in bad], *[row for row in found if not row[1]][:MOST]]
@@ -140,7 +169,7 @@ class Judging:
         try:
             wanted = [(path, node.label, kids_of(node, tree.data)) for path, node in lists if isinstance(node, Element)]
             with contextlib.suppress(Trouble):
-                self.work.aside(lambda: grammar.find_reasons(wanted))
+                self.work.find_reasons(grammar, wanted)
             missing = self.missing(session, grammar) if not bad else None
         finally:
             timer.cancel()
@@ -163,10 +192,12 @@ class Judging:
         with self.order:
             if not self.is_told:
                 self.is_told = is_last
-                self.watch.publish(self.document, self.work, self.diagnostics(tree, grammar, count, missing))
+                self.of_elements = self.diagnostics(tree, grammar, count, missing)
+                self.publish(self.of_elements)
 
     def diagnostics(self, tree: Tree, grammar: Grammar, count: int, missing: Counted | Refused | None) -> list[Json]:
         told: list[Json] = []
+        self.named.clear()
         for path, is_bad in self.rows:
             node = tree.node(path)
             if isinstance(node, Element):
@@ -205,6 +236,10 @@ class Judging:
         )
         whole = owner if owner.owner is not None else tree.root or owner
         spans = [span_of(node, tree.data) for node in marked or [whole]]
+        if reason is not None and reason.cause in ("undeclared", "unproductive"):
+            if self.named.issuperset(spans):
+                return []
+            self.named.update(spans)
         told = [self.diagnostic(start, end, ERROR, "impossible", sentence) for start, end in spans]
         if self.watch.client.can("textDocument", "publishDiagnostics", "relatedInformation"):
             for each, span in zip(told, spans, strict=True):

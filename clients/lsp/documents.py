@@ -1,14 +1,18 @@
 """An open document as it is at one time."""
 import threading
+from collections import Counter
+from collections.abc import Callable
 from dataclasses import dataclass
 from typing import Any
 
 from grammar import Finder, Grammar
 from nodes import Tree
 from pvtag.long import Counted
+from pvtag.masks import same_length
 from reading import Typed, Whole
 from text import Json, Text
 from wire import INVALID_PARAMS, Error
+from work import Work
 
 
 class Client:
@@ -36,10 +40,15 @@ class Judged:
 
 
 class Accepted:
-    """The last text of a document that the program has read, with its nodes."""
+    """The last text of a document that the program has read, with its nodes, and how often names are used in it below
+    others."""
 
     def __init__(self) -> None:
         self.tree: Whole | None = None
+        self.used: dict[bytes, Counter[str]] | None = None
+        self.used_at = 0.0
+        # What was told of it at last, with the text as it was.
+        self.told: tuple[Text, list[Json]] | None = None
 
 
 class Document:
@@ -52,12 +61,16 @@ class Document:
         self.uri, self.version, self.text, self.accepted = uri, version, text, accepted
         self.lock = threading.Lock()
         self.read: Tree | None = None
+        self.masked: bytes | None = None
         self.judged: Judged | None = None
         self.settled = threading.Event()
 
     @property
     def data(self) -> bytes:
-        return self.text.data
+        """The text as the program is given it: an internal subset and entities are masked by as many bytes."""
+        if self.masked is None:
+            self.masked = same_length(self.text.data)
+        return self.masked
 
     @property
     def tree(self) -> Tree:
@@ -92,10 +105,13 @@ class Document:
 
 
 class Asked:
-    """A request about a document: the document, what was asked, the editor, and where grammars are found."""
+    """A request about a document: the document, what was asked, the editor, where grammars are found, and its work."""
 
-    def __init__(self, document: Document, params: Json, client: Client, finder: Finder) -> None:
-        self.document, self.params, self.client, self.finder = document, params, client, finder
+    def __init__(self, document: Document, params: Json, client: Client, finder: Finder, work: Work) -> None:
+        self.document, self.params, self.client, self.finder, self.work = document, params, client, finder, work
+        # Asks the editor, which answers later, and whether the document is as it was; the server sets both.
+        self.ask: Callable[[str, Json, Callable[[Any], None]], None] = lambda method, params, then: None
+        self.is_current: Callable[[], bool] = lambda: True
 
     @property
     def offset(self) -> int:
@@ -107,7 +123,7 @@ class Asked:
 
     @property
     def grammar(self) -> Grammar:
-        return self.finder.grammar(self.document.uri, self.document.data)
+        return self.finder.grammar(self.document.uri, self.document.data, self.work.wait_for)
 
 
 def text_of(params: Json, key: str) -> str:

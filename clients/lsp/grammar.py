@@ -1,22 +1,28 @@
 """Which DTD and which root a document has, and that DTD as one plain file."""
 import contextlib
+import fnmatch
 import os
 import re
 import subprocess
 import sys
 import threading
 import urllib.parse
-from collections.abc import Mapping, Sequence
+import weakref
+from collections.abc import Callable, Mapping, Sequence
+from concurrent.futures import Future
 from dataclasses import dataclass
 from typing import Any, NamedTuple
 from xml.sax.saxutils import quoteattr
 
 import memory
 from nodes import LITERAL, NAME
+from pvtag import program as programs
+from pvtag.attributes import Attributes
+from pvtag.costs import Known
 from pvtag.dtd import Dtd
 from pvtag.faults import Refusal, fault_of
 from pvtag.places import Source
-from pvtag.program import TOP, Trouble, run
+from pvtag.program import RUNNING, TOP, Answer, Running, Trouble, run
 from pvtag.reasons import Reason, Reasons
 from pvtag.tries import Kid
 from reading import front
@@ -33,13 +39,15 @@ DOCTYPE = re.compile(
     + rb"))?"
 )
 INSTRUCTION = re.compile(rb"<\?pvtag\s+(.*?)\s*\?>\Z", re.S)
-PART = re.compile(rb"(dtd|root)\s*=\s*(" + LITERAL + rb")")
+MODEL = re.compile(rb"<\?xml-model\s+(.*?)\s*\?>\Z", re.S)
+PART = re.compile(rb"(dtd|root|href|type)\s*=\s*(" + LITERAL + rb")")
 # What the program doesn't read of XML, and `tools/flatten` does.
 MODULES = re.compile(r"dtd param (conditional|external)|dtd parameter \d")
 
-# A list: its path, its element's name, its kids; and what tells it from others of the same kids.
+# A list: its path, its element's name, its kids; and what tells it from others of the same kids: for the document node
+# the name of the root too.
 List = tuple[str, str, Sequence[Kid]]
-Key = tuple[bool, str, tuple[Kid, ...]]
+Key = tuple[str, str, tuple[Kid, ...]]
 MOST_KEPT = 500
 FileKey = tuple[object, int, int]
 
@@ -72,50 +80,71 @@ class Plain(NamedTuple):
     held: memory.MemoryFile | None = None
 
 
-class Grammar:
-    """A DTD that the program reads, and the name of the root. Reasons under it are kept."""
+class NoDtd(Trouble):
+    """No DTD is named."""
 
-    def __init__(self, program: list[str], plain: Plain, root: str) -> None:
-        self.program, self.plain, self.path, self.root = program, plain, plain.path, root
+
+class Declared:
+    """A DTD that the program reads, whatever the root. Reasons under it are kept."""
+
+    def __init__(self, program: list[str], plain: Plain, answer: Answer) -> None:
+        self.program, self.plain = program, plain
+        # The file in which it is written, where that is known.
+        self.file: str | None = None if plain.held is not None else plain.path
         self.dtd = Dtd(program, plain.path)
-        self.reasons, self.lock = Reasons(program, self.dtd, root), threading.Lock()
-        self.kept: dict[Key, Reason | None] = {}
-        self.numbers: dict[str, int] = {}
+        self.dtd.types = self.dtd.types_of(answer)
+        # What the DTD declares of attributes. What is asked for it ends with this.
+        self.attributes = Attributes(self.dtd.data)
+        weakref.finalize(self, self.attributes.close)
+        self.lock, self.kept = threading.Lock(), dict[Key, Reason | None]()
+        self.costs = dict[tuple[bytes, str], Known]()
+        self.order = {name: at for at, name in enumerate(self.dtd.types)}
         self.models: dict[str, str] = {}
+        # So many texts at a time are asked about.
+        self.asking = threading.BoundedSemaphore(4)
+
+
+class Grammar:
+    """A DTD that the program reads, and the name of the root, of which nothing is kept."""
+
+    def __init__(self, declared: Declared, root: str) -> None:
+        self.declared, self.root = declared, root
+        self.program, self.dtd, self.path = declared.program, declared.dtd, declared.plain.path
+        self.attributes, self.asking = declared.attributes, declared.asking
 
     def order(self) -> dict[str, int]:
         """The declared names, each with its number in the order of declaration."""
-        if not self.numbers:
-            self.numbers = {name: at for at, name in enumerate(self.dtd.types)}
-        return self.numbers
+        return self.declared.order
 
     def model(self, name: str) -> str:
         """What a name is declared as, in one line, "" where that isn't found."""
-        if name not in self.models:
-            self.models[name] = self.dtd.model(name)
-        return self.models[name]
+        models = self.declared.models
+        if name not in models:
+            models[name] = self.dtd.model(name)
+        return models[name]
 
-    def find_reasons(self, lists: Sequence[List]) -> None:
-        """Finds why these lists are impossible. It isn't asked twice of lists with the same kids."""
-        with self.lock:
-            new = [each for each in lists if key_of(each) not in self.kept]
-            if len(self.kept) > MOST_KEPT:
-                self.kept.clear()
-                self.reasons = Reasons(self.program, self.dtd, self.root)
-            for each, reason in zip(new, self.reasons.of_lists(new), strict=True):
-                self.kept[key_of(each)] = reason
+    def key_of(self, each: List) -> Key:
+        path, owner, kids = each
+        return self.root if path == "." else "", owner, tuple(kids)
+
+    def find_reasons(self, lists: Sequence[List], runs: Running = RUNNING) -> None:
+        """Finds why these lists are impossible, in runs that end with these. It isn't asked twice of lists with the same
+        kids. Nothing waits for it that doesn't ask for it."""
+        kept, lock = self.declared.kept, self.declared.lock
+        with lock:
+            new = [each for each in lists if self.key_of(each) not in kept]
+        found = Reasons(self.program, self.dtd, self.root, runs).of_lists(new) if new else []
+        with lock:
+            if len(kept) > MOST_KEPT:
+                kept.clear()
+            kept.update({self.key_of(each): reason for each, reason in zip(new, found, strict=True)})
 
     def known_reason(self, path: str, owner: str, kids: Sequence[Kid]) -> Reason | None:
-        return self.kept.get(key_of((path, owner, kids)))
+        return self.declared.kept.get(self.key_of((path, owner, kids)))
 
-    def reason(self, path: str, owner: str, kids: Sequence[Kid]) -> Reason | None:
-        self.find_reasons([(path, owner, kids)])
+    def reason(self, path: str, owner: str, kids: Sequence[Kid], runs: Running = RUNNING) -> Reason | None:
+        self.find_reasons([(path, owner, kids)], runs)
         return self.known_reason(path, owner, kids)
-
-
-def key_of(each: List) -> Key:
-    path, owner, kids = each
-    return path == ".", owner, tuple(kids)
 
 
 def key_of_file(named: Named) -> FileKey:
@@ -140,91 +169,116 @@ def folder_of(uri: str) -> str:
 
 
 class Finder:
-    """Finds grammars. A DTD in modules is made plain once, and kept in memory until its file changes or `forget` is
-    called."""
+    """Finds grammars. Each DTD is read once, in a thread of its own, and made plain there where it is in modules; it is
+    kept in memory until its file changes or `forget` is called. The lock is held for look-ups alone."""
 
     def __init__(self, program: list[str], options: Mapping[str, Any], folder: str | None) -> None:
         self.program, self.folder = program, folder
         self.options = {key: value for key in ("dtd", "root") if isinstance(value := options.get(key), str) and value}
+        told = options.get("associations")
+        self.associations = [each for each in told if isinstance(each, dict)] if isinstance(told, list) else []
         self.lock = threading.Lock()
-        self.plain: dict[FileKey, Plain | Trouble] = {}
-        self.grammars: dict[tuple[FileKey, str], Grammar] = {}
+        self.declared: dict[FileKey, Future[Declared]] = {}
 
     def forget(self) -> None:
         """Looks at all files anew. What is in memory stays there for those that use it, and no longer."""
         with self.lock:
-            self.plain.clear()
-            self.grammars.clear()
+            self.declared.clear()
 
-    def grammar(self, uri: str, data: bytes) -> Grammar:
-        """The grammar of a document, or a trouble that says what can't be found."""
-        named, root = self.named(folder_of(uri), *front(data))
+    def grammar(self, uri: str, data: bytes, wait: Callable[[Future[Declared]], object]) -> Grammar:
+        """The grammar of a document, or a trouble that says what can't be found. `wait` waits for a DTD that is read."""
+        named, root = self.named(uri, *front(data))
+        key = key_of_file(named)
         with self.lock:
-            key = key_of_file(named)
-            plain = self.made_plain(key, named)
-            if (key, root) not in self.grammars:
-                self.grammars[key, root] = Grammar(self.program, plain, root)
-            return self.grammars[key, root]
+            future = self.declared.get(key)
+            if future is None:
+                # Of a file that has changed nothing is kept.
+                self.declared = {each: it for each, it in self.declared.items() if each[0] != key[0]}
+                future = self.declared[key] = Future()
+                threading.Thread(target=self.make, args=(future, named), daemon=True).start()
+        wait(future)
+        fault = future.exception()
+        if fault is not None:
+            raise fault.with_traceback(None)
+        return Grammar(future.result(), root)
 
-    def named(self, folder: str, items: list[bytes], first: str) -> tuple[Named, str]:
+    def make(self, future: Future[Declared], named: Named) -> None:
+        """Reads a DTD."""
+        try:
+            file = named.file
+            is_there = file is not None and os.path.isfile(file)
+            made = self.read(file) if file is not None and is_there else self.by_catalog(named)
+            made.file = file if is_there else made.file
+            future.set_result(made)
+        except Trouble as trouble:
+            future.set_exception(trouble)
+        except Exception as fault:
+            future.set_exception(Trouble(f"{named.system}: {type(fault).__name__}: {fault}"))
+
+    def named(self, uri: str, items: list[bytes], first: str) -> tuple[Named, str]:
         """What the settings tell, then an instruction `<?pvtag dtd="letter.dtd" root="letter"?>`, then the document
-        type declaration."""
-        told, doctype = dict[str, str](), None
+        type declaration, then `<?xml-model href="letter.dtd"?>`, then the associations of the settings."""
+        folder, told, doctype = folder_of(uri), dict[str, str](), None
+        model, associated = "", self.associated(uri)
         for item in items:
             if instruction := INSTRUCTION.match(item):
                 told |= {part[1].decode(): unquoted(part[2]) for part in PART.finditer(instruction[1])}
             doctype = doctype or DOCTYPE.match(item)
+            if instruction := MODEL.match(item):
+                parts = {part[1].decode(): unquoted(part[2]) for part in PART.finditer(instruction[1])}
+                href = parts.get("href", "")
+                model = model or (href if parts.get("type") == "application/xml-dtd" or href.endswith(".dtd") else "")
         root = (
             self.options.get("root")
             or told.get("root")
-            or (doctype["name"].decode(errors="replace") if doctype else first)
+            or (doctype["name"].decode(errors="replace") if doctype else associated.get("root") or first)
         )
         if "dtd" in self.options:
-            return self.told(folder), root
+            return self.told(self.options["dtd"], folder), root
         if "dtd" in told:
             return Named(told["dtd"], "", folder), root
         if doctype and (doctype["system"] or doctype["address"]):
             return Named(unquoted(doctype["system"] or doctype["address"]), unquoted(doctype["public"]), folder), root
-        raise Trouble(
-            'no DTD is named: by <!DOCTYPE .. SYSTEM "FILE">, by <?pvtag dtd="FILE" root="NAME"?>, '
+        if model:
+            return Named(model, "", folder), root
+        if associated:
+            return self.told(associated["dtd"], folder), root
+        raise NoDtd(
+            'no DTD is named: by <!DOCTYPE .. SYSTEM "FILE">, by <?pvtag dtd="FILE" root="NAME"?>, by <?xml-model href="FILE"?>, '
             "or in the settings of the server"
         )
 
-    def told(self, folder: str) -> Named:
+    def associated(self, uri: str) -> dict[str, str]:
+        """The DTD, and maybe the root, that the settings tell for documents with such names."""
+        try:
+            path = urllib.parse.unquote(urllib.parse.urlsplit(uri).path)
+        except ValueError:
+            return {}
+        for each in self.associations:
+            pattern, dtd, root = (each.get(key) for key in ("pattern", "dtd", "root"))
+            if isinstance(pattern, str) and isinstance(dtd, str) and dtd and is_matched(path, pattern):
+                return {"dtd": dtd} | ({"root": root} if isinstance(root, str) and root else {})
+        return {}
+
+    def told(self, dtd: str, folder: str) -> Named:
         """The DTD of the settings. It counts from the folder that is open in the editor, or else from the document's:
         some editors open the user's own folder where none is."""
-        there, beside = (Named(self.options["dtd"], "", each) for each in (self.folder or folder, folder))
+        there, beside = (Named(dtd, "", each) for each in (self.folder or folder, folder))
         is_there, is_beside = (each.file is not None and os.path.isfile(each.file) for each in (there, beside))
         return beside if is_beside and not is_there else there
 
-    def made_plain(self, key: FileKey, named: Named) -> Plain:
-        """A DTD as one plain file. Of a file that has changed nothing is kept."""
-        if key not in self.plain:
-            file = named.file
-            self.plain = {each: plain for each, plain in self.plain.items() if each[0] != key[0]}
-            self.grammars = {each: grammar for each, grammar in self.grammars.items() if each[0][0] != key[0]}
-            try:
-                is_there = file is not None and os.path.isfile(file)
-                self.plain[key] = self.read(file) if file is not None and is_there else self.by_catalog(named)
-            except Trouble as trouble:
-                self.plain[key] = trouble
-        answer = self.plain[key]
-        if isinstance(answer, Trouble):
-            raise answer
-        return answer
-
-    def read(self, file: str) -> Plain:
+    def read(self, file: str) -> Declared:
         """A DTD's file, made plain where it needs to be."""
         answer = run(self.program, "dtd", file)
         if answer.status == 0:
-            return Plain(file)
+            return Declared(self.program, Plain(file), answer)
         if MODULES.match(answer.line):
             return self.flattened(file, file)
         with contextlib.suppress(OSError), open(file, "rb") as opened:
             raise Refusal(fault_of(answer.status, answer.line, {"dtd": Source(file, opened.read())}))
         raise Trouble(f"{file}: it can't be read")
 
-    def by_catalog(self, named: Named) -> Plain:
+    def by_catalog(self, named: Named) -> Declared:
         """A DTD that the catalogs of this machine know by its address or its public identifier."""
         if named.file is not None and not named.public:
             raise Trouble(f"{named.file}: there is no such DTD")
@@ -235,19 +289,36 @@ class Finder:
         with memory.file_of(f"<!ENTITY % all {identifier}>\n%all;\n".encode()) as path:
             return self.flattened(path, named.system)
 
-    def flattened(self, path: str, name: str) -> Plain:
+    def flattened(self, path: str, name: str) -> Declared:
         """What `tools/flatten` makes of a DTD, in memory."""
         said = ""
         for python in dict.fromkeys((sys.executable, "/usr/bin/python3")):
             try:
-                ran = subprocess.run(
-                    [python, FLATTEN, path], capture_output=True, stdin=subprocess.DEVNULL, start_new_session=True
-                )
+                status, output, errors = ran([python, FLATTEN, path])
             except OSError:
                 continue
-            if ran.returncode == 0:
-                held = memory.MemoryFile(ran.stdout)
-                return Plain(held.path, held)
-            said = said if ran.returncode == 2 and said else ran.stderr.decode(errors="replace")
+            if status == 0:
+                held = memory.MemoryFile(output)
+                return Declared(self.program, Plain(held.path, held), run(self.program, "dtd", held.path))
+            said = said if status == 2 and said else errors.decode(errors="replace")
         lines = [line.removeprefix("flatten: ").replace(path, name) for line in said.splitlines()]
         raise Trouble(f"{name}: the DTD can't be made plain: " + "; ".join(lines[:3]))
+
+
+def is_matched(path: str, pattern: str) -> bool:
+    """Whether a pattern of names fits a path, or its last part. A `*` stands for any signs, `/` too."""
+    return any(fnmatch.fnmatchcase(name, pattern) for name in (path, os.path.basename(path)))
+
+
+def ran(words: list[str]) -> tuple[int, bytes, bytes]:
+    """One run to its end: its status, and what it wrote to either output."""
+    begun = programs.popen(
+        words, stdin=subprocess.DEVNULL, stdout=subprocess.PIPE, stderr=subprocess.PIPE, start_new_session=True
+    )
+    try:
+        output, errors = begun.communicate(timeout=RUNNING.most)
+    except subprocess.TimeoutExpired:
+        begun.kill()
+        begun.communicate()
+        raise Trouble(programs.took_too_long(words[1:], RUNNING.most)) from None
+    return begun.returncode, output, errors

@@ -1,6 +1,7 @@
 """Hover on a tag: what the DTD declares, what the list is, and what it still needs."""
 from collections import Counter
 
+import attributes
 from diagnostics import sentence_of
 from documents import Asked
 from grammar import Grammar
@@ -23,8 +24,11 @@ def hover(asked: Asked, work: Work) -> Json | None:
     formats = asked.client.can("textDocument", "hover", "contentFormat")
     is_plain = isinstance(formats, list) and "markdown" not in formats
     name = tag.element.label
+    if tag.start == tag.element.start and (found := attributes.hover(asked, name, tag.start, tag.end)):
+        return {"contents": {"kind": "plaintext" if is_plain else "markdown", "value": found["value"]}, "range": found["range"]}
     parts = [
         declared(grammar, name, is_plain),
+        attributes.listed(grammar, name),
         told(asked, grammar, tag.element, work) if name in grammar.dtd.types else "",
     ]
     text = "\n\n".join(part for part in parts if part)
@@ -56,7 +60,7 @@ def told(asked: Asked, grammar: Grammar, element: Element, work: Work) -> str:
     if verdict == "valid":
         return "What it holds is valid, as far as its own kids go."
     if verdict == "impossible":
-        reason = grammar.reason("0", element.label, kids)
+        reason = work.reason(grammar, "0", element.label, kids)
         return sentence_of(reason, element, asked.document) if reason else "Nothing that is inserted makes it valid."
     if verdict == "possible":
         return needed(missing_in(alone, grammar, work))

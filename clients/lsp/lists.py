@@ -9,9 +9,8 @@ from typing import NamedTuple
 
 from grammar import Grammar
 from nodes import Element, Node
-from pvtag.session import Ended, Refused, Session
+from pvtag.session import Refused, Session
 from pvtag.tries import STUBS, Kid
-from work import Work
 
 WHITE = b" \t\r\n"
 TEXTS = ("text", "white")
@@ -100,18 +99,6 @@ def written(kids: Sequence[Kid], inner: int | None, below: Sequence[Kid]) -> tup
 
 def names(offered: list[str] | Refused) -> list[str]:
     return offered if isinstance(offered, list) else []
-
-
-def wraps(
-    work: Work, grammar: Grammar, owner: str, kids: Sequence[Kid], runs: Sequence[tuple[int, int]]
-) -> list[list[str]]:
-    """The names that each of these runs of kids may be wrapped in, in the DTD's order."""
-    alone = Alone(owner, kids)
-    try:
-        with work.session(grammar, alone.root(grammar), alone.data) as session:
-            return [alone.wraps(session, start, end) for start, end in runs]
-    except Ended:
-        return [[] for _ in runs]
 
 
 def alone_with(element: Element, data: bytes) -> Alone:

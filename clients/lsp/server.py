@@ -1,19 +1,20 @@
 """The server: its life, its open documents, and which request is answered by what."""
-import queue
 import sys
 import threading
 from collections.abc import Callable
+from concurrent.futures import ThreadPoolExecutor
 from typing import Any
 
 import actions
 import completion
 import hover
+import navigation
 import outline
 import tags
 import wire
 from diagnostics import Watch
 from documents import Accepted, Asked, Client, Document, text_of
-from grammar import Finder, folder_of
+from grammar import Finder, NoDtd, folder_of
 from pvtag.places import Unit
 from pvtag.program import Trouble, find
 from text import Json, Text, encoded
@@ -25,23 +26,27 @@ ANSWERS: dict[str, Answer] = {
     "textDocument/completion": completion.complete,
     "textDocument/codeAction": actions.actions,
     "codeAction/resolve": actions.resolve,
+    "workspace/executeCommand": actions.execute,
     "textDocument/hover": hover.hover,
     "textDocument/documentSymbol": outline.symbols,
     "textDocument/prepareRename": tags.prepare,
     "textDocument/rename": tags.rename,
     "textDocument/linkedEditingRange": tags.linked,
+    **navigation.ANSWERS,
 }
 # Requests that an editor makes of itself: where no DTD is found that is told once, and nothing is answered.
-QUIET = (completion.complete, actions.actions, hover.hover)
-ERROR, WARNING = 1, 2
+QUIET = (completion.complete, actions.actions, hover.hover, navigation.definition, navigation.references)
+ERROR, WARNING, INFORMATION = 1, 2, 3
+# So many requests about one document are answered at a time. They wait for no other document.
 THREADS = 4
 
 
 class Open:
-    """An open document: its text now, and the thread that judges it."""
+    """An open document: its text now, the thread that judges it, and those that answer requests about it."""
 
     def __init__(self, document: Document, watch: Watch) -> None:
         self.document, self.watch = document, watch
+        self.threads = ThreadPoolExecutor(THREADS)
 
 
 class Server:
@@ -54,12 +59,11 @@ class Server:
         self.opened: dict[str, Open] = {}
         self.told: set[str] = set()
         self.lock, self.running = threading.Lock(), dict[int | str, Work]()
-        self.jobs: queue.SimpleQueue[Callable[[], None]] = queue.SimpleQueue()
+        # What the editor was asked for.
+        self.asking, self.asked_for = 0, dict[str, Callable[[Any], None]]()
 
     def run(self) -> int:
         """Serves until `exit` or the end of the input; the status."""
-        for _ in range(THREADS):
-            threading.Thread(target=self.work, daemon=True).start()
         while not self.is_over and not self.writer.is_closed:
             try:
                 message = self.reader.message()
@@ -75,25 +79,16 @@ class Server:
                 running.cancel()
         return 0 if self.is_shut else 1
 
-    def work(self) -> None:
-        while True:
-            job = self.jobs.get()
-            try:
-                job()
-            except Exception as fault:
-                error_of(fault)
-
     # Messages.
     def take(self, message: Message) -> None:
-        """Deals with a message: a request, a notification, or the editor's answer to a request, of which the server
-        makes none."""
+        """Deals with a message: a request, a notification, or the editor's answer to a request."""
         value = message.value
         if not isinstance(value, dict) or value.get("jsonrpc") != "2.0":
             raise Error(wire.INVALID_REQUEST, "no message of JSON-RPC 2.0")
         method, params, is_request = value.get("method"), value.get("params"), "id" in value
         number: Any = value.get("id")
         if method is None and is_request and ("result" in value or "error" in value):
-            return
+            return self.replied(value)
         if not isinstance(method, str):
             raise Error(wire.INVALID_REQUEST, "a message without a method")
         if is_request and (isinstance(number, bool) or not isinstance(number, int | str)):
@@ -125,27 +120,46 @@ class Server:
         elif method not in ANSWERS:
             raise Error(wire.METHOD_NOT_FOUND, f"no such request: {method[:80]}")
         else:
-            self.begin(number, ANSWERS[method], self.asked(method, object_of(params)))
+            self.begin(number, ANSWERS[method], *self.asked(method, object_of(params)))
 
-    def asked(self, method: str, params: Json) -> Asked:
+    def asked(self, method: str, params: Json) -> tuple[Open, Asked]:
+        """What a request is about."""
         uri = (
             actions.uri_of(params)
-            if method == "codeAction/resolve"
+            if method in ("codeAction/resolve", "workspace/executeCommand")
             else text_of(object_of(params.get("textDocument")), "uri")
         )
         if uri not in self.opened:
             raise Error(wire.INVALID_PARAMS, f"the document isn't open: {uri[:200]}")
         assert self.client is not None and self.finder is not None
-        return Asked(self.opened[uri].document, params, self.client, self.finder)
+        opened = self.opened[uri]
+        asked = Asked(opened.document, params, self.client, self.finder, Work())
+        asked.ask, asked.is_current = self.ask, lambda: opened.document is asked.document
+        return opened, asked
 
-    def begin(self, number: int | str, answer: Answer, asked: Asked) -> None:
-        """Answers a request in a thread of its own."""
-        work = Work()
+    def ask(self, method: str, params: Json, then: Callable[[Any], None]) -> None:
+        """Asks the editor; `then` takes its answer, or nothing where it gives none."""
+        with self.lock:
+            self.asking += 1
+            number = f"pvtag-{self.asking}"
+            self.asked_for[number] = then
+        self.writer.send(id=number, method=method, params=params)
+
+    def replied(self, value: Json) -> None:
+        """An answer of the editor."""
+        number = value.get("id")
+        with self.lock:
+            then = self.asked_for.pop(number, None) if isinstance(number, str) else None
+        if then is not None:
+            then(value.get("result"))
+
+    def begin(self, number: int | str, answer: Answer, opened: Open, asked: Asked) -> None:
+        """Answers a request in a thread of its document."""
         with self.lock:
             if number in self.running:
                 raise Error(wire.INVALID_REQUEST, "a request with this id is being answered")
-            self.running[number] = work
-        self.jobs.put(lambda: self.answer(number, answer, asked, work))
+            self.running[number] = asked.work
+        opened.threads.submit(self.answer, number, answer, asked, asked.work)
 
     def answer(self, number: int | str, answer: Answer, asked: Asked, work: Work) -> None:
         try:
@@ -155,7 +169,7 @@ class Server:
         except Exception as fault:
             result, error = None, error_of(Cancelled() if work.is_over else fault)
             if isinstance(fault, Trouble) and not work.is_over and answer in QUIET:
-                self.say(asked.document.uri, str(fault))
+                self.say(asked.document.uri, str(fault), isinstance(fault, NoDtd))
                 error = None
         with self.lock:
             del self.running[number]
@@ -204,24 +218,28 @@ class Server:
             "capabilities": {
                 "positionEncoding": "utf-8" if self.unit is Unit.BYTES else "utf-16",
                 "textDocumentSync": {"openClose": True, "change": 2, "save": True},
-                "completionProvider": {"triggerCharacters": ["<", "/"]},
+                "completionProvider": {"triggerCharacters": ["<", "/", " ", '"', "'"]},
                 "codeActionProvider": {"codeActionKinds": actions.ALL_KINDS, "resolveProvider": True},
+                "executeCommandProvider": {"commands": [actions.WRAP]},
                 "hoverProvider": True,
                 "documentSymbolProvider": True,
                 "renameProvider": {"prepareProvider": True}
                 if client.can("textDocument", "rename", "prepareSupport")
                 else True,
                 "linkedEditingRangeProvider": True,
+                **navigation.PROVIDED,
             },
         }
 
-    def say(self, uri: str, trouble: str) -> None:
-        """Tells a trouble of a document in the editor, once."""
+    def say(self, uri: str, trouble: str, is_quiet: bool) -> None:
+        """Tells a trouble of a document in the editor, once; in its log alone where it may be meant so."""
         with self.lock:
             is_new = f"{uri} {trouble}" not in self.told
             self.told.add(f"{uri} {trouble}")
         if is_new:
-            self.writer.tell("window/showMessage", {"type": WARNING, "message": f"pvtag: {trouble}"})
+            kind = INFORMATION if is_quiet else WARNING
+            method = "window/logMessage" if is_quiet else "window/showMessage"
+            self.writer.tell(method, {"type": kind, "message": f"pvtag: {trouble}"})
 
     # Documents.
     def did_open(self, params: Json) -> None:
@@ -266,7 +284,9 @@ class Server:
 
     def close(self, uri: str) -> None:
         if uri in self.opened:
-            self.opened.pop(uri).watch.end()
+            closed = self.opened.pop(uri)
+            closed.watch.end()
+            closed.threads.shutdown(wait=False)
             with self.lock:
                 self.told = {told for told in self.told if not told.startswith(f"{uri} ")}
             self.writer.tell("textDocument/publishDiagnostics", {"uri": uri, "diagnostics": []})

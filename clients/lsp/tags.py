@@ -61,10 +61,10 @@ def check(asked: Asked, work: Work, grammar: Grammar, element: Element, name: st
     except Ended as ended:
         raise Error(wire.REQUEST_FAILED, f"the list can't be judged: {ended.line}") from None
     if not isinstance(answer, Made):
-        raise Error(wire.REQUEST_FAILED, why(asked, grammar, element, name, answer))
+        raise Error(wire.REQUEST_FAILED, why(asked, work, grammar, element, name, answer))
 
 
-def why(asked: Asked, grammar: Grammar, element: Element, name: str, answer: Refused) -> str:
+def why(asked: Asked, work: Work, grammar: Grammar, element: Element, name: str, answer: Refused) -> str:
     """Why a name was refused: by the list that the element stands in, or by its own."""
     if answer.why != "impossible":
         return (
@@ -76,8 +76,8 @@ def why(asked: Asked, grammar: Grammar, element: Element, name: str, answer: Ref
     assert owner is not None
     kids = kids_of(owner, data)
     kids[element.at] = Kid("element", name)
-    reason = grammar.reason("." if owner.owner is None else "0", owner.label, kids) or grammar.reason(
-        "0", name, kids_of(element, data)
+    reason = work.reason(grammar, "." if owner.owner is None else "0", owner.label, kids) or work.reason(
+        grammar, "0", name, kids_of(element, data)
     )
     return reason.sentence() if reason else f"`{name}` can't stand here: nothing that is inserted would make it valid"
 

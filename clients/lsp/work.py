@@ -1,14 +1,21 @@
 """Work that may be ended from another thread: its sessions and other runs are ended with it."""
 import contextlib
 import threading
-from collections.abc import Callable, Iterator
+from collections.abc import Callable, Iterator, Sequence
+from concurrent.futures import Future
 
 import memory
-from grammar import Grammar
+from grammar import Declared, Grammar, List
 from pvtag import long
 from pvtag.long import Counted, Inserted
-from pvtag.program import Running, Stopped, Trouble
+from pvtag.program import RUNNING, Running, Stopped, Trouble, took_too_long
+from pvtag.reasons import Reason
 from pvtag.session import Ended, Session
+from pvtag.tries import Kid
+
+
+# The most seconds for a session, where no others are told.
+LONGEST = 600.0
 
 
 class Cancelled(Exception):
@@ -22,7 +29,7 @@ class Work:
         self.lock, self.is_over = threading.Lock(), False
         self.sessions: list[Session] = []
         self.waits: list[threading.Event] = []
-        self.runs = Running()
+        self.runs = Running(RUNNING.most)
 
     def cancel(self) -> None:
         with self.lock:
@@ -48,13 +55,42 @@ class Work:
                 faults.append(fault)
             done.set()
 
+        self.wait(done, lambda: threading.Thread(target=run, daemon=True).start())
+        for fault in faults:
+            # What is raised refers to what was done, which isn't to be kept by it.
+            faults.clear()
+            try:
+                raise fault
+            finally:
+                del fault
+
+    def wait(self, done: threading.Event, begin: Callable[[], None]) -> None:
+        """Begins what sets this, and waits for that or for the work's end."""
         with self.lock:
             self.waits.append(done)
-        threading.Thread(target=run, daemon=True).start()
-        done.wait()
         self.check()
-        if faults:
-            raise faults[0]
+        begin()
+        done.wait()
+        with self.lock:
+            self.waits.remove(done)
+        self.check()
+
+    def wait_for(self, future: Future[Declared]) -> None:
+        """Waits for a DTD that is being read."""
+        if not future.done():
+            done = threading.Event()
+            self.wait(done, lambda: future.add_done_callback(lambda _: done.set()))
+
+    def find_reasons(self, grammar: Grammar, lists: Sequence[List]) -> None:
+        """Finds why these lists are impossible, in runs that end with this work."""
+        try:
+            grammar.find_reasons(lists, self.runs)
+        except Stopped:
+            raise Cancelled from None
+
+    def reason(self, grammar: Grammar, path: str, owner: str, kids: Sequence[Kid]) -> Reason | None:
+        self.find_reasons(grammar, [(path, owner, kids)])
+        return grammar.known_reason(path, owner, kids)
 
     # Where a list of a document is too wide for a session.
     def need_wide(self, grammar: Grammar, root: str, data: bytes) -> Counted | None:
@@ -78,19 +114,32 @@ class Work:
 
     @contextlib.contextmanager
     def session(self, grammar: Grammar, root: str, data: bytes) -> Iterator[Session]:
-        """A session on these bytes. One that has ended raises `Ended`, or `Cancelled` where it was for that."""
+        """A session on these bytes. One that has ended raises `Ended`, or `Cancelled` where it was for that. One that takes
+        too long is a trouble."""
         with memory.file_of(data) as path:
             with self.lock:
                 if self.is_over:
                     raise Cancelled
                 session = begun(grammar, root, path)
                 self.sessions.append(session)
+            late = threading.Event()
+
+            def end() -> None:
+                late.set()
+                session.process.kill()
+
+            timer = threading.Timer(RUNNING.most or LONGEST, end)
+            timer.daemon = True
+            timer.start()
             try:
                 yield session
             except Ended:
                 self.check()
+                if late.is_set():
+                    raise Trouble(took_too_long(["session"], RUNNING.most)) from None
                 raise
             finally:
+                timer.cancel()
                 with self.lock:
                     self.sessions.remove(session)
                 session.close()
