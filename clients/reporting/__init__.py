@@ -7,5 +7,6 @@
     runs       documents judged side by side, rows in order, ended at once where that is asked for
     progress   how far a run is, on a terminal
     batches    a list cut into batches for several machines, and their rows put together
+    summary    a report in a few lines
     page       a report as one HTML page
 """

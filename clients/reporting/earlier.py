@@ -3,6 +3,7 @@ import hashlib
 import os
 from collections.abc import Iterator
 from dataclasses import replace
+from typing import IO
 
 from .rows import JUDGED, Head, Row, head_of, row_of, titles
 
@@ -12,16 +13,17 @@ class Earlier:
 
     def __init__(self, path: str) -> None:
         self.path = path
-        self.head, self.form, self.places = None, "json", {}
+        self.head: Head | None = None
+        self.form, self.places = "json", dict[str, int]()
         try:
-            self.file = open(path, "rb")
+            self.file: IO[bytes] | None = open(path, "rb")
         except FileNotFoundError:
             self.file = None
             return
         first = self.file.readline().decode(errors="replace")
-        self.head: Head | None = head_of(first)
+        self.head = head_of(first)
         self.form = "tsv" if first.startswith("#") else "json"
-        self.places: dict[str, int] = {row.path: place for place, row in self.rows()}
+        self.places = {row.path: place for place, row in self.rows()}
 
     def rows(self) -> Iterator[tuple[int, Row]]:
         """All whole rows, each with where it stands."""

@@ -4,17 +4,23 @@ import hashlib
 import os
 import shutil
 import stat
+import threading
 import time
 from collections.abc import Iterator
 from dataclasses import replace
 from pathlib import Path
+from typing import NamedTuple
 
+from pvtag.attributes import MISSING, Attributes, python_with_lxml
+from pvtag.document_fault import encoding_fault
 from pvtag.dtd import Dtd
 from pvtag.faults import fault_of
+from pvtag.finder import Finder, Named, Plain, is_utf_8, names_in
 from pvtag.layout import Layout
 from pvtag.long import Counted, counted
-from pvtag.places import Place, Source
-from pvtag.program import Answer, Stopped, Trouble, find_long, read_file, run
+from pvtag.masks import Masked, MaskedSource, mask
+from pvtag.places import Place, Source, Span
+from pvtag.program import Answer, Stopped, Trouble, file_of, find_long, read_file, run
 from pvtag.reasons import Reasons
 
 from .earlier import sum_of
@@ -23,36 +29,119 @@ from .rows import Head, Row, shown
 
 # The program reads no document of more bytes.
 MOST_BYTES = 67_108_864
+# So many DTDs with a root are kept.
+MOST_KEPT = 200
+
+
+class Options(NamedTuple):
+    """What is asked of documents: whether missing elements are counted, the most seconds of a run, whether attributes are looked at, and whether
+    each is judged by the DTD that it names."""
+
+    need: bool
+    most: float
+    attributes: bool
+    by_doctype: bool
+
+
+class Given(NamedTuple):
+    """A document as the program is given it: the file of this path, its bytes, where it isn't too large, and by which DTD and root."""
+
+    path: str
+    masked: Masked | None
+    under: "Under"
+
+    def source(self, name: str) -> Source:
+        """The document as the program is given it, with the lines and columns of its file."""
+        return MaskedSource(name, self.masked) if self.masked is not None else Source(name, b"")
+
+
+class Under:
+    """A DTD and a root, by which documents are judged; several threads may use it at once."""
+
+    def __init__(self, program: list[str], plain: Plain, root: str) -> None:
+        self.plain, self.path, self.name, self.root = plain, plain.path, plain.name, root
+        self.seen, self.data = seen_of(plain.path), read_file(plain.path)
+        self.sum = hashlib.sha256(self.data).hexdigest()
+        self.dtd = Dtd(program, plain.path, plain.name)
+        self.reasons, self.attributes = Reasons(program, self.dtd, root), Attributes(self.data)
+
+    def test_unchanged(self) -> None:
+        """A DTD that changes is a trouble: rows rest on it."""
+        if seen_of(self.path) != self.seen:
+            raise Trouble(f"{self.name} has changed since the run began")
 
 
 class Judge:
-    """Judges documents under one DTD and root; several threads may use it at once."""
+    """Judges documents: under one DTD and root, or each under those that it names, and under the given ones where it names none. Several threads
+    may use it at once."""
 
-    def __init__(self, program: list[str], dtd: str, root: str, need: bool, most: float) -> None:
-        self.program, self.dtd, self.root, self.need, self.most = program, dtd, root, need, most
+    def __init__(self, program: list[str], pair: tuple[str, str] | None, options: Options) -> None:
+        self.program, self.options, self.need, self.most = program, options, options.need, options.most
         # What is asked where a list is too wide for `need`.
-        self.long = find_long(program) if need else None
-        self.reasons = Reasons(program, Dtd(program, dtd), root)
-        self.dtd_seen: tuple[int, ...] | None = None
+        self.long = find_long(program) if options.need else None
+        self.finder, self.lock, self.known = Finder(program), threading.Lock(), dict[tuple[str, str], Under]()
+        self.given_pair = self.checked_pair(*pair) if pair is not None else None
+
+    def checked_pair(self, dtd: str, root: str) -> Under:
+        """The DTD and the root that are given. A DTD that the program doesn't take, or that doesn't declare the root, is a trouble."""
+        under = self.under(Named(dtd, "", ""), root)
+        if root not in under.dtd.types:
+            raise Trouble(f"{under.name} declares no element `{shown(root)}`")
+        return under
+
+    def under(self, named: Named, root: str) -> Under:
+        """This DTD with this root. Where many documents have a root each, not all are kept."""
+        plain = self.finder.plain(named)
+        with self.lock:
+            if (plain.path, root) not in self.known:
+                if len(self.known) > MOST_KEPT:
+                    self.known.clear()
+                self.known[plain.path, root] = Under(self.program, plain, root)
+            return self.known[plain.path, root]
 
     def head(self) -> Head:
-        """What rows rest on. A DTD that the program doesn't take, or a root that is no name, is a trouble."""
-        if not is_utf_8(self.root):
-            raise Trouble(f"{self.root!r} is no name of an element")
-        self.dtd_seen, data = seen_of(self.dtd), read_file(self.dtd)
-        told = self.run("dtd", self.dtd)
-        if told.status != 0:
-            raise Trouble(str(fault_of(told.status, told.line, {"dtd": Source(shown(self.dtd), data)})))
-        if self.run("check", self.dtd, self.root, os.devnull).status == 2:
-            raise Trouble(f"{self.root!r} is no name of an element")
-        return Head(hashlib.sha256(data).hexdigest(), self.root, sum_of_program(self.program[-1]), self.need)
+        """What rows rest on."""
+        given = self.given_pair
+        looks = self.options.attributes and not self.why_not
+        return Head(given.sum if given else "", given.root if given else "", sum_of_program(self.program[-1]), self.need, looks, self.options.by_doctype)
+
+    @property
+    def why_not(self) -> str:
+        """Why attributes can't be looked at."""
+        if not self.options.attributes:
+            return ""
+        if self.options.by_doctype:
+            return "" if python_with_lxml() else MISSING
+        attributes = self.given_pair.attributes if self.given_pair else None
+        return attributes.why_not if attributes and attributes.declares_any else ""
+
+    def under_of(self, path: str, data: bytes | None) -> Under:
+        """The DTD and the root of a document, or a trouble that says why there are none."""
+        if self.options.by_doctype and data is not None:
+            named, root = names_in(data, os.path.dirname(os.path.abspath(path)))
+            if named is not None:
+                return self.under(named, root)
+        if self.given_pair is None:
+            raise Trouble("it names no DTD, by <!DOCTYPE .. SYSTEM \"FILE\"> or <?pvtag dtd=\"FILE\" root=\"NAME\"?>")
+        return self.given_pair
+
+    def holds(self, row: Row) -> bool:
+        """Whether the DTD by which an earlier row was judged is that of the document still."""
+        if not self.options.by_doctype:
+            return True
+        try:
+            under = self.under_of(row.path, read_file(row.path) if (row.size or 0) <= MOST_BYTES else None)
+        except Trouble:
+            return False
+        return (row.dtd_sum, row.root) == (under.sum, under.root)
 
     def run(self, *words: str, given: bytes = b"", program: list[str] | None = None) -> Answer:
         """One run of the program, or of another. It takes no words that aren't UTF-8, so that such a name is handed over as an open file."""
         with contextlib.ExitStack() as files:
             named = [files.enter_context(utf_8(word)) for word in words]
             handed = [it for _, it in named if it is not None]
-            return run(program or self.program, *[word for word, _ in named], given=given, files=handed, most=self.most)
+            answer = run(program or self.program, *[word for word, _ in named], given=given, files=handed, most=self.most)
+        return answer
 
     def row(self, path: str) -> Row:
         """What this document comes to."""
@@ -61,7 +150,7 @@ class Judge:
         return replace(row, seconds=round(time.monotonic() - start, 4))
 
     def judged(self, path: str) -> Row:
-        """The row of a document as it is now. What changes meanwhile gets no verdict, and a DTD that does is a trouble: its sum stands in the head."""
+        """The row of a document as it is now. What changes meanwhile gets no verdict, and a DTD that does is a trouble: its sum stands in the report."""
         try:
             seen = os.stat(path)
         except (OSError, ValueError) as fault:
@@ -69,63 +158,105 @@ class Judge:
         if not stat.S_ISREG(seen.st_mode):
             what = "it is a folder that can't be read" if stat.S_ISDIR(seen.st_mode) else "it isn't a file"
             return Row(path, verdict="unreadable", sentence=what)
-        row = Row(path, seen.st_size, seen.st_mtime_ns, sum_of(path) if seen.st_size <= MOST_BYTES else None)
-        if row.sum is None and seen.st_size <= MOST_BYTES:
-            return replace(row, verdict="unreadable", sentence="it can't be read")
+        row = Row(path, seen.st_size, seen.st_mtime_ns)
         try:
-            told = self.told(row, self.run("check", self.dtd, self.root, path))
-        except OSError:
+            data = read_file(path) if seen.st_size <= MOST_BYTES else None
+        except Trouble:
+            return replace(row, verdict="unreadable", sentence="it can't be read")
+        row = replace(row, sum=hashlib.sha256(data).hexdigest()) if data is not None else row
+        try:
+            under = self.under_of(path, data)
+        except Trouble as trouble:
+            encoded = encoding_fault(data) if data is not None else None
+            return replace(row, verdict="refused" if encoded else "no-dtd", sentence=encoded or str(trouble))
+        if self.options.by_doctype:
+            row = replace(row, dtd=under.name, root=under.root, dtd_sum=under.sum)
+        try:
+            with given(path, data, under) as document:
+                told = self.told(row, document, self.run("check", under.path, under.root, document.path))
+                told = self.with_attributes(told, document) if document.masked is not None else told
+        except (OSError, ValueError, Trouble) as fault:
+            if isinstance(fault, Trouble) and os.access(path, os.R_OK):
+                raise
             told = replace(row, verdict="unreadable", sentence="it can't be read")
-        if seen_of(self.dtd) != self.dtd_seen:
-            raise Trouble(f"{shown(self.dtd)} has changed since the run began")
+        under.test_unchanged()
         if seen_of(path) != identity(seen):
             return replace(row, verdict="failed", sentence="it changed while it was judged")
         return told
 
-    def told(self, row: Row, answer: Answer) -> Row:
+    def with_attributes(self, row: Row, given: Given) -> Row:
+        """The row with what libxml2 says of attributes, and what is to be said of entities."""
+        masked, attributes = given.masked, given.under.attributes
+        if masked is None or row.verdict not in ("valid", "possible", "impossible"):
+            return row
+        brought = next((it for it in masked.remarks if it.kind == "brings"), None)
+        if brought is not None:
+            row = replace(row, verdict="refused", open=None, missing=None, line=None, column=None, sentence=None)
+            return self.with_sentence(row, masked, brought.span, brought.sentence)
+        if self.options.attributes and not (attributes.declares_any and attributes.why_not):
+            checked = attributes.check(masked)
+            if not checked.why_not:
+                row = replace(row, attributes="invalid" if checked.faults else "valid", faults=len(checked.faults))
+            else:
+                row = self.with_sentence(row, masked, None, checked.sentence)
+            for fault in checked.faults[:1]:
+                row = self.with_sentence(row, masked, fault.span, fault.sentence)
+        for remark in masked.remarks[:1]:
+            row = self.with_sentence(row, masked, remark.span, remark.sentence)
+        return row
+
+    def with_sentence(self, row: Row, masked: Masked, span: Span | None, sentence: str) -> Row:
+        """The row with this sentence, where it has none."""
+        if row.sentence is not None:
+            return row
+        at = Source("", masked.source).place(span.start) if span is not None else None
+        return replace(row, line=at and at.line, column=at and at.column, sentence=sentence)
+
+    def told(self, row: Row, given: Given, answer: Answer) -> Row:
         """The row with what `check` answered."""
         words = answer.line.split(" ")
         match answer.status, words[0]:
             case 0, "valid":
                 return replace(row, verdict="valid", open=0, missing=0 if self.need else None)
             case 0, "possible":
-                return self.possible(replace(row, verdict="possible", open=int(words[1])))
+                return self.possible(replace(row, verdict="possible", open=int(words[1])), given)
             case 1, "impossible":
-                return self.impossible(row, words[1])
+                return self.impossible(row, given, words[1])
             case 2, _:
                 raise Trouble(f"the program didn't take its words for {shown(row.path)}")
             case 6, _:
-                raise Trouble(f"{shown(self.dtd)} has changed and isn't taken any more: {answer.line}")
+                raise Trouble(f"{given.under.name} has changed and isn't taken any more: {answer.line}")
             case -1, _:
                 return replace(row, verdict="failed", sentence=f"it took more than {self.most:.0f} seconds")
-        return self.refused(row, answer)
+        return self.refused(row, given, answer)
 
-    def possible(self, row: Row) -> Row:
+    def possible(self, row: Row, given: Given) -> Row:
         """The row with how many elements are missing, where that is asked for and can be told: of a range the least number, and the range in the
         sentence."""
-        found = self.missing(row.path) if self.need else None
+        found = self.missing(given) if self.need else None
         if found is None:
             return row
         return replace(row, missing=found.least, sentence=found.sentence if found.least < found.most else None)
 
-    def missing(self, path: str) -> Counted | None:
+    def missing(self, given: Given) -> Counted | None:
         """How many elements are missing."""
-        words = self.run("session", self.dtd, self.root, path, given=b"need\n").line.split(" ")
+        asked = given.under.path, given.under.root, given.path
+        words = self.run("session", *asked, given=b"need\n").line.split(" ")
         if words[0] == "need":
             return Counted(int(words[1]), int(words[1]))
         if words[:2] != ["no", "wide"] or self.long is None:
             return None
         with contextlib.suppress(Trouble):
-            return counted(self.run("need", self.dtd, self.root, path, program=self.long))
+            return counted(self.run("need", *asked, program=self.long))
         return None
 
-    def impossible(self, row: Row, path: str) -> Row:
+    def impossible(self, row: Row, given: Given, path: str) -> Row:
         """The row with the place and the reason of an impossible list; without them where they can't be had."""
         row = replace(row, verdict="impossible", sentence=f"the list at {path} can't be mended")
         try:
-            data = read_file(row.path)
-            reason = next(iter(self.reasons.of_document(data, [path])), None)
-            node = Layout(data).node(path)
+            source = given.source(shown(row.path))
+            reason = next(iter(given.under.reasons.of_document(source.data, [path])), None)
+            node = Layout(source.data).node(path)
         except Stopped:
             raise
         except Exception:  # pylint: disable=broad-except
@@ -133,7 +264,7 @@ class Judge:
             return row
         if reason is None or node is None:
             return row
-        source, kids = Source(shown(row.path), data), node.kids
+        kids = node.kids
 
         def place(kid: int) -> Place:
             return source.place(kids[kid].span.start)
@@ -141,20 +272,27 @@ class Judge:
         at = place(reason.kids[0]) if reason.kids else source.place(node.span.start)
         return replace(row, line=at.line, column=at.column, sentence=reason.sentence(lambda kid: f" (line {place(kid).line})"))
 
-    def refused(self, row: Row, answer: Answer) -> Row:
+    def refused(self, row: Row, given: Given, answer: Answer) -> Row:
         """The row with why the program gave no verdict."""
         verdict = {3: "unreadable", 7: "refused", 8: "refused"}.get(answer.status, "failed")
         if answer.status == 3:
             return replace(row, verdict=verdict, sentence="it can't be read")
         if answer.status < 0:
             return replace(row, verdict=verdict, sentence=f"the program was ended by signal {-answer.status}")
-        try:
-            data = read_file(row.path) if (row.size or 0) <= MOST_BYTES else b""
-        except Trouble:
-            return replace(row, verdict="unreadable", sentence="it can't be read")
-        fault = fault_of(answer.status, answer.line, {"document": Source(shown(row.path), data)})
+        fault = fault_of(answer.status, answer.line, {"document": given.source(shown(row.path))})
         place = fault.place
         return replace(row, verdict=verdict, line=place and place.line, column=place and place.column, sentence=fault.sentence)
+
+
+@contextlib.contextmanager
+def given(path: str, data: bytes | None, under: Under) -> Iterator[Given]:
+    """A document as the program reads it: its file, or a copy in which its subset and its entities are masked."""
+    masked = mask(data, under.data) if data is not None else None
+    if masked is None or masked.is_plain:
+        yield Given(path, masked, under)
+        return
+    with file_of(masked.data) as copy:
+        yield Given(copy, masked, under)
 
 
 def identity(seen: os.stat_result) -> tuple[int, ...]:
@@ -168,10 +306,6 @@ def seen_of(path: str) -> tuple[int, ...] | None:
         return identity(os.stat(path))
     except OSError:
         return None
-
-
-def is_utf_8(word: str) -> bool:
-    return not any("\udc80" <= char <= "\udcff" for char in word)
 
 
 @contextlib.contextmanager

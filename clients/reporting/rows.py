@@ -1,33 +1,47 @@
-"""A line of a report, and the head before the lines, as JSON Lines and as TSV. Both keep each byte of a file's name."""
+"""A line of a report, and the head before the lines, as JSON Lines, TSV and CSV. All keep each byte of a file's name."""
+import csv
+import io
 import json
-import os
 import re
+from collections.abc import Iterable
 from dataclasses import asdict, dataclass, fields
 from typing import ClassVar
 
 # How a report is written.
-FORMATS = ("json", "tsv")
+FORMATS = ("json", "tsv", "csv")
 # The verdicts, and what stands in their place.
 JUDGED = ("valid", "possible", "impossible", "refused")
-UNJUDGED = ("unreadable", "failed")
-ESCAPED = re.compile(r"[\\\t\n\r]|[\udc80-\udcff]")
-UNESCAPED = re.compile(r"\\(?:([\\tnr])|x([0-9a-f]{2}))")
+UNJUDGED = ("unreadable", "failed", "no-dtd")
+# The kinds of documents for which a run may fail.
+FAILING = ("impossible", "refused", "invalid", "attributes")
+# Control characters, and those that order a line anew or end it, would act on a terminal or a page.
+CONTROLS = "\x00-\x1f\x7f-\x9f\u061c\u200e\u200f\u2028-\u202e\u2066-\u2069"
+CONTROL = re.compile(f"[{CONTROLS}]|[\udc80-\udcff]")
+ESCAPED = re.compile(rf"[\\{CONTROLS}]|[\udc80-\udcff]")
+UNESCAPED = re.compile(r"\\(?:([\\tnr])|x([0-9a-f]{2})|u([0-9a-f]{4}))")
 LETTERS = {"\\": "\\", "\t": "t", "\n": "n", "\r": "r"}
 PLAIN = {letter: char for char, letter in LETTERS.items()}
 
 
 @dataclass(frozen=True)
 class Head:
-    """What the rows of a report rest on: the sums of the DTD and of the program, the root, and whether missing elements were counted."""
+    """What the rows of a report rest on: the sums of the DTD and of the program, the root, whether missing elements were counted, whether
+    attributes were looked at, and whether each document was judged by the DTD that it names: then the DTD and the root are those of the others,
+    "" where none were given."""
 
     dtd: str
     root: str
     program: str
     need: bool
+    attributes: bool
+    by_doctype: bool
     MARK: ClassVar[str] = "pvtag-report"
-    VERSION: ClassVar[int] = 1
+    VERSION: ClassVar[int] = 2
 
-    def line(self, form: str) -> str:
+    def line(self, form: str) -> str | None:
+        """The line for it. A table for others, in CSV, has none."""
+        if form == "csv":
+            return None
         told = {self.MARK: self.VERSION, **asdict(self)}
         return json.dumps(told) if form == "json" else f"# {json.dumps(told)}"
 
@@ -35,11 +49,15 @@ class Head:
 @dataclass(frozen=True)
 class Row:
     """What was found of a document. `verdict` is "valid", "possible", "impossible", or why there is none: "refused" (no document within the
-    limits), "unreadable" (no file, or one that can't be read), "failed" (the program ended otherwise, or took too long).
+    limits), "unreadable" (no file, or one that can't be read), "failed" (the program ended otherwise, or took too long), "no-dtd" (its DTD isn't
+    found, or can't be read).
 
     `size` is in bytes, `time` that of the last change in nanoseconds, `sum` the SHA-256 of the bytes; `open` counts the lists that aren't valid
     by themselves, `missing` the elements, where that was asked for and told. `line` and `column` are counted from 1; `sentence` says what stands
-    there, or why there is no verdict, or between which numbers `missing` is, which is the least of them. `seconds` is how long it took."""
+    there, or why there is no verdict, or between which numbers `missing` is, which is the least of them; where nothing else is to be said, what
+    is wrong with an attribute or an entity, the first one. `seconds` is how long it took. `attributes` is libxml2's verdict on attributes, "valid"
+    or "invalid", and `faults` counts those that are missing or wrong; neither is told where they weren't looked at. Where each document is judged by
+    the DTD that it names, `dtd` is its file or address, `root` the root, and `dtd_sum` the SHA-256 of the DTD as the program reads it."""
 
     path: str
     size: int | None = None
@@ -52,32 +70,57 @@ class Row:
     column: int | None = None
     sentence: str | None = None
     seconds: float | None = None
+    attributes: str | None = None
+    faults: int | None = None
+    dtd: str | None = None
+    root: str | None = None
+    dtd_sum: str | None = None
 
     def text(self, form: str) -> str:
         """The line, without its end."""
         values = asdict(self)
         if form == "json":
-            return json.dumps({name: value for name, value in values.items() if value is not None})
+            return json.dumps({name: value for name, value in values.items() if value is not None}).replace("\x7f", "\\u007f")
+        if form == "csv":
+            return comma_line("" if value is None else escaped(str(value)) for value in values.values())
         return "\t".join("" if value is None else escaped(str(value)) for value in values.values())
 
 
+def kinds_of(row: Row) -> set[str]:
+    """Of which kinds a document is: impossible, refused, not valid (in its elements or its attributes), with attributes that are missing or wrong."""
+    has_faults = row.attributes == "invalid"
+    is_invalid = has_faults or row.verdict in ("possible", "impossible", "refused")
+    return {row.verdict, *["attributes"] * has_faults, *["invalid"] * is_invalid}
+
+
 NAMES = [it.name for it in fields(Row)]
-KINDS = {it.name: float if it.name == "seconds" else int if it.name in ("size", "time", "open", "missing", "line", "column") else str
+KINDS = {it.name: float if it.name == "seconds" else int if it.name in ("size", "time", "open", "missing", "line", "column", "faults") else str
          for it in fields(Row)}
 
 
+def escape(match: re.Match[str]) -> str:
+    char = match[0]
+    if char in LETTERS:
+        return "\\" + LETTERS[char]
+    if "\udc80" <= char <= "\udcff":
+        return f"\\x{ord(char) - 0xDC00:02x}"
+    return f"\\u{ord(char):04x}"
+
+
 def escaped(text: str) -> str:
-    r"""The text in one field: `\\`, `\t`, `\n`, `\r`, and `\xHH` for a byte that isn't UTF-8."""
-
-    def one(match: re.Match[str]) -> str:
-        char = match[0]
-        return "\\" + LETTERS[char] if char in LETTERS else f"\\x{ord(char) - 0xDC00:02x}"
-
-    return ESCAPED.sub(one, text)
+    r"""The text in one field: `\\`, `\t`, `\n`, `\r`, `\uHHHH` for another control character, and `\xHH` for a byte that isn't UTF-8."""
+    return ESCAPED.sub(escape, text)
 
 
 def unescaped(text: str) -> str:
-    return UNESCAPED.sub(lambda it: PLAIN[it[1]] if it[1] else chr(0xDC00 + int(it[2], 16)), text)
+    return UNESCAPED.sub(lambda it: PLAIN[it[1]] if it[1] else chr(int(it[3], 16)) if it[3] else chr(0xDC00 + int(it[2], 16)), text)
+
+
+def comma_line(values: Iterable[str]) -> str:
+    """A line of CSV, by RFC 4180, without its end."""
+    line = io.StringIO()
+    csv.writer(line, lineterminator="").writerow(values)
+    return line.getvalue()
 
 
 def head_of(line: str) -> Head | None:
@@ -87,9 +130,9 @@ def head_of(line: str) -> Head | None:
         if told.pop(Head.MARK) != Head.VERSION:
             return None
         head = Head(**told)
-    except (ValueError, KeyError, TypeError, AttributeError):
+    except (ValueError, KeyError, TypeError, AttributeError, RecursionError):
         return None
-    return head if [type(it) for it in asdict(head).values()] == [str, str, str, bool] else None
+    return head if [type(it) for it in asdict(head).values()] == [str, str, str, bool, bool, bool] else None
 
 
 def row_of(line: str, form: str) -> Row | None:
@@ -97,7 +140,7 @@ def row_of(line: str, form: str) -> Row | None:
     try:
         values = json.loads(line) if form == "json" else tabbed(line)
         row = Row(**values)
-    except (ValueError, TypeError):
+    except (ValueError, TypeError, RecursionError):
         return None
     of_kind = all(type(value) in (KINDS[name], type(None)) for name, value in asdict(row).items())
     return row if of_kind and row.path is not None and row.verdict in (*JUDGED, *UNJUDGED) else None
@@ -112,10 +155,10 @@ def tabbed(line: str) -> dict[str, object]:
 
 
 def titles(form: str) -> str | None:
-    """The line of names that stands behind the head, in TSV alone."""
-    return "\t".join(NAMES) if form == "tsv" else None
+    """The line of names: in TSV after the head, in CSV the first one."""
+    return "\t".join(NAMES) if form == "tsv" else comma_line(NAMES) if form == "csv" else None
 
 
 def shown(path: str) -> str:
-    """A file's name for people."""
-    return os.fsencode(path).decode(errors="replace")
+    """A file's name for people, without what acts on a terminal or a page."""
+    return CONTROL.sub(escape, path)
