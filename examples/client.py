@@ -1,5 +1,6 @@
-import subprocess, sys
-pvtag = subprocess.Popen(["./pvtag", "session"] + sys.argv[1:], stdin=subprocess.PIPE, stdout=subprocess.PIPE)
+import os, subprocess, sys
+program = "./pvtag" if os.path.isfile("./pvtag") else "pvtag"
+pvtag = subprocess.Popen([program, "session"] + sys.argv[1:], stdin=subprocess.PIPE, stdout=subprocess.PIPE)
 def ask(line):
     pvtag.stdin.write(line.encode() + b"\n")
     pvtag.stdin.flush()
