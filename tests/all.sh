@@ -4,6 +4,8 @@
 # which are run alone, on what is built; `--list` lists them.
 set -u
 cd "$(dirname "$0")/.." || exit 1
+# No test takes a program that isn't proved.
+export PVTAG_PROVED=1
 if [ $# -gt 0 ]; then
     [ "$1" = --list ] || tools/build pvtag pvlong --check || {
         echo "tests/all.sh: what is built is older than its sources: \`tools/build pvtag pvlong\` makes it"

@@ -1,4 +1,5 @@
-"""Tries `./pvtag`, `./pvlong` and tools/build with a stand-in for the kit's `rt`, in a copy of what they read. The last line tells how many passed."""
+"""Tries `./pvtag`, `./pvlong`, tools/look and tools/build with a stand-in for the kit's `rt`, in a copy of what they read. The last line tells how many
+passed."""
 import contextlib
 import json
 import os
@@ -17,10 +18,15 @@ from lib.waiting import PATIENCE, until
 
 sys.path.append(str(Path(__file__).resolve().parent.parent / "tools"))
 sys.dont_write_bytecode = True
-from sources import needs  # noqa: E402
+from machine import processors  # noqa: E402
+from progress import Progress  # noqa: E402
+from scratch import scratch  # noqa: E402
+from sources import MINUTES, chains_behind, needs, read_minutes  # noqa: E402
 
 TOP = Path(__file__).resolve().parent.parent
-TOOLS = ("build", "kit.py", "machine.py", "processes.py", "progress.py", "proving.py", "sources.py")
+TOOLS = ("build", "kit.py", "look", "machine.py", "minutes", "processes.py", "progress.py", "proving.py", "scratch.py", "sources.py", "unproved.py")
+# What an answer without proofs says beside it.
+UNPROVED = re.compile(r"^pvtag: not proved yet; tools/build proves and builds it, in about \d+ minutes\n\Z", re.MULTILINE)
 # It is tools/build on a machine with so many processors, and memory for several runs of the kit or for one, which waits less for the kit.
 BUILD = """#!/usr/bin/env python3
 import os, runpy, sys
@@ -35,13 +41,15 @@ runpy.run_path(os.path.join(os.path.dirname(os.path.realpath(__file__)), "build-
 
 
 class Note(NamedTuple):
-    """What the stand-in did: when, in the run of which crate (of none in the run over all), at which priority, what, and with which crate."""
+    """What the stand-in did: when, in the run of which crate (of none in the run over all), at which priority, what, with which crate, and how many
+    processors it was told to use."""
     at: float
     run: str
     nice: int
     what: str
     crate: str
     CI: str | None
+    jobs: str | None
 
 
 class Trial(Expecting):
@@ -51,15 +59,15 @@ class Trial(Expecting):
         super().__init__()
         self.top = folder / "pvtag"
         shutil.copytree(TOP / "crates", self.top / "crates", ignore=shutil.ignore_patterns("out", "proofs", "specs"))
-        (self.top / "docs").mkdir()
         (self.top / "tools").mkdir()
-        for name in ("crates.txt", "HANDLES", "pvtag", "pvlong", "docs/DEVELOPING.md", *(f"tools/{it}" for it in TOOLS)):
+        for name in ("crates.txt", "HANDLES", "pvtag", "pvlong", *(f"tools/{it}" for it in TOOLS)):
             shutil.copy(TOP / name, self.top / name)
         (self.top / "tools/build").rename(self.top / "tools/build-here")
         (self.top / "tools/build").write_text(BUILD)
         (self.top / "tools/build").chmod(0o755)
-        self.bin, self.kept, self.noted, self.never = (folder / it for it in ("bin", "rattle-kept", "notes", "never"))
+        self.bin, self.kept, self.noted, self.never, self.temporary = (folder / it for it in ("bin", "rattle-kept", "notes", "never", "temporary"))
         self.bin.mkdir()
+        self.temporary.mkdir()
         shutil.copy(TOP / "tests/lib/kit.py", self.bin / "rt")
         (self.bin / "rt").chmod(0o755)
         self.forget()
@@ -80,14 +88,26 @@ class Trial(Expecting):
     def start(self, *words: str, errors: int | IO[str] = subprocess.PIPE, **more: str) -> subprocess.Popen[str]:
         variables = {name: value for name, value in os.environ.items() if name not in ("CI", "RT_JOBS")}
         variables |= {"PATH": f"{self.bin}:{os.environ['PATH']}", "PAGE": str(self.kept.with_name("kit") / "page"), "STORE": str(self.kept),
-                      "NOTES": str(self.noted), "HELD": str(self.never), **more}
-        return subprocess.Popen([words[0] if words[0] == "sh" else str(self.top / words[0]), *words[1:]], env=variables, text=True, stdout=subprocess.PIPE,
-                                stderr=errors, start_new_session=True)
+                      "NOTES": str(self.noted), "HELD": str(self.never), "TMPDIR": str(self.temporary), "PVTAG_PROVED": "1", **more}
+        return subprocess.Popen([words[0] if words[0] == "sh" else str(self.top / words[0]), *words[1:]], env=variables, text=True, stdin=subprocess.PIPE,
+                                stdout=subprocess.PIPE, stderr=errors, start_new_session=True, cwd=self.top)
 
-    def run(self, *words: str, **more: str) -> tuple[int, str, str]:
+    def run(self, *words: str, given: str = "", **more: str) -> tuple[int, str, str]:
         run = self.start(*words, **more)
-        said, errors = run.communicate(timeout=PATIENCE)
+        said, errors = run.communicate(given, timeout=PATIENCE)
         return run.returncode, said, errors
+
+    def look(self, *words: str, given: str = "", **more: str) -> tuple[int, str, str]:
+        """A call where nothing need be proved."""
+        return self.run("pvtag", *words, given=given, PVTAG_PROVED="", **more)
+
+    def tries(self) -> int:
+        """How many programs were made without proofs."""
+        return sum(note.what == "tries" for note in self.notes())
+
+    def left(self) -> list[str]:
+        """What lies among the temporary files."""
+        return sorted(it.name for it in self.temporary.iterdir())
 
     def asleep(self, crate: str) -> int:
         """The process that a stand-in has begun at this crate, once it has."""
@@ -212,7 +232,38 @@ def try_placing(trial: Trial) -> None:
         trial.expect(f"by {command}", told == (0, "other\n", ""), told)
     trial.expect("other words", trial.run("tools/build", "now")[0] == 2)
     left = sorted(it.name for it in (trial.top / "build").iterdir())
-    trial.expect("nothing else is left", left == ["lock", "pvtag", "pvtag.sum"], left)
+    trial.expect("nothing else is left", left == ["lock", "minutes", "pvtag", "pvtag.from", "pvtag.sum"], left)
+    record = trial.top / "build/pvtag.from"
+    told = record.read_text()
+    trial.expect("it is recorded that it was put there", re.match("[0-9a-f]{64} a file of the name other, put in place by hand\n", told) is not None, told)
+    by_kit = trial.top / "crates/pvtag/out/pvtag"
+    by_kit.parent.mkdir(exist_ok=True)
+    shutil.copy(other, by_kit)
+    trial.run("tools/build", "--put", str(by_kit))
+    told = record.read_text()
+    trial.expect("and that the kit made it", told.endswith(" the kit, which proved and built it here\n"), told)
+
+
+def try_remains(trial: Trial) -> None:
+    """Folders that a killed build left are removed by the next one, once nothing works in them; files that it left, too."""
+    trial.forget()
+    run = trial.start("tools/build", HOLDS="pv_steps")
+    asleep = trial.asleep("pv_steps")
+    os.kill(run.pid, signal.SIGKILL)
+    run.communicate(timeout=PATIENCE)
+    left = trial.left()
+    trial.expect("a killed build leaves its folder", len(left) == 1 and left[0].startswith("pvtag-held-"), left)
+    with scratch(trial.temporary):
+        trial.expect("as long as a run works in it, it stays", left[0] in trial.left(), trial.left())
+    os.killpg(os.getsid(asleep), signal.SIGKILL)
+    trial.has_ended(asleep)
+    (trial.top / "build/pvtag.new").touch()
+    told = trial.run("tools/build")
+    trial.expect("the next one removes it", told[0] == 0 and trial.left() == [], (told, trial.left()))
+    trial.expect("and what was half put in place", not list((trial.top / "build").glob("*.new")))
+    told = (trial.top / "build/pvtag.from").read_text()
+    trial.expect("it is recorded that it was built", told.endswith(" tools/build, which proved and built it here\n"), told)
+    trial.forget()
 
 
 def try_other(trial: Trial) -> None:
@@ -247,7 +298,7 @@ def by_name(trial: Trial, what: str) -> dict[str, Note]:
 def try_order(trial: Trial) -> None:
     """From nothing: a run a crate, side by side, none before those below it are proved."""
     trial.forget()
-    told = trial.run("tools/build", TAKES="0.5", CI="true")
+    told = trial.run("tools/build", TAKES="2", CI="true")
     trial.expect("from nothing", told[0] == 0 and trial.count() == 1, told)
     begins, ends = by_name(trial, "begins"), by_name(trial, "ends")
     crates, notes, runs = needs("pvtag"), trial.notes(), trial.runs()
@@ -258,9 +309,47 @@ def try_order(trial: Trial) -> None:
     trial.expect("by runs of their own, but the last", len(runs) > len(crates) / 2 and begins["pvtag"].run == "", runs)
     beside = [sum(begins[one].at <= begins[other].at < ends[one].at for one in runs) for other in runs]
     # Three that were begun at once, beside others that had waited, or have a dearer chain behind them.
-    trial.expect("several side by side, at most six", 3 <= max(beside) <= 6 and len(runs) - beside.count(1) > 5, beside)
+    trial.expect("several side by side, at most eight", 3 <= max(beside) <= 8 and len(runs) - beside.count(1) > 5, beside)
     trial.expect("runs that begin ahead of time wait", any(note.what == "waits" for note in notes))
     trial.expect("not as a gate", {note.CI for note in notes} == {None})
+    jobs = {note.crate: note.jobs for note in notes if note.what == "begins"}
+    trial.expect("two processors for the dearest chain alone", jobs["pv_chars"] is None and "1" in jobs.values(), jobs)
+    here = read_minutes(trial.top / "build/minutes")
+    trial.expect("what crates took is noted", here.keys() <= crates.keys() and len(here) > len(runs) / 2, (here, runs))
+
+
+def try_minutes(trial: Trial) -> None:
+    """The minutes of each crate: the table has all, one that isn't there is reckoned by its lines, and what is built here goes into it. The minutes that
+    are left are told as they turn out, also where the machine is slow or shared."""
+    crates = needs("pvtag", "pvlong")
+    trial.expect("the table has each crate; `tools/build --minutes` writes it", crates.keys() <= read_minutes(MINUTES).keys(),
+                 crates.keys() - read_minutes(MINUTES).keys())
+    table, here = trial.top / "tools/minutes", trial.top / "build/minutes"
+    was = read_minutes(table)
+    table.write_text("".join(f"{name} {minutes}\n" for name, minutes in was.items() if name != "pv_reach"))
+    here.parent.mkdir(exist_ok=True)
+    # A machine that takes twice the time, and a crate that has become dearer.
+    here.write_text(f"pv_span {2 * was['pv_span']}\npv_edit {2 * was['pv_edit'] + 2}\n")
+    told = trial.run("tools/build", "--minutes")
+    now = read_minutes(table)
+    trial.expect("the table is written anew", told[0] == 0 and now.keys() == was.keys(), told)
+    trial.expect("one by its lines", f"pv_reach ~{now['pv_reach']:.2f}\n" in table.read_text() and now["pv_reach"] > 1, now)
+    trial.expect("one by what it took", was["pv_edit"] < now["pv_edit"] < was["pv_edit"] + 1 and now["pv_chars"] == was["pv_chars"], now)
+    for pace, shared in ((1.0, 1.0), (2.0, 1.0), (0.5, 1.0), (2.0, 0.6)):
+        progress = Progress("all", crates)
+        whole = sum(progress.minutes.values())
+        # Five minutes in, with what was proved by then, lowest first.
+        got, spent = 5 * processors() * shared, 0.0
+        for name in sorted(crates, key=lambda it: -chains_behind(crates, progress.minutes)[it]):
+            if spent + pace * progress.minutes[name] < got:
+                progress.done.add(name)
+                progress.taken[name] = pace * progress.minutes[name]
+                spent += progress.taken[name]
+        progress.spent = {next(iter(progress.left())): got - spent}
+        progress.start -= 5 * 60
+        left, told_left = (pace * whole - got) / processors() / shared, progress.minutes_left()
+        trial.expect("the minutes that are left", left / 1.34 < told_left < left * 1.34, (pace, shared, left, told_left))
+    trial.forget()
 
 
 def try_priorities(trial: Trial) -> None:
@@ -314,7 +403,7 @@ def try_kept(trial: Trial) -> None:
     for words in ("and says so", "silently"):
         trial.forget()
         told = trial.run("tools/build", TAKES="0.1", LOSES=words)
-        trial.expect(f"a kit that keeps nothing, {words}", told[0] == 0 and trial.count() == 1 and len(trial.runs()) < 8, (told, trial.runs()))
+        trial.expect(f"a kit that keeps nothing, {words}", told[0] == 0 and trial.count() == 1 and len(trial.runs()) < 12, (told, trial.runs()))
     for name, value in (("PROCESSORS", "3"), ("RT_JOBS", "4"), ("PAGE", "/proc/kit/page")):
         trial.forget()
         told = trial.run("tools/build", TAKES="0.1", **{name: value})
@@ -332,10 +421,94 @@ def try_both(trial: Trial) -> None:
     trial.expect("one after another", all(ends[one].at <= begins[other].at for one, other in zip(runs, runs[1:])), runs)
 
 
+def try_look(trial: Trial) -> None:
+    """Where nothing is built, a program without proofs is made once, answers as it does by itself, and says that it isn't proved."""
+    for folder in ("a", "b"):
+        (trial.top / folder).mkdir()
+        (trial.top / folder / "same").write_text(f"line of {folder}\n")
+    told = trial.look("line", "a/same", "b/same")
+    lines = told[2].splitlines(keepends=True)
+    trial.expect("a first call", told[:2] == (0, "a/same:line of a\nb/same:line of b\n"), told)
+    trial.expect("it tells of both", len(lines) == 2 and "is made first" in lines[0] and UNPROVED.match(lines[1]) is not None, told)
+    trial.expect("it is made once, in a folder that goes", trial.tries() == 1 and trial.left() == [], (trial.tries(), trial.left()))
+    told = trial.look("two", given="one\ntwo\n")
+    trial.expect("a second call, on its input", told[:2] == (0, "two\n") and UNPROVED.match(told[2]) is not None, told)
+    statuses = [trial.look(*words)[0] for words in (["line", "a/same"], ["none", "a/same"], [], ["line", "/nowhere"])]
+    trial.expect("statuses", statuses == [0, 1, 2, 2], statuses)
+    trial.expect("it isn't made again", trial.tries() == 1, trial.tries())
+    trial.expect("it has been said", trial.look("line", "a/same", PVTAG_TOLD="1") == (0, "line of a\n", ""))
+    (trial.top / "a/link").symlink_to("../pvtag")
+    trial.expect("by a link", trial.run("a/link", "line", str(trial.top / "a/same"), PVTAG_PROVED="")[1] == "line of a\n")
+    trial.expect("it counts as no build", trial.run("tools/build", "--check")[0] == 1)
+    source = trial.top / "crates/pv_steps/src/lib.rt"
+    source.touch()
+    trial.expect("sources that are touched", trial.look("line", "a/same")[0] == 0 and trial.tries() == 1, trial.tries())
+    source.write_text(source.read_text() + "// changed\n")
+    told = trial.look("line", "a/same")
+    trial.expect("sources that change", told[:2] == (0, "line of a\n") and trial.tries() == 2, (told, trial.tries()))
+    told = trial.run("pvlong", "line", "a/same", PVTAG_PROVED="")
+    trial.expect("the other program", told[0] == 0 and "pvlong: not proved yet" in told[2] and trial.tries() == 3, told)
+    told = trial.run("pvtag", "a")
+    trial.expect("the proved one, by a variable", told[0] == 0 and told[1].startswith("built of ") and trial.count() == 1, told)
+    trial.expect("it is taken from then on", trial.look("a")[1] == told[1])
+    left = sorted(it.name for it in (trial.top / "build").iterdir())
+    trial.expect("the one without proofs goes", "pvtag.unproved" not in left and "pvlong.unproved" in left, left)
+    trial.forget()
+    told = trial.run("sh", "-c", f"ulimit -v 4000000; {trial.top}/pvtag a", PVTAG_PROVED="")
+    trial.expect("where addresses are limited", told[0] == 0 and told[1].startswith("built of ") and trial.tries() == 0, told)
+    trial.forget()
+
+
+def try_looks_that_end(trial: Trial) -> None:
+    """A program without proofs that can't be made, or isn't to the end: it says so, and leaves nothing. Of two at once one makes it."""
+    for number in (signal.SIGINT, signal.SIGTERM, signal.SIGHUP):
+        trial.wake()
+        run = trial.start("pvtag", "a", PVTAG_PROVED="", HOLDS="try")
+        asleep = trial.asleep("try")
+        os.killpg(run.pid, number)
+        run.communicate(timeout=PATIENCE)
+        trial.expect("an interrupted call ends", run.returncode != 0 and trial.has_ended(asleep) and trial.left() == [], (run.returncode, trial.left()))
+    trial.wake()
+    run = trial.start("pvtag", "a", PVTAG_PROVED="", HOLDS="try")
+    asleep = trial.asleep("try")
+    os.killpg(run.pid, signal.SIGKILL)
+    run.communicate(timeout=PATIENCE)
+    trial.expect("what is killed leaves a folder", len(trial.left()) == 1, trial.left())
+    os.killpg(os.getsid(asleep), signal.SIGKILL)
+    trial.has_ended(asleep)
+    trial.expect("no program is left", not list((trial.top / "build").glob("*.unproved*")))
+    told = trial.look("line", "a/same")
+    trial.expect("the next makes it, and removes the folder", told[:2] == (0, "line of a\n") and trial.left() == [], (told, trial.left()))
+    trial.forget()
+    go, errors = trial.top / "go look", [trial.top / f"look-{at}" for at in range(2)]
+    both = []
+    for file in errors:
+        with file.open("w") as to:
+            both.append(trial.start("pvtag", "line", "a/same", errors=to, PVTAG_PROVED="", HOLDS="try", HELD=str(go)))
+    until(lambda: any("waiting for a program" in file.read_text() for file in errors))
+    go.touch()
+    answers = [(run.communicate(timeout=PATIENCE)[0], run.returncode) for run in both]
+    trial.expect("two calls at once", answers == [("line of a\n", 0)] * 2 and trial.tries() == 1, (answers, trial.tries()))
+    trial.forget()
+    told = trial.look("a", WRONG="try")
+    trial.expect("sources that are refused", told[0] == 10 and told[1] == "" and "src/main.rt:1: a refusal" in told[2], told)
+    told = trial.look("a", PATH=str(Path(sys.executable).parent) + ":/usr/bin:/bin")
+    if not shutil.which("rt", path=f"{Path(sys.executable).parent}:/usr/bin:/bin"):
+        trial.expect("a look without a kit", told[0] == 10 and "no `rt` on the path" in told[2], told)
+    for variable, last in (("HIDES", "line of b\n"), ("CLINGS", "")):
+        trial.forget()
+        told = trial.look("line", "a/same", str(trial.top / "b/same"), **{variable: "1"})
+        trial.expect(f"each call by the kit, {variable}", told[0] == 0 and told[1].endswith(last) and trial.tries() == 2, (told, trial.tries()))
+        trial.look("line", "a/same", **{variable: "1"})
+        trial.expect("the program isn't looked for again", trial.tries() == 3 and not (trial.top / "build/pvtag.unproved").exists(), trial.tries())
+    trial.forget()
+
+
 def main() -> int:
     with tempfile.TemporaryDirectory(prefix="pvtag-trial-") as folder:
         trial = Trial(Path(folder))
-        for part in (try_failures, try_builds, try_changes, try_placing, try_other, try_progress, try_order, try_priorities, try_kept, try_both):
+        for part in (try_look, try_looks_that_end, try_failures, try_builds, try_changes, try_placing, try_other, try_progress, try_order, try_priorities, try_kept, try_both,
+                     try_remains, try_minutes):
             part(trial)
     return trial.ended()
 

@@ -74,7 +74,7 @@ KNOWN = [
     ("<doc>é ]]> b</doc>", "1:8: `]]>` stands in a text"),
     ("<doc>&eacute;</doc>", "1:6: `&eacute;` refers to an entity; `lt`, `gt`, `amp`, `apos` and `quot` alone are read"),
     ("<doc/>late", "1:7: text stands outside of the root"),
-    ("<doc/><doc/>", "1:7: a second element stands behind the root"),
+    ("<doc/><doc/>", "1:7: a second element stands after the root"),
     ("<doc><p a=b/></doc>", "1:6: a tag is `<`, a name, attributes with values in quotes, and `>` or `/>`"),
     ("<doc a='&'/>", "1:9: `&` begins no reference"),
     ("<!DOCTYPE doc [<!ELEMENT doc ANY>]><doc/>", "1:1: declarations in the document's type declaration aren't read"),
@@ -167,7 +167,7 @@ def tells_lines(program):
         ran = run([program], "standoff", letter, "letter", words, path)
         same(
             str(fault_of(ran.status, ran.line, {"ranges": Source("f", b"0 1 0 a\n5 5 0 b\n")})),
-            "f:2:1: the range is empty, or ends behind the text",
+            "f:2:1: the range is empty, or ends after the text",
             "a range",
         )
 
@@ -212,6 +212,21 @@ def refuses_bad_files(program):
                 got == status and not out and "Traceback" not in said and os.path.basename(doc)[:3] in said,
                 f"ranges {doc!r}: {said}",
             )
+
+
+def takes_all_names(program):
+    """Files whose names aren't UTF-8."""
+    with tempfile.TemporaryDirectory() as folder:
+        dtd_path, swapped, draft = (os.path.join(folder, f"\udcff.{name}") for name in ("dtd", "swapped", "draft"))
+        for path, example in ((dtd_path, "letter.dtd"), (swapped, "letter-swapped.xml"), (draft, "letter-draft.xml")):
+            with open(os.path.join(EXAMPLES, example), "rb") as file:
+                write(path, file.read())
+        got, out, said = command("why", dtd_path, "letter", swapped, "--program", program)
+        need(got == 0 and b".swapped:3:1: `closer`" in out and not said, f"why: {got} {out} {said}")
+        got, out, said = command("complete", dtd_path, "letter", draft, "--program", program)
+        need(got == 0 and b"<salute>" in out and not said, f"complete: {got} {out} {said}")
+        got, out, said = command("ranges", draft, "--program", program)
+        need(got == 0 and b" 0 body\n" in out and not said, f"ranges: {got} {out} {said}")
 
 
 def reads_and_writes_pipes(program):
@@ -294,6 +309,7 @@ def main():
         functools.partial(tells_known_faults, program),
         functools.partial(tells_lines, program),
         functools.partial(refuses_bad_files, program),
+        functools.partial(takes_all_names, program),
         functools.partial(reads_and_writes_pipes, program),
         functools.partial(completes, program),
         functools.partial(goes_and_comes_back, program, max(10, rounds // 5)),

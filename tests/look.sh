@@ -1,5 +1,5 @@
 #!/usr/bin/env bash
-# A first look, before anything is built, shows what README's first session shows. The last line tells how many passed.
+# A first look, without proofs, shows what README's first session shows. The last line tells how many passed.
 set -u
 cd "$(dirname "$0")/.." || exit 1
 line=$(sed -n 's/^\$ \.\/pvtag \(session .*\)/\1/p' README.md | head -n 1)

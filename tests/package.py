@@ -131,11 +131,12 @@ def try_installed(trial: Trial, deb: Path) -> None:
         told = trial.inside("pvtag-lsp", given=f"Content-Length: {len(body)}\r\n\r\n{body}")
         trial.expect("the language server", '"capabilities"' in told.stdout, (told.returncode, told.stdout, told.stderr))
     opens_page(trial, letter)
-    for name in ("pvtag", "pvlong", "pvtag-annotate", "pvtag-flatten", "pvtag-lsp", "pvtag-report", "pvtag-why"):
+    for name in ("pvtag", "pvlong", "pvtag-annotate", "pvtag-complete", "pvtag-flatten", "pvtag-lsp", "pvtag-ranges", "pvtag-report", "pvtag-why"):
         with gzip.open(trial.root / f"usr/share/man/man1/{name}.1.gz", "rt") as file:
             manual = file.read()
         trial.expect("what the manual tells", "rattle-kit" in manual or name not in ("pvtag", "pvlong"), manual[-600:])
         told = trial.inside(name, "--help").stdout if name not in ("pvtag", "pvlong", "pvtag-flatten") else ""
+        trial.expect("it names itself as it was called", not told or told.startswith(f"usage: {name} "), told[:200])
         lacking = [it for it in re.findall("--([a-z-]+)", told) if it != "help" and f"Fl -{it}" not in manual]
         trial.expect("the options of the manual", lacking == [], (name, lacking))
         if shutil.which("mandoc"):
@@ -144,6 +145,8 @@ def try_installed(trial: Trial, deb: Path) -> None:
             trial.expect("the manual, by mandoc", faults == [], faults)
     built = (trial.root / "usr/share/doc/pvtag/built").read_text()
     trial.expect("what it is made of", "commit: " in built and "rattle-kit" in built, built)
+    trial.expect("and that the programs were put there", "program came from: a file of the name pvtag, put in place by hand\n" in built
+                 and "proved by: not recorded for pvtag and pvlong\n" in built, built)
     done = dpkg(trial, "--purge", "pvtag")
     left = files_in(trial.root) - before
     trial.expect("removal leaves nothing", done.returncode == 0 and left == set(), (done.stderr, left))

@@ -376,6 +376,22 @@ expect "README's size" 0 "" awk 'length > 120 || FNR > 120' "$top/README.md"
 page <"$top/README.md"
 page <"$top/docs/COMMANDS.md"
 page <"$top/docs/ARCHIVES.md"
+# The line for GNU parallel, as it is printed, twice: the second time there are rows beside the batches.
+if command -v parallel >/dev/null && command -v python3 >/dev/null; then
+    mkdir page/bin && ln -s "$top/clients/report" page/bin/pvtag-report
+    line=$(sed -n 's/^    \(parallel .*\)/\1/p' "$top/docs/ARCHIVES.md")
+    for _ in once twice; do
+        expect "the line for GNU parallel" 0 "" env -C page PATH="$work/page/bin:$PATH" PARALLEL=--will-cite bash -c "$line" </dev/null
+        expect "the rows of the batches" 0 "4$lf" bash -c 'page/bin/pvtag-report --join page/batches | tail -n +2 | wc -l'
+    done
+else
+    echo "skipped: the line for GNU parallel (no parallel or no python3)"
+fi
+if command -v python3 >/dev/null; then
+    mkdir page/on-path && ln -s "$pvtag" page/on-path/pvtag
+    expect "a client with the program on the path" 0 "$(cd page && python3 examples/client.py examples/letter.dtd letter examples/letter-draft.xml)$lf$lf" \
+        env -C page/on-path/.. -u PVTAG PATH="$work/page/on-path:$PATH" sh -c 'cd clients && python3 ../examples/client.py ../examples/letter.dtd letter ../examples/letter-draft.xml'
+fi
 page <"$top/docs/HOWTO.md"
 page <"$top/docs/CLIENTS.md"
 expect "the first of the two commands" 0 "valid$lf" bash -c "cd page && $(sed -n 's/^- `\(\.\/pvtag [^`]*\)`.*/\1/p' "$top/README.md")"

@@ -3,7 +3,7 @@
 Words: PROGRAM SEED, and the most seconds, where less is wanted than all documents. Needs xmllint, and lxml for this Python or for that of
 the system (python3-lxml). The DTDs are those of docbook-xml, w3c-sgml-lib and xml-core, where they are installed. `flatten` makes a DTD of
 exactly those that xmllint reads whole, and random content models keep their words. `dtd` tells as many names, and the least trees that are
-found here. Documents that are made by a DTD and changed in a place or two, manual pages that doclifter makes DocBook of, XHTML pages, SVG
+found here; attributes, notations and entities are those that lxml finds in the DTD as it was published. Documents that are made by a DTD and changed in a place or two, manual pages that doclifter makes DocBook of, XHTML pages, SVG
 pictures and catalogs are `valid` as xmllint says with the DTD as it was published, attributes aside. A valid one whose tags were taken
 away here and there is `possible`; no more elements are missing than were taken away, and `complete` makes it valid again for xmllint.
 What needs too wide tables, or 20 seconds, is no fault. Prints each difference, and how many cases passed; ends with 1 where one failed.
@@ -39,6 +39,8 @@ CATALOG = CORE + "catalog.dtd"
 FIRST = [STRICT, TRANSITIONAL, XHTML11, MANUALS, SVG, MATHML, CATALOG]
 # One of its modules is found only where the catalog of its package is asked before that of the machine.
 TINY = W3C + "WD-XHTMLplusMathMLplusSVG-20020809/xhtml-basic-svg-tiny.dtd"
+# Debian's DocBook has links into this folder, in 4.1 beside a DTD that no catalog names.
+ALSO = "/etc/sgml/docbook-xml"
 CATALOGS = f"file://{W3C}catalog.xml file:///etc/xml/catalog"
 # What xmllint says of contents, and of attributes and other things that the program leaves out.
 CONTENT = re.compile(
@@ -111,8 +113,24 @@ GOOD = {
     "texts": (
         "<!ENTITY e 'x \"\n<!ELEMENT e EMPTY>\n'><!-- <!ELEMENT c EMPTY> --><?p <!ELEMENT d EMPTY>?>"
         "<!ATTLIST a b CDATA '>\n&#60;!ELEMENT f EMPTY>'><!NOTATION n SYSTEM \"a'\n<!ELEMENT g EMPTY>\"><!ELEMENT a EMPTY>",
-        "<!ELEMENT a EMPTY>\n",
+        '<!NOTATION n SYSTEM "a\'\n<!ELEMENT g EMPTY>" >\n'
+        '<!ENTITY e "x &#34;&#10;&#60;!ELEMENT e EMPTY>&#10;">\n<!ATTLIST a b CDATA "> &#60;!ELEMENT f EMPTY>">\n<!ELEMENT a EMPTY>\n',
     ),
+    "attributes": (
+        '<!ELEMENT a EMPTY><!ENTITY % t "(x|y)"><!ENTITY % more "z NMTOKENS #IMPLIED"><!ATTLIST a b CDATA #REQUIRED c %t; "x" %more;>\n'
+        "<!ATTLIST a b ID #IMPLIED d CDATA '&#38;&#37;\"&#39;&lt;' e NOTATION (n|m) #IMPLIED xmlns:x CDATA #FIXED 'urn:x' x:f IDREFS #IMPLIED>"
+        "<!ATTLIST x:b id ID #REQUIRED>",
+        '<!ELEMENT a EMPTY>\n<!ATTLIST a b CDATA #REQUIRED c (x | y) "x" z NMTOKENS #IMPLIED d CDATA "&#38;&#37;&#34;\'&#60;" e NOTATION (n | m) #IMPLIED'
+        ' xmlns:x CDATA #FIXED "urn:x" x:f IDREFS #IMPLIED>\n<!ATTLIST x:b id ID #REQUIRED>\n',
+    ),
+    "entities": (
+        "<!ENTITY % p 'of p'><!ENTITY e 'a &f; &#38;amp; &#37; %p; &#34;'><!ENTITY f '&#60;a/>'><!ENTITY g SYSTEM 'g.xml'><!ELEMENT a EMPTY>"
+        "<!NOTATION n PUBLIC '-//n//'><!ENTITY h PUBLIC 'h' 'h.gif' NDATA n><!ENTITY e 'later'>",
+        '<!NOTATION n PUBLIC "-//n//" >\n'
+        '<!ENTITY e "a &#38;f; &#38;amp; &#37; of p &#34;">\n<!ENTITY f "&#60;a/>">\n<!ENTITY g SYSTEM "g.xml">\n<!ELEMENT a EMPTY>\n'
+        '<!ENTITY h PUBLIC "h" "h.gif" NDATA n>\n',
+    ),
+    "below": ('<!ENTITY % m SYSTEM "below/b.mod">\n%m;\n<!ELEMENT a (b)>', "<!ELEMENT b EMPTY>\n<!ELEMENT a (b)>\n"),
     "groups": ("<!ELEMENT a (((b)),(c|(d|e)),(f,g)?,(h?)+,(i|j)*)>", "<!ELEMENT a (b , (c | d | e) , (f , g)? , h* , (i | j)*)>\n"),
     "latin": ('<?xml version="1.0" encoding="ISO-8859-1"?><!ELEMENT \u00e9t\u00e9 EMPTY>'.encode("latin-1"), "<!ELEMENT \u00e9t\u00e9 EMPTY>\n"),
     "wide characters": ('<?xml version="1.0" encoding="UTF-16"?><!ELEMENT \u540d EMPTY>'.encode("utf-16"), "<!ELEMENT \u540d EMPTY>\n"),
@@ -134,6 +152,16 @@ BAD = {
     "quoted": ("<!ENTITY % m SYSTEM 'http://localhost:1/\"none.mod'>\n%m;\n<!ELEMENT a EMPTY>", ["quoted.dtd:2: "]),
     "undeclared": ("<!ELEMENT a (b %more;)>", ["undeclared.dtd:1: ", "%more;"]),
     "address": ('<!ENTITY % m SYSTEM "a b.mod">\n%m;\n<!ELEMENT a EMPTY>', ["address.dtd:1: ", "a b.mod", "address.dtd:2: ", "%m;"]),
+    "host": ('<!ENTITY % m SYSTEM "file:///etc/passwd">\n%m;\n<!ELEMENT a EMPTY>', ["host.dtd:2: ", "--also FOLDER: /etc/passwd"]),
+    "short": ('<!ENTITY % m SYSTEM "file:/etc/passwd">\n%m;\n<!ELEMENT a EMPTY>', ["short.dtd:2: ", "--also FOLDER: /etc/passwd"]),
+    "local": ('<!ENTITY % m SYSTEM "File://LocalHost/etc/passwd">\n%m;\n<!ELEMENT a EMPTY>', ["local.dtd:2: ", "--also FOLDER: /etc/passwd"]),
+    "link": ('<!ENTITY % m SYSTEM "link.mod">\n%m;\n<!ELEMENT a EMPTY>', ["link.dtd:2: ", "--also FOLDER: ", "link.mod"]),
+    "above": ('<!ENTITY % m SYSTEM "../outside/o.mod">\n%m;\n<!ELEMENT a EMPTY>', ["above.dtd:2: ", "--also FOLDER: ", "o.mod"]),
+    "grown": (
+        '<!ENTITY % a "' + "x" * 1000 + '"><!ENTITY % b "' + "%a;" * 1000 + '">' + "".join(f"<!ENTITY e{n} '%b;'>" for n in range(8)) + "<!ELEMENT a EMPTY>",
+        ["grown.dtd"],
+    ),
+    "large": (f"<!ENTITY a '{'x' * 4194290}'><!ELEMENT a EMPTY>".replace("'", '"') + "<!ATTLIST a b CDATA #IMPLIED>" * 4, ["large.dtd: ", "4,194,304 bytes"]),
     "device": ('<!ENTITY % m SYSTEM "/dev/zero">%m;<!ELEMENT a EMPTY>', ["/dev/zero"]),
     "pipe": ('<!ENTITY % m SYSTEM "pipe.mod">%m;<!ELEMENT a EMPTY>', ["pipe.mod"]),
     "nul": (b"<!ELEMENT a EMPTY>\0<!ELEMENT b EMPTY>", ["nul.dtd"]),
@@ -159,6 +187,11 @@ def small(python):
     write("m.mod", "<!ELEMENT a (%kids;)>")
     write("again.mod", "<!ELEMENT a EMPTY>")
     os.mkfifo("pipe.mod")
+    os.makedirs("below")
+    write("below/b.mod", "<!ELEMENT b EMPTY>")
+    os.symlink("/etc/passwd", "link.mod")
+    os.makedirs("../outside")
+    write("../outside/o.mod", "<!ELEMENT o EMPTY>")
     for name, (text, want, *remarks) in (GOOD | TOLD).items():
         write(f"{name}.dtd", text)
         ran = run(python, TOOL, f"{name}.dtd")
@@ -166,14 +199,22 @@ def small(python):
         wanted = remarks[0] if remarks else []
         is_told = len(lines) == len(wanted) and all(words in line for words, line in zip(wanted, lines))
         case(ran.returncode == 0 and ran.stdout == want and is_told, name, ran)
+        # What is flat stays as it is.
+        write(f"{name}-flat.dtd", want)
+        again = run(python, TOOL, f"{name}-flat.dtd")
+        case(again.returncode == 0 and again.stdout == want, name, "again", again)
     for name, (text, words) in BAD.items():
         write(f"{name}.dtd", text)
         ran = run(python, TOOL, f"{name}.dtd", before=scarce)
         lines = ran.stderr.splitlines()
         is_plain = lines and all(line.startswith("flatten: ") for line in lines) and all(word in ran.stderr for word in words)
-        case(ran.returncode == 1 and ran.stdout == "" and is_plain and len(set(lines)) == len(lines), name, ran)
+        is_quiet = "root:" not in ran.stderr
+        case(ran.returncode == 1 and ran.stdout == "" and is_plain and is_quiet and len(set(lines)) == len(lines), name, ran)
+    for words in ["--also", "../outside", "above.dtd"], ["above.dtd", "--also=../outside"], ["--also", "/usr", "--also", "..", "above.dtd"]:
+        ran = run(python, TOOL, *words)
+        case((ran.returncode, ran.stdout, ran.stderr) == (0, "<!ELEMENT o EMPTY>\n<!ELEMENT a EMPTY>\n", ""), words, ran)
     files = (["none.dtd"], 1, "no such file"), (["."], 1, "no plain file"), (["pipe.mod"], 1, "no plain file"), (["/dev/null"], 1, "no plain file")
-    for words, status, said in ([], 2, "usage"), (["a", "b"], 2, "usage"), *files, (["--help"], 0, ""):
+    for words, status, said in ([], 2, "usage"), (["a", "b"], 2, "usage"), (["--als", "b", "a"], 2, "usage"), *files, (["--help"], 0, ""):
         ran = run(python, TOOL, *words)
         is_told = (status == 0) == bool(ran.stdout) and (status == 0) != bool(ran.stderr) and said in ran.stderr
         case(ran.returncode == status and is_told, words, ran)
@@ -387,9 +428,33 @@ def is_whole_dtd(path):
     return "Could not parse DTD" not in said and "failed to load" not in said and "; not found" not in said
 
 
+# What lxml knows of the attributes, notations and entities of a DTD: those of declared elements, in no order.
+ATTRIBUTES = r"""
+import re
+import sys
+from lxml import etree
+for path in sys.argv[1:]:
+    root = etree.fromstring(f'<!DOCTYPE a [<!ENTITY % a SYSTEM "file://{path}">%a;]><a/>', etree.XMLParser(load_dtd=True, no_network=True, recover=True, remove_comments=True, remove_pis=True))
+    dtd = root.getroottree().docinfo.internalDTD
+    for element in dtd.iterelements():
+        for it in element.iterattributes():
+            value = it.default_value if it.default_value is None else it.default_value.replace("&#38;", "&")
+            print(sorted([[path != sys.argv[1], element.prefix, element.name, it.prefix, it.name, it.type, it.default, value, it.values()]])[0][1:])
+    words = re.findall(r"<!ENTITY (%?)", etree.tostring(root.getroottree(), encoding="unicode"))
+    print(*sorted(f"{it.name} {it.content!r}" for it, word in zip(dtd.iterentities(), words) if not word), sep="\n")
+    print("--")
+"""
+
+
+# Whether lxml knows the same of both.
+def has_attributes(python, dtd, flat):
+    one, other = run(python, "-c", ATTRIBUTES, dtd, os.path.abspath(flat)).stdout.split("--\n")[:2]
+    return one != "" and sorted(one.splitlines()) == sorted(other.splitlines()), sorted(set(one.splitlines()) ^ set(other.splitlines()))[:20]
+
+
 # Makes the flat DTD, and compares what `dtd` tells of it. Its text, or nothing where it isn't read, as the best known all must be.
 def flattened(python, program, dtd, flat):
-    ran = run(python, TOOL, dtd)
+    ran = run(python, TOOL, "--also", ALSO, dtd)
     is_read = ran.returncode == 0
     is_right = is_read == is_whole_dtd(dtd) and (is_read or dtd not in (*FIRST, TINY))
     if not case(is_right, dtd, ran.returncode, ran.stderr) or not is_read:
@@ -399,6 +464,7 @@ def flattened(python, program, dtd, flat):
     tell("DTDs")
     models = models_of(ran.stdout)
     lines = run(program, "dtd", flat).stdout.splitlines()
+    case(*has_attributes(python, dtd, flat), dtd)
     case(lines[:-1] == dtd_lines(models, least_of(models)) and lines[-1].startswith(f"types {len(models)} "), dtd, lines)
     return ran.stdout
 
@@ -525,7 +591,8 @@ def main():
     python = python_with_lxml()
     if python:
         with tempfile.TemporaryDirectory() as folder:
-            os.chdir(folder)
+            os.mkdir(os.path.join(folder, "here"))
+            os.chdir(os.path.join(folder, "here"))
             small(python)
             random_models(python, 300)
             published(python, program)

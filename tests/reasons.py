@@ -313,7 +313,7 @@ SHOWN = [
         "article.dtd",
         "doc",
         "<doc><head/><head/><sec/></doc>",
-        "The second `head` (line 1, column 13) has no place behind the first (line 1, column 6): "
+        "The second `head` (line 1, column 13) has no place after the first (line 1, column 6): "
         "whatever is inserted, `doc` has room for one. `doc` is declared `(head, sec+)`.",
     ),
     (

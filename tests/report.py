@@ -3,6 +3,7 @@
 Words: the program, a seed, and how many documents. The last line tells how many passed.
 """
 import contextlib
+import csv
 import html.parser
 import json
 import os
@@ -13,6 +14,7 @@ import subprocess
 import sys
 import tempfile
 import time
+import urllib.parse
 from pathlib import Path
 from typing import Any
 
@@ -20,6 +22,9 @@ from lib.counting import Expecting
 from lib.waiting import PATIENCE, until
 
 TOP = Path(__file__).resolve().parent.parent
+sys.path.insert(0, str(TOP / "clients"))
+from pvtag.attributes import python_with_lxml  # noqa: E402
+
 REPORT = str(TOP / "clients" / "report")
 DTD = TOP / "examples" / "letter.dtd"
 # It keeps a line for each document that is checked. Where a file HELD is named, all but the first documents wait for it.
@@ -131,6 +136,159 @@ def try_strange_files(trial: Trial) -> None:
         again = rows_of(trial.over("--since", str(out), str(odd), str(odd / "missing"))[1])
         told = {row["path"].rpartition("/")[2]: row["verdict"] for row in again}
         trial.expect(f"strange files, {form}", told == wanted and status == 1 and errors == "", (told, status, errors))
+
+
+# Documents with subsets, entities and attributes: the verdict on elements, that on attributes and how many faults, a place, and words.
+ENTITIES = '<!ENTITY me "Anna"><!ENTITY to "&me; &#38; Jan">'
+LETTER = "<letter{0}><opener><salute>Dear {1}</salute></opener><body><p rend='it'>{1}</p></body></letter>"
+MIXED = {
+    "plain": (LETTER.format(" id='a'", "Anna"), "valid", "valid", 0, None, None),
+    "missing": (LETTER.format("", "Anna"), "valid", "invalid", 1, 2, "lacks the attribute `id`"),
+    "subset": (f"<!DOCTYPE letter [{ENTITIES}]>\n" + LETTER.format(" id='a'", "&to;"), "valid", "valid", 0, None, None),
+    "of the DTD": (LETTER.format(" id='a'", "&nbsp;"), "valid", "valid", 0, None, None),
+    "undeclared": (LETTER.format(" id='&none;'", "&none;"), "valid", "valid", 0, 13, "`&none;` isn't declared"),
+    "undeclared text": (LETTER.format(" id='a'", "&none;"), "valid", "valid", 0, 37, "`&none;` isn't declared"),
+    "elements": ("<!DOCTYPE letter [<!ENTITY e '<salute/>'>]><letter id='a'><opener>&e;</opener></letter>", "refused", None, None, 67, "brings elements"),
+    "declared": ("<!DOCTYPE letter [<!ELEMENT letter ANY>]>" + LETTER.format(" id='a'", ""), "valid", "valid", 0, 19, "declares an element itself"),
+    "possible": ("<!DOCTYPE letter [ ]><letter id='1'><body/></letter>", "possible", "invalid", 1, 30, "`id` of `letter` is `1`"),
+    "impossible": ("<!DOCTYPE letter [\n ]><letter id='a'><body/><opener/></letter>", "impossible", "valid", 0, 19, "`body` (line 2) stands before `opener`"),
+    "broken": ("<!DOCTYPE letter [\n ]><letter id='a'><body/>&me;", "refused", None, None, 30, "the file ends before"),
+}
+
+
+def try_attributes(trial: Trial) -> None:
+    """What is said of attributes and entities, and that no document is refused for its subset."""
+    if python_with_lxml() is None:
+        print("skipped: attributes in reports (no lxml, package python3-lxml)")
+        return
+    texts, dtd = trial.folder / "mixed", trial.folder / "attributes.dtd"
+    texts.mkdir()
+    dtd.write_bytes(DTD.read_bytes() + b"<!ATTLIST letter id ID #REQUIRED><!ATTLIST p rend (it|bf) 'it'><!ENTITY nbsp '&#160;'>")
+    for name, (text, *_) in MIXED.items():
+        (texts / f"{name}.xml").write_text(text)
+    page = trial.folder / "mixed.html"
+    status, said, errors = trial.run("--need", "--html", str(page), str(dtd), "letter", str(texts))
+    trial.expect("it ends well", (status, errors) == (0, ""), (status, errors))
+    for row in rows_of(said):
+        _, verdict, attributes, faults, column, words = MIXED[Path(row["path"]).stem]
+        told = (row["verdict"], row.get("attributes"), row.get("faults"), row.get("column"))
+        trial.expect("attributes and entities", told == (verdict, attributes, faults, column) and (words or "") in row.get("sentence", ""), row)
+        trial.expect("no subset is refused", "declarations in the" not in row.get("sentence", ""), row)
+    trial.expect("the page counts", "7 valid, 2 documents with 2 missing or wrong" in page.read_text(), page.read_text()[-3000:])
+    status, said, errors = trial.run("--no-attributes", "--html", str(page), str(dtd), "letter", str(texts))
+    trial.expect("without attributes", all("attributes" not in row for row in rows_of(said)) and "attributes weren't looked at" in page.read_text())
+    status, _, errors = trial.run("--fail-on", "attributes", str(dtd), "letter", str(texts))
+    trial.expect("attributes fail a run", (status, errors) == (4, "report: 2 attributes\n"), (status, errors))
+    # Without lxml.
+    (trial.folder / "without").mkdir()
+    (trial.folder / "without" / "lxml.py").write_text("raise ImportError")
+    trial.variables["PYTHONPATH"] = str(trial.folder / "without")
+    status, said, errors = trial.run(str(dtd), "letter", str(texts))
+    rows = [row for row in rows_of(said) if "attributes" in row]
+    trial.expect("no lxml", (status, rows) == (0, []) and "lxml is missing" in errors and errors.count("\n") == 1, (status, rows, errors))
+    status, _, errors = trial.run("--fail-on", "attributes", str(dtd), "letter", str(texts))
+    trial.expect("attributes that can't be looked at fail a run", status == 3 and "can't be looked at" in errors, (status, errors))
+    del trial.variables["PYTHONPATH"]
+
+
+# Documents of a mixed folder: their bytes, the verdict, the DTD's file and root that its row names, and words of its sentence.
+MODULE = '<!ENTITY % names SYSTEM "names.mod"> %names; <!ELEMENT poem (title?, line+)>'
+BY_DOCTYPE = {
+    "letter": (b"<!DOCTYPE letter SYSTEM 'letter.dtd'>", "letter", "valid", "letter.dtd", ""),
+    "draft": (b'<?xml version="1.0"?>\n<!-- . --><!DOCTYPE letter PUBLIC "-//x" "letter.dtd" [ <!ENTITY a "]>"> ]>', "draft", "possible", "letter.dtd", ""),
+    "instruction": (b'<?pvtag dtd="letter.dtd" root="letter"?>', "swapped", "impossible", "letter.dtd", "stands before"),
+    "poem": (b'<!DOCTYPE poem SYSTEM "poem.dtd">', b"<poem><line>A</line></poem>", "valid", "poem.dtd", ""),
+    "poem-draft": (b'<!DOCTYPE poem SYSTEM "poem.dtd">', b"<poem>A</poem>", "possible", "poem.dtd", ""),
+    "by-catalog": (b'<!DOCTYPE poem PUBLIC "-//test//DTD Poem//EN" "http://example.org/poem.dtd">', b"<poem><title/></poem>", "possible", "http:", ""),
+    "other-root": (b'<!DOCTYPE line SYSTEM "poem.dtd">', b"<line>A</line>", "valid", "poem.dtd", ""),
+    "no-such-root": (b'<!DOCTYPE verse SYSTEM "poem.dtd">', b"<verse/>", "impossible", "poem.dtd", "`verse`"),
+    "plain": (b"", "letter", "no-dtd", "", "names no DTD"),
+    "gone": (b'<!DOCTYPE letter SYSTEM "gone.dtd">', "letter", "no-dtd", "", "there is no such DTD"),
+    "bad": (b'<!DOCTYPE a SYSTEM "bad.dtd">', b"<a/>", "no-dtd", "", "bad.dtd:1:"),
+    "unknown": (b'<!DOCTYPE a PUBLIC "-//none" "http://example.org/none.dtd">', b"<a/>", "no-dtd", "", "can't be made plain"),
+    "broken": (b"<!DOCTYPE letter SYSTEM 'letter.dtd'>", b"<letter>", "refused", "letter.dtd", "ends before"),
+    "utf-16": (b"", "<!DOCTYPE letter SYSTEM 'letter.dtd'><letter/>".encode("utf-16"), "refused", "", "xmllint --encode UTF-8"),
+    "latin-1": (b"<!DOCTYPE letter SYSTEM 'letter.dtd'>", b"<letter>\xe9t\xe9</letter>", "refused", "letter.dtd", "iconv -f ISO-8859-1"),
+}
+CATALOG = '<catalog xmlns="urn:oasis:names:tc:entity:xmlns:xml:catalog"><public publicId="-//test//DTD Poem//EN" uri="poem.dtd"/></catalog>'
+
+
+def try_forms(trial: Trial) -> None:
+    """Control characters of names in each form, and read again; CSV; a summary; a page beside other documents."""
+    texts = trial.folder / "forms"
+    texts.mkdir()
+    strange = ["a\x1b[31m.xml", "b\u202e.xml", "c\x7f\x85.xml", "d,\"\n.xml", "e\udcff\\x41.xml", "f<b>:.xml"]
+    for number, name in enumerate(strange):
+        Path(os.fsdecode(bytes(texts) + b"/" + os.fsencode(name))).write_bytes(document(number % 4, number))
+    rows = rows_of(trial.over(str(texts))[1])
+    wanted = [str(texts / name) for name in strange]
+    trial.expect("names in JSON", [row["path"] for row in rows] == wanted, rows)
+    for form in ("json", "tsv", "csv"):
+        out, page = texts / f"out.{form}", texts / "page.html"
+        status, said, errors = trial.over("--format", form, "--output", str(out), "--html", str(page), "--summary", str(texts))
+        lines = said.decode().splitlines()
+        trial.expect("a summary", (status, errors) == (0, "") and lines[0] == "6 documents: 2 possible, 2 valid, 1 impossible, 1 refused", lines)
+        found = [line.split("\t") for line in lines if "\timpossible\t" in line]
+        trial.expect("a sentence without names", found[0][:3] == ["1", "impossible", "`…` (line N) stands before `…` (line N); in `…` they come in the other "
+                                                              "order. `…` is declared `…`."] and found[0][3].endswith(".xml:2:1"), lines)
+        for text in (out.read_bytes(), page.read_bytes(), said):
+            trial.expect("no control characters", not set(text) & {0x1B, 0x7F} and b"\xc2\x85" not in text and b"\xe2\x80\xae" not in text, text)
+        links = Page()
+        links.feed(page.read_text())
+        files = [os.path.join(texts, os.fsdecode(urllib.parse.unquote_to_bytes(link))) for link in links.links]
+        trial.expect("links from the page", files == [os.path.join(texts, f"./{name}") for name in strange], links.links)
+        if form == "csv":
+            table = list(csv.DictReader(out.read_text().splitlines(keepends=True)))
+            trial.expect("CSV", [row["verdict"] for row in table] == [row["verdict"] for row in rows] and len(table[0]) == len(table[2]), table)
+        else:
+            again = rows_of(trial.over("--since", str(out), str(texts))[1])
+            trial.expect("read again", again == rows and trial.checked() == 0, (again, trial.checked()))
+
+
+def try_by_doctype(trial: Trial) -> None:
+    """Each document by the DTD that it names; the others by the given pair; a DTD in modules; against xmllint; again what changed."""
+    if python_with_lxml() is None:
+        print("skipped: documents by their DTDs (no lxml, package python3-lxml)")
+        return
+    texts = trial.folder / "by-doctype"
+    texts.mkdir()
+    shutil.copy(DTD, texts)
+    for name, text in (("poem.dtd", MODULE), ("names.mod", "<!ELEMENT title (#PCDATA)> <!ELEMENT line (#PCDATA)>"), ("bad.dtd", "<!ELEMENT a (b>"), ("catalog", CATALOG)):
+        (texts / name).write_text(text)
+    for name, (front, body, *_) in BY_DOCTYPE.items():
+        files = {"letter": "letter.xml", "draft": "letter-draft.xml", "swapped": "letter-swapped.xml"}
+        content = (TOP / "examples" / files[body]).read_bytes() if isinstance(body, str) else body
+        (texts / f"{name}.xml").write_bytes(front + content)
+    trial.variables["XML_CATALOG_FILES"] = f"file://{texts}/catalog"
+    status, said, errors = trial.run("--by-doctype", str(texts))
+    trial.expect("some have no DTD", (status, errors) == (1, ""), (status, errors))
+    rows = {Path(row["path"]).stem: row for row in rows_of(said)}
+    trial.expect("a row a document", rows.keys() == BY_DOCTYPE.keys(), rows.keys())
+    for name, (_, _, verdict, dtd, words) in BY_DOCTYPE.items():
+        row = rows[name]
+        named = row.get("dtd", "")
+        trial.expect("by its DTD", row["verdict"] == verdict and words in row.get("sentence", "") and (dtd in named if dtd else not named), row)
+        if shutil.which("xmllint") and verdict in ("valid", "possible", "impossible"):
+            told = subprocess.run(["xmllint", "--noout", "--nonet", "--valid", str(texts / f"{name}.xml")], capture_output=True, env=trial.variables)
+            trial.expect("as xmllint says", b"<?pvtag" in (texts / f"{name}.xml").read_bytes() or (told.returncode == 0) == (verdict == "valid"), (row, told))
+    status, said, _ = trial.run("--by-doctype", "--otherwise", str(trial.dtd), "letter", str(texts))
+    row = next(it for it in rows_of(said) if it["path"].endswith("/plain.xml"))
+    trial.expect("by the given pair", (row["verdict"], row["dtd"], row["root"]) == ("valid", str(trial.dtd), "letter"), row)
+    out = texts / "report.tsv"
+    again = ("--by-doctype", "--format", "tsv", "--since", str(out), "--output", str(out), str(texts))
+    trial.run(*again)
+    first = trial.checked()
+    trial.run(*again)
+    trial.expect("only what has no verdict is judged again", first > 5 and trial.checked() == 0, (first, trial.checked()))
+    with (texts / "names.mod").open("a") as module:
+        module.write(" <!ELEMENT more EMPTY>")
+    trial.run(*again)
+    wanted = sum("poem.dtd" in row.get("dtd", "") for row in rows.values())
+    trial.expect("a DTD in modules that changes", trial.checked() == wanted, (trial.checked(), wanted))
+    del trial.variables["XML_CATALOG_FILES"]
+    status, said, errors = trial.run(str(texts / "poem.dtd"), "poem", str(texts / "poem-draft.xml"))
+    trial.expect("a given DTD in modules", status == 0 and rows_of(said)[0]["verdict"] == "possible" and "dtd" not in rows_of(said)[0], (status, said, errors))
+    trial.expect("a pair for nothing", trial.run("--otherwise", str(DTD), "letter", str(texts))[0] == 2)
 
 
 def try_again(trial: Trial, report: bytes) -> None:
@@ -282,6 +440,8 @@ def try_batches(trial: Trial, report: bytes) -> None:
             Path(f"{file}.rows").write_bytes(trial.over("--need", "-0", given=Path(file).read_bytes())[1])
     page = trial.folder / "page.html"
     status, said, errors = trial.run("--join", str(folder), "--html", str(page))
+    failing = trial.run("--join", str(folder), "--fail-on", "impossible")
+    trial.expect("joined rows fail a run", failing[0] == (4 if 2 in trial.kinds else 0) and failing[1] == said, failing[2])
     trial.expect("all put together", status == 0 and errors == "" and plain(said) == plain(report), (status, errors))
     strange = Path(f"{files[0]}.rows")
     head, row, *others = strange.read_bytes().split(b"\n")
@@ -302,17 +462,20 @@ class Page(html.parser.HTMLParser):
 
     def __init__(self) -> None:
         super().__init__()
-        self.rows, self.asked = 0, list[str]()
+        self.rows, self.asked, self.links = 0, list[str](), list[str]()
 
     def handle_starttag(self, tag: str, attrs: list[tuple[str, str | None]]) -> None:
         self.rows += tag == "tr"
-        self.asked += [f"{name}={value}" for name, value in attrs if name in ("src", "href")]
+        self.asked += [f"{name}={value}" for name, value in attrs if name == "src" or name == "href" and tag != "a"]
+        self.links += [value or "" for name, value in attrs if name == "href" and tag == "a"]
 
 
 def try_page(trial: Trial, text: str) -> None:
     page = Page()
     page.feed(text)
     trial.expect("a row a document in the page", page.rows == len(trial.kinds) + 1, page.rows)
+    files = [os.path.join(trial.folder, urllib.parse.unquote(link)) for link in page.links]
+    trial.expect("links to the documents", len(files) == len(trial.kinds) and all(map(os.path.isfile, files)), page.links)
     trial.expect("nothing is asked for", page.asked == [] and "http" not in text, page.asked)
 
 
@@ -321,7 +484,12 @@ def try_faults(trial: Trial) -> None:
     bad = trial.folder / "bad.dtd"
     bad.write_text("<!ELEMENT a (b>")
     one = str(trial.file(0))
+    empty = trial.folder / "empty"
+    empty.mkdir()
     for what, words in (("no DTD", ["nothing.dtd", "letter", one]), ("a DTD in fault", [str(bad), "a", one]), ("no name", [str(trial.dtd), "1", one]),
+                        ("a root that isn't declared", [str(trial.dtd), "lettre", one]), ("a root that isn't UTF-8", [str(trial.dtd), "\udcff", one]),
+                        ("no document", [str(trial.dtd), "letter", str(empty)]), ("no document by its name", [str(trial.dtd), "letter", "--suffix", ".doc", str(trial.texts)]),
+                        ("an empty list", [str(trial.dtd), "letter", "-0"]), ("a plan of nothing", ["--plan", "2", "--folder", str(trial.folder / "planned"), str(empty)]),
                         ("no folder", ["--join", str(trial.folder / "none")])):
         status, said, errors = trial.run(*words)
         trial.expect(what, status == 3 and said == b"" and errors.startswith("report: ") and errors.count("\n") == 1, (status, said, errors))
@@ -330,18 +498,66 @@ def try_faults(trial: Trial) -> None:
     trial.expect("no program", told.returncode == 3 and told.stderr.count(b"\n") == 1, told)
 
 
+def try_streams(trial: Trial) -> None:
+    """Deep JSON in an earlier report, closed outputs, and Ctrl-C while it starts."""
+    one, earlier = str(trial.file(0)), trial.folder / "deep.jsonl"
+    head = trial.over(one)[1].splitlines()[0]
+    deep = b'{"path": ' + b"[" * 100_000
+    for first in (head, deep):
+        earlier.write_bytes(first + b"\n" + deep + b"\n")
+        status, said, errors = trial.over("--since", str(earlier), one)
+        trial.expect("deep JSON", (status, errors, len(rows_of(said))) == (0, "", 1), (status, errors))
+    words = [sys.executable, REPORT, "--program", str(trial.program), str(trial.dtd), "letter", one]
+    for closed, status, told in (("1>&-", 3, b"report: the standard output is closed\n"), ("2>&-", 0, b""), ("1>&- --output closed.jsonl", 0, b"")):
+        ran = subprocess.run(["sh", "-c", f'"$@" {closed}', "sh", *words], capture_output=True, env={**trial.variables, "HELD": "", "SLOW": ""}, cwd=trial.folder)
+        trial.expect("closed outputs", (ran.returncode, ran.stderr) == (status, told), (closed, ran))
+    trial.expect("a file beside a closed output", len(rows_of((trial.folder / "closed.jsonl").read_bytes())) == 1)
+    for delay in (0.15, 0.3, 0.6):
+        run = trial.start(str(trial.dtd), "letter", one, held="")
+        time.sleep(delay)
+        run.send_signal(signal.SIGINT)
+        _, errors = run.communicate(timeout=PATIENCE)
+        # Until its first line is run Python itself may say so.
+        is_early = b"line 0, in <module>" in errors or errors != b"" and b"clients/report" not in errors
+        trial.expect("Ctrl-C while it starts", is_early or run.returncode in (0, 130) and errors == b"", (run.returncode, errors))
+
+
+def try_failing(trial: Trial) -> None:
+    """A run fails for documents of the kinds that it is asked to fail for, in one run and joined; its report is as it was."""
+    whole = rows_of(trial.over(str(trial.texts))[1])
+    has = {kind: sum(row["verdict"] == kind for row in whole) for kind in ("impossible", "refused")}
+    has["invalid"] = sum(row["verdict"] != "valid" for row in whole)
+    for kinds in ("impossible", "refused", "invalid", "impossible,refused", "attributes"):
+        named = [kind for kind in kinds.split(",") if has.get(kind)]
+        wanted = f"report: {', '.join(f'{has[kind]} {kind}' for kind in named)}\n" if named else ""
+        status, said, errors = trial.over("--fail-on", kinds, str(trial.texts))
+        trial.expect("a run fails", (status, errors) == (4 if named else 0, wanted) and rows_of(said) == whole, (kinds, status, errors))
+    valid = [str(trial.file(it)) for it, kind in enumerate(trial.kinds) if kind == 0]
+    status, _, errors = trial.over("--fail-on", "invalid,attributes", *valid)
+    trial.expect("none of these kinds", (status, errors) == (0, ""), (status, errors))
+    status, _, errors = trial.over("--fail-on", "invalid", *valid, str(trial.folder / "nothing.xml"))
+    trial.expect("no verdict", (status, errors) == (1, ""), (status, errors))
+    for words in (["--fail-on", "wrong"], ["--fail-on", "attributes", "--no-attributes"]):
+        trial.expect("wrong kinds", trial.over(*words, *valid)[0] == 2, words)
+
+
 def main() -> int:
     pvtag, seed, count = sys.argv[1], int(sys.argv[2]), int(sys.argv[3])
     with tempfile.TemporaryDirectory(prefix="pvtag-report-") as folder:
         trial = Trial(Path(folder), pvtag, seed, count)
         report = try_kinds(trial)
         try_strange_files(trial)
+        try_attributes(trial)
+        try_forms(trial)
+        try_by_doctype(trial)
         try_killed(trial, report, 6)
         try_interrupted(trial)
         try_changing(trial)
         try_outputs(trial, report)
         try_batches(trial, report)
         try_faults(trial)
+        try_failing(trial)
+        try_streams(trial)
         try_again(trial, report)
     return trial.ended()
 

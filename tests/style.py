@@ -1,11 +1,18 @@
-"""Holds what has no behaviour: Python files by pyflakes, shell scripts by shellcheck, where these are installed; prose of the pages at 120 columns;
-the file that each choice of docs/DECISIONS.md names. Prints each finding, and how many files and pages passed; ends with 1 where one failed."""
+"""Checks what has no behaviour: Python files by pyflakes, shell scripts by shellcheck, the clients' types by mypy, where these are installed; that prose of the pages keeps to
+120 columns and to the words of the field, and that by cmark, where it is installed, no list, heading or table of a page comes about by accident;
+that each check has its file's name, and docs/PROVED.md their table; the file that each choice of docs/DECISIONS.md names; that each edit which the
+gate leaves out still has its place. Prints each finding, and how many files and pages passed; ends with 1 where one failed."""
 import re
 import shutil
 import subprocess
 import sys
+import tempfile
 from collections.abc import Iterator
 from pathlib import Path
+from xml.etree import ElementTree
+
+sys.dont_write_bytecode = True
+from run import CHECKS, MARKED, PAGE, file_of, table  # noqa: E402
 
 TOP = Path(__file__).resolve().parent.parent
 FOLDERS = [".ci", "bench", "clients", "examples", "tests", "tools"]
@@ -13,6 +20,11 @@ PYFLAKES = [["pyflakes3"], ["pyflakes"]]
 # Words that another shell is given stand in single quotes.
 SHELLCHECK = ["shellcheck", "--format=gcc", "--exclude=SC2016"]
 CHOICE = re.compile(r"^- \*\*.*?(?=^- \*\*|^## |\Z)", re.MULTILINE | re.DOTALL)
+# So many edits of a crate are tried by the gate, at most.
+MOST_EDITS = 3
+# What parts the cells of a table, and its second row.
+BAR = re.compile(r"(?<!\\)\|")
+RULE = re.compile(r"[|: -]+$")
 FILE = re.compile(r"File:\s+`([^`]+)`\.\s*\Z")
 
 
@@ -29,6 +41,11 @@ def sources(of: str) -> list[Path]:
     """The files of a language."""
     files = [TOP / "pvtag", TOP / "pvlong", *(it for folder in FOLDERS for it in sorted((TOP / folder).rglob("*")))]
     return [it for it in files if it.is_file() and "__pycache__" not in it.parts and language(it) == of]
+
+
+# What finds faults of types, and the commands of the clients that are typed.
+MYPY = ["mypy", "--strict"]
+TYPED = ("report", "why", "complete", "ranges")
 
 
 def found_by(words: list[str], files: list[Path]) -> Iterator[tuple[str, str]]:
@@ -50,6 +67,62 @@ def by_tool(tools: list[list[str]], files: list[Path]) -> Iterator[tuple[str, st
         print(f"skipped: {len(files)} files (no {tools[0][0]})")
 
 
+def typed() -> Iterator[tuple[str, str]]:
+    """What mypy finds in the packages of the clients, and in the commands over them."""
+    if not shutil.which(MYPY[0]):
+        print("skipped: types (no mypy)")
+        return
+    with tempfile.TemporaryDirectory() as cache:
+        for words in (["-p", "pvtag", "-p", "reporting"], *([command] for command in TYPED)):
+            run = subprocess.run([*MYPY, f"--cache-dir={cache}", *words], cwd=TOP / "clients", capture_output=True, text=True, errors="replace")
+            yield " ".join(words), run.stdout + run.stderr if run.returncode else ""
+
+
+def is_table(rows: list[str]) -> bool:
+    """Whether these lines are a table: a head, a rule, and as many cells in each row."""
+    return len(rows) > 2 and bool(RULE.match(rows[1])) and all(it.startswith("|") for it in rows) and len({len(BAR.findall(it)) for it in rows}) == 1
+
+
+def accidents(page: Path) -> Iterator[str]:
+    """What cmark takes for something that isn't written as such: a heading by the line under it, a number at the front of a line, a bar, a tag."""
+    lines = page.read_text(encoding="utf-8").splitlines()
+    run = subprocess.run(["cmark", "--to", "xml", "--sourcepos", str(page)], capture_output=True, text=True, check=True)
+    for node in ElementTree.fromstring(run.stdout).iter():
+        found = re.match(r"(\d+):\d+-(\d+):", node.get("sourcepos", ""))
+        if not found:
+            continue
+        at, end = int(found[1]), int(found[2])
+        first, rows, kind, what = lines[at - 1].strip(), [it.strip() for it in lines[at - 1:end]], node.tag.rpartition("}")[2], ""
+        if kind == "heading" and not first.startswith("#"):
+            what = "a heading, by the line under it"
+        elif kind == "list" and node.get("type") == "ordered" and (node.get("start") != "1" or len(node) == 1):
+            what = "a list, by a number at the front of a line"
+        elif kind == "html_block" and not first.startswith("<!--"):
+            what = "HTML, by a tag at the front of a line"
+        elif kind == "paragraph" and any(it.startswith("|") for it in rows) and not is_table(rows):
+            what = "no table: lines without a bar, or rows with other numbers of cells"
+        if what:
+            yield f"{page}:{at}: {what}"
+
+
+def by_cmark(pages: list[Path]) -> Iterator[tuple[str, str]]:
+    """Each page, and what stands in it by accident."""
+    if shutil.which("cmark"):
+        yield from ((str(page), "\n".join(accidents(page))) for page in pages)
+    else:
+        print(f"skipped: {len(pages)} pages (no cmark)")
+
+
+def checks() -> Iterator[tuple[str, str]]:
+    """Each check, and whether its file has another name; and their table."""
+    for check in CHECKS:
+        is_named = check.name == Path(file_of(check)).stem
+        yield check.name, "" if is_named else f"tests/run.py: the check {check.name} hasn't the name of {file_of(check)}"
+    found = MARKED.search(PAGE.read_text(encoding="utf-8"))
+    is_fresh = found and found[2].strip() == table()
+    yield "the table of checks", "" if is_fresh else "docs/PROVED.md: the table of checks is stale: python3 tests/run.py --table writes it"
+
+
 def choices() -> Iterator[tuple[str, str]]:
     """Each choice, and what is wrong with the file that it names."""
     for choice in CHOICE.findall((TOP / "docs" / "DECISIONS.md").read_text(encoding="utf-8")):
@@ -58,12 +131,35 @@ def choices() -> Iterator[tuple[str, str]]:
         yield title, "" if is_there else f"docs/DECISIONS.md, {title}: the choice ends with no `File:` that is there"
 
 
+def edits() -> Iterator[tuple[str, str]]:
+    """Each edit that `tests/edits.sh` tries, and which of its texts isn't once in the file that it names: the others are tried by the gate. Of these a
+    crate has only so many."""
+    for folder in sorted(TOP.glob("crates/*/must-fail")):
+        count = len(list(folder.glob("*.edit")))
+        yield str(folder), f"{folder.relative_to(TOP)}: {count} edits, and at most {MOST_EDITS} are tried by the gate" if count > MOST_EDITS else ""
+    for edit in sorted(TOP.glob("crates/*/edits/*")):
+        file, what = edit.parent.parent, ""
+        for line in edit.read_text(encoding="utf-8").splitlines():
+            kind, _, text = line.partition(": ")
+            if kind == "file":
+                file = edit.parent.parent / text
+            elif kind == "old" and (not file.is_file() or file.read_text(encoding="utf-8").count(text) != 1):
+                what = f"{edit.relative_to(TOP)}: not once in {file.relative_to(TOP)}: {text}"
+        yield edit.name, what if file.is_file() else f"{edit.relative_to(TOP)}: it names no file"
+
+
 def findings() -> Iterator[tuple[str, str]]:
     """Files, pages and choices, each with what is wrong with it."""
     yield from by_tool(PYFLAKES, sources("python"))
     yield from by_tool([SHELLCHECK], sources("shell"))
-    yield from found_by([str(TOP / "tools" / "wrap"), "--check"], [TOP / "README.md", *sorted((TOP / "docs").glob("*.md"))])
+    yield from typed()
+    pages = [TOP / "README.md", *sorted((TOP / "docs").glob("*.md"))]
+    yield from found_by([str(TOP / "tools" / "wrap"), "--check"], pages)
+    yield from found_by([str(TOP / "tools" / "english")], [*pages, *sorted((TOP / "docs").glob("*.1"))])
+    yield from by_cmark(pages)
+    yield from checks()
     yield from choices()
+    yield from edits()
 
 
 def main() -> int:

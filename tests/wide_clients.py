@@ -1,4 +1,4 @@
-"""Tries what clients say of a document with a list that is too wide for `pvtag` to count: the page, the language server and reports ask `pvlong`, a
+"""Tries what clients say of a document with a list that is too wide for `pvtag` to count: the page, the language server, reports and `clients/complete` ask `pvlong`, a
 stand-in for which tells a number, a range or nothing, or takes its time.
 
 Words: the program, and `pvlong`, which is then asked too. Prints each difference, and how many cases passed; ends with 1 where one failed.
@@ -131,8 +131,24 @@ def rows_of(beside, path):
     return [json.loads(line) for line in ran.stdout.splitlines()[1:]]
 
 
-CASES = [page_asks, page_tells_ranges, moves_end_it, server_tells, server_ends_it, reports_tell]
-OF_BOTH = [page_asks, server_tells, reports_tell]
+def command_completes(program, other=None):
+    """What `clients/complete` prints: a least completion, one that may not be least, which it says, and none."""
+    with Beside(program, other) as beside:
+        path = os.path.join(beside.folder, "doc.xml")
+        with open(path, "w", encoding="utf-8") as file:
+            file.write(WIDE)
+        words = [sys.executable, os.path.join(TOP, "clients", "complete"), "--program", beside.program, ARTICLE, "doc", path]
+        for answer, status, document, said in (("0 ", 0, VALID, ""), ("1 ", 0, VALID, "fewer elements may be enough"),
+                                               ("8 no limit", 8, "", "too many kids"))[:1 if other else 3]:
+            if other is None:
+                beside.tells("0 need 2", answer)
+            ran = subprocess.run(words, capture_output=True, text=True, timeout=PATIENCE)
+            same((ran.returncode, ran.stdout), (status, document), f"a completion: {ran.stderr}")
+            need(said in ran.stderr and bool(said) == bool(ran.stderr), f"what is said of it: {ran.stderr}")
+
+
+CASES = [page_asks, page_tells_ranges, moves_end_it, server_tells, server_ends_it, reports_tell, command_completes]
+OF_BOTH = [page_asks, server_tells, reports_tell, command_completes]
 
 
 def main():
