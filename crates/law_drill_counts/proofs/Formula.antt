@@ -2,12 +2,12 @@
 use Rattle.std.proofs.Common.{ap, arith, sym, ℕ, ◌∙◌, ◌/◌, ◌≡◌}
 use Rattle.pv_cli.proofs.DrillStages.{asks_none}
 use Rattle.pv_cli.specs.CommandLine.{IsDrillSize}
-use Rattle.pv_stages.specs.Course.{Course, responds}
+use Rattle.pv_opening.specs.Course.{Course, responds}
 use Rattle.pv_cli.specs.Drill.{TellsCounts, counts_text, drill_stage}
-use Rattle.pv_stages.specs.Response.{PlainResponse, with_line}
-use Rattle.pv_stages.specs.Stage.{Responds, opened, refused, responded, short_of_memory, stopped}
+use Rattle.pv_opening.specs.Response.{PlainResponse, with_line}
+use Rattle.pv_opening.specs.Stage.{Responds, opened, refused, responded, short_of_memory, stopped}
 use Rattle.pv_cli.specs.declared.commands.drill.Counts.{Counts}
-use Rattle.pv_stages.specs.declared.status.Status.TheVariants.{Done}
+use Rattle.pv_opening.specs.declared.status.Status.TheVariants.{Done}
 use Rattle.pv_session.specs.Sessions.{PlainSession}
 use Rattle.law_drill_counts.proofs.Counting.{LineLaws, lines_counted, open_left}
 use Rattle.law_drill_counts.proofs.Opening.{Reading, never_refused, opened_at}

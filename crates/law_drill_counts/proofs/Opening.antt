@@ -6,11 +6,11 @@ use Rattle.std.proofs.lemmas.List.{length-map}
 use Rattle.pv_cache.proofs.Alike.{twice}
 use Rattle.pv_cache.proofs.ListMarks.{all_narrow_to}
 use Rattle.law_program.proofs.OneDrill.{drill_sure}
-use Rattle.pv_stages.proofs.OneOpening.{ReadsOne}
+use Rattle.pv_opening.proofs.OneOpening.{ReadsOne}
 use Rattle.pv_cli.specs.CommandLine.{IsDrillSize}
-use Rattle.pv_stages.specs.Documents.{PlainOpened}
+use Rattle.pv_opening.specs.Documents.{PlainOpened}
 use Rattle.pv_cli.specs.Drill.{drill_stage, reading_stage}
-use Rattle.pv_stages.specs.Response.{PlainResponse}
+use Rattle.pv_opening.specs.Response.{PlainResponse}
 use Rattle.pv_conversation.specs.Session.{guarding_stage}
 use Rattle.pv_drill.specs.Drill.{drill_text}
 use Rattle.pv_dtd.specs.Laws.{OneMeaning}

@@ -5,11 +5,11 @@ use Rattle.pv_cli.specs.CommandLine.{IsDrillSize, drill}
 use Rattle.pv_cli.specs.Drill.{counts_text}
 use Rattle.pv_cli.specs.Headline.{HadNoMemory}
 use Rattle.pv_cli.specs.Laws.{Answered, AnswersWithoutFault}
-use Rattle.pv_stages.specs.Devices.{Devices}
+use Rattle.pv_opening.specs.Devices.{Devices}
 use Rattle.pv_cli.specs.Program.{Runs}
-use Rattle.pv_stages.specs.Response.{PlainResponse, with_line}
-use Rattle.pv_stages.specs.declared.status.Status.{Status}
-use Rattle.pv_stages.specs.declared.status.Status.TheVariants.{Done}
+use Rattle.pv_opening.specs.Response.{PlainResponse, with_line}
+use Rattle.pv_opening.specs.declared.status.Status.{Status}
+use Rattle.pv_opening.specs.declared.status.Status.TheVariants.{Done}
 use Rattle.law_drill_counts.specs.Counts.{PrintsFormula, RespondsByFormula, drill_counts}
 
 module _ (S : Type 0) (responds_so : RespondsByFormula) (n : ℕ) (before after : Devices S) (status : Status) (size : IsDrillSize n) (run : Runs (Some (drill n)) before after status) where

@@ -6,15 +6,15 @@ use Rattle.pv_session.specs.Sessions.{PlainSession, stamped_document}
 use Rattle.pv_cache.specs.Moves.{HasOpen}
 use Rattle.pv_drill.specs.Drill.{drill_lines}
 use Rattle.pv_cli.specs.CommandLine.{IsDrillSize, drill}
-use Rattle.pv_stages.specs.Course.{Course, responds}
+use Rattle.pv_opening.specs.Course.{Course, responds}
 use Rattle.pv_cli.specs.Drill.{CountsReplies, IsDrillCourse, counts_text, drill_stage, no_counts}
-use Rattle.pv_stages.specs.Devices.{Devices}
+use Rattle.pv_opening.specs.Devices.{Devices}
 use Rattle.pv_cli.specs.Headline.{HadNoMemory}
 use Rattle.pv_cli.specs.Program.{Runs}
-use Rattle.pv_stages.specs.Response.{PlainResponse, with_line}
+use Rattle.pv_opening.specs.Response.{PlainResponse, with_line}
 use Rattle.pv_cli.specs.declared.commands.drill.Counts.{Counts}
-use Rattle.pv_stages.specs.declared.status.Status.{Status}
-use Rattle.pv_stages.specs.declared.status.Status.TheVariants.{Done}
+use Rattle.pv_opening.specs.declared.status.Status.{Status}
+use Rattle.pv_opening.specs.declared.status.Status.TheVariants.{Done}
 
 -- Each section has two lines, of which the second is `ok`; each third section has one more, which
 -- is `ok` too. A wrapped text changes two lists, and taking that back changes one.

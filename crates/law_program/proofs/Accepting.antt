@@ -4,23 +4,23 @@ use Rattle.std.specs.Io.KnownBytes.{Appends}
 use Rattle.pv_cert.specs.declared.packs.Pack.{Pack}
 use Rattle.pv_commands.specs.Certificates.{certificate_stage}
 use Rattle.pv_cli.specs.CommandLine.{PlainCommandLine, on_certificate}
-use Rattle.pv_stages.specs.Course.{Course, RunEnding, input_fault, no_memory, output_fault}
-use Rattle.pv_stages.specs.Course.{responds, shelf_fault}
-use Rattle.pv_stages.specs.Devices.{Devices}
-use Rattle.pv_stages.specs.Documents.{PlainOpened}
+use Rattle.pv_opening.specs.Course.{Course, RunEnding, input_fault, no_memory, output_fault}
+use Rattle.pv_opening.specs.Course.{responds, shelf_fault}
+use Rattle.pv_opening.specs.Devices.{Devices}
+use Rattle.pv_opening.specs.Documents.{PlainOpened}
 use Rattle.law_program.specs.Laws.{AcceptsLeast, ShowsLeast}
-use Rattle.pv_stages.specs.Opening.{Files}
+use Rattle.pv_opening.specs.Opening.{Files}
 use Rattle.pv_commands.specs.PackFiles.{pack_file_stage}
-use Rattle.pv_stages.specs.Showing.{WritesEnding, cut_off, wrote}
-use Rattle.pv_stages.specs.Response.{PlainResponse}
-use Rattle.pv_stages.specs.Stage.{Responds}
+use Rattle.pv_opening.specs.Showing.{WritesEnding, cut_off, wrote}
+use Rattle.pv_opening.specs.Response.{PlainResponse}
+use Rattle.pv_opening.specs.Stage.{Responds}
 use Rattle.pv_commands.specs.Verify.{TellsAcceptance, TellsOfPack, is_accepted, is_rejected}
 use Rattle.pv_commands.specs.Verify.{names_wide}
 use Rattle.pv_cli.specs.declared.checker.Checker.TheVariants.{Verify}
-use Rattle.pv_stages.specs.declared.status.Status.TheVariants.{Done, Limit, Negative, NoMemory}
-use Rattle.pv_stages.specs.declared.status.Status.TheVariants.{ReadFault, WriteFault}
+use Rattle.pv_opening.specs.declared.status.Status.TheVariants.{Done, Limit, Negative, NoMemory}
+use Rattle.pv_opening.specs.declared.status.Status.TheVariants.{ReadFault, WriteFault}
 use Rattle.law_program.proofs.CertificateCauses.{pack_reads}
-use Rattle.pv_stages.proofs.OneOpening.{GoesWith, told, went_on}
+use Rattle.pv_opening.proofs.OneOpening.{GoesWith, told, went_on}
 use Rattle.law_program.proofs.Refusals.{IsUndone, opening_undone, pack_file_undone, undone}
 
 -- a run that did all wrote its response

@@ -17,15 +17,15 @@ use Rattle.law_program.specs.Causes.{ReadsAnnotation, ReadsNested, nested_depth,
 use Rattle.law_program.specs.Causes.{nested_width, range_lines, ranges_file, text_file, RespondsBy}
 use Rattle.pv_commands.specs.Check.{TellsPossibility, is_no_more, is_possible}
 use Rattle.pv_cli.specs.CommandLine.{PlainCommandLine, on_ranges}
-use Rattle.pv_stages.specs.Course.{Course, responds}
-use Rattle.pv_stages.specs.Opening.{Files, file_at}
-use Rattle.pv_stages.specs.Possibility.{RefusesWidth, is_impossible, is_too_wide, width_stage}
-use Rattle.pv_stages.specs.Response.{PlainResponse}
-use Rattle.pv_stages.specs.Stage.{Responds}
+use Rattle.pv_opening.specs.Course.{Course, responds}
+use Rattle.pv_opening.specs.Opening.{Files, file_at}
+use Rattle.pv_opening.specs.Possibility.{RefusesWidth, is_impossible, is_too_wide, width_stage}
+use Rattle.pv_opening.specs.Response.{PlainResponse}
+use Rattle.pv_opening.specs.Stage.{Responds}
 use Rattle.pv_commands.specs.Standoff.{IsShownCourse, RefusesNesting, RefusesRanges, RefusesText}
 use Rattle.pv_commands.specs.Standoff.{TellsNested, annotation_stage, nested_stage}
 use Rattle.pv_commands.specs.Standoff.{no_document as no_nesting, no_ranges, no_text}
-use Rattle.pv_stages.specs.declared.status.Status.TheVariants.{BadDocument, BadPack, Limit}
+use Rattle.pv_opening.specs.declared.status.Status.TheVariants.{BadDocument, BadPack, Limit}
 use Rattle.law_program.proofs.ResponseCauses.{behind_by, by_status, file_refused, responds_by}
 
 -- a text, ranges, and the document that stands for them

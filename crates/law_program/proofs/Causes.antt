@@ -13,33 +13,33 @@ use Rattle.pv_cli.specs.CommandLine.{PlainCommandLine, drill, files_named, on_ce
 use Rattle.pv_cli.specs.CommandLine.{on_document, on_dtd, on_ranges}
 use Rattle.pv_cli.specs.Commands.{VerbTells}
 use Rattle.law_program.specs.Tests.{impossibility, possibility}
-use Rattle.pv_stages.specs.Course.{Course, RunEnding, input_fault, no_memory, output_fault}
-use Rattle.pv_stages.specs.Course.{responds, shelf_fault}
+use Rattle.pv_opening.specs.Course.{Course, RunEnding, input_fault, no_memory, output_fault}
+use Rattle.pv_opening.specs.Course.{responds, shelf_fault}
 use Rattle.pv_commands.specs.DenialFiles.{denial_file_stage}
 use Rattle.pv_commands.specs.Deny.{TellsJudgement}
-use Rattle.pv_stages.specs.Devices.{Devices}
-use Rattle.pv_stages.specs.Documents.{PlainOpened}
+use Rattle.pv_opening.specs.Devices.{Devices}
+use Rattle.pv_opening.specs.Documents.{PlainOpened}
 use Rattle.pv_cli.specs.Drill.{DRILL_ROOT, TellsCounts, drill_stage}
 use Rattle.pv_commands.specs.Dtd.{TellsDtd}
 use Rattle.law_program.specs.Laws.{ComesByCause, RaisesOneAtMost}
-use Rattle.pv_stages.specs.Opening.{Files, dtd_file_stage, file_at, opening_stage}
+use Rattle.pv_opening.specs.Opening.{Files, dtd_file_stage, file_at, opening_stage}
 use Rattle.pv_commands.specs.PackFiles.{pack_file_stage}
-use Rattle.pv_stages.specs.Possibility.{possibility_stage, width_stage}
-use Rattle.pv_stages.specs.Showing.{CountsInput, CountsShelf, WritesEnding, cut_off, wrote}
+use Rattle.pv_opening.specs.Possibility.{possibility_stage, width_stage}
+use Rattle.pv_opening.specs.Showing.{CountsInput, CountsShelf, WritesEnding, cut_off, wrote}
 use Rattle.pv_cli.specs.Program.{IsDefined}
-use Rattle.pv_stages.specs.Response.{PlainResponse}
+use Rattle.pv_opening.specs.Response.{PlainResponse}
 use Rattle.pv_conversation.specs.Session.{Converses, guarding_stage}
-use Rattle.pv_stages.specs.Stage.{Stage, Behind, Responds, opened, refused, responded}
-use Rattle.pv_stages.specs.Stage.{short_of_memory, short_of_memory as out_of_memory, stopped}
+use Rattle.pv_opening.specs.Stage.{Stage, Behind, Responds, opened, refused, responded}
+use Rattle.pv_opening.specs.Stage.{short_of_memory, short_of_memory as out_of_memory, stopped}
 use Rattle.pv_commands.specs.Standoff.{IsShownCourse, TellsNested, nested_stage}
 use Rattle.pv_commands.specs.Valid.{TellsValidity}
 use Rattle.pv_commands.specs.Verify.{TellsOfPack}
 use Rattle.pv_commands.specs.Why.{TellsWhy}
 use Rattle.pv_cli.specs.declared.checker.Checker.TheVariants.{Deny, Verify}
-use Rattle.pv_stages.specs.declared.status.Status.{Status}
-use Rattle.pv_stages.specs.declared.status.Status.TheVariants.{Done, Negative, Usage, ReadFault}
-use Rattle.pv_stages.specs.declared.status.Status.TheVariants.{WriteFault, NoMemory, BadDtd}
-use Rattle.pv_stages.specs.declared.status.Status.TheVariants.{BadDocument, BadPack, Limit}
+use Rattle.pv_opening.specs.declared.status.Status.{Status}
+use Rattle.pv_opening.specs.declared.status.Status.TheVariants.{Done, Negative, Usage, ReadFault}
+use Rattle.pv_opening.specs.declared.status.Status.TheVariants.{WriteFault, NoMemory, BadDtd}
+use Rattle.pv_opening.specs.declared.status.Status.TheVariants.{BadDocument, BadPack, Limit}
 use Rattle.pv_cli.specs.declared.verb.Verb.{Verb}
 use Rattle.pv_cli.specs.declared.verb.Verb.TheVariants.{Valid, Check, Session, Complete, Why}
 use Rattle.law_program.proofs.AnnotationCauses.{nested_refused, shown_told}

@@ -11,14 +11,14 @@ use Rattle.law_program.specs.Causes.{ReadsCertificate, ReadsPack, in_pack, not_a
 use Rattle.law_program.specs.Causes.{pack_width, RespondsBy}
 use Rattle.pv_commands.specs.Certificates.{certificate_stage}
 use Rattle.pv_cli.specs.CommandLine.{PlainCommandLine, on_certificate}
-use Rattle.pv_stages.specs.Documents.{PlainOpened}
-use Rattle.pv_stages.specs.Opening.{Files, opening_stage}
+use Rattle.pv_opening.specs.Documents.{PlainOpened}
+use Rattle.pv_opening.specs.Opening.{Files, opening_stage}
 use Rattle.pv_commands.specs.PackFiles.{RefusesPack, no_pack, pack_file_stage, too_large}
-use Rattle.pv_stages.specs.Response.{PlainResponse}
+use Rattle.pv_opening.specs.Response.{PlainResponse}
 use Rattle.pv_commands.specs.Verify.{TellsAcceptance, TellsOfPack, is_accepted, is_rejected}
 use Rattle.pv_commands.specs.Verify.{names_wide}
 use Rattle.pv_cli.specs.declared.checker.Checker.TheVariants.{Verify}
-use Rattle.pv_stages.specs.declared.status.Status.TheVariants.{Done, Negative, BadPack, Limit}
+use Rattle.pv_opening.specs.declared.status.Status.TheVariants.{Done, Negative, BadPack, Limit}
 use Rattle.law_program.proofs.ResponseCauses.{by_status, opening_reads_as, opening_refused}
 
 -- a pack, and the tests of it

@@ -12,12 +12,12 @@ use Rattle.pv_cli.specs.CommandLine.{PlainCommandLine, on_certificate}
 use Rattle.law_program.specs.Tests.{impossibility}
 use Rattle.pv_commands.specs.DenialFiles.{RefusesDenial, denial_file_stage, no_denial, too_large}
 use Rattle.pv_commands.specs.Deny.{TellsJudgement, is_denied, is_rejected, is_too_wide}
-use Rattle.pv_stages.specs.Documents.{PlainOpened}
-use Rattle.pv_stages.specs.Opening.{Files, opening_stage}
-use Rattle.pv_stages.specs.Response.{PlainResponse}
+use Rattle.pv_opening.specs.Documents.{PlainOpened}
+use Rattle.pv_opening.specs.Opening.{Files, opening_stage}
+use Rattle.pv_opening.specs.Response.{PlainResponse}
 use Rattle.pv_commands.specs.Why.{TellsWhy, has_too_many, is_denied as is_explained, is_possible}
 use Rattle.pv_cli.specs.declared.checker.Checker.TheVariants.{Deny}
-use Rattle.pv_stages.specs.declared.status.Status.TheVariants.{Done, Negative, BadPack, Limit}
+use Rattle.pv_opening.specs.declared.status.Status.TheVariants.{Done, Negative, BadPack, Limit}
 use Rattle.law_program.proofs.ResponseCauses.{by_status, opening_reads, opening_refused}
 
 -- why a document is impossible

@@ -4,20 +4,20 @@ use Rattle.std.specs.Io.KnownBytes.{Appends}
 use Rattle.pv_denial.specs.declared.denials.Denial.{Denial}
 use Rattle.pv_commands.specs.Certificates.{certificate_stage}
 use Rattle.pv_cli.specs.CommandLine.{PlainCommandLine, on_certificate}
-use Rattle.pv_stages.specs.Course.{Course}
+use Rattle.pv_opening.specs.Course.{Course}
 use Rattle.pv_commands.specs.DenialFiles.{denial_file_stage}
 use Rattle.pv_commands.specs.Deny.{TellsJudgement, is_denied, is_rejected, is_too_wide}
-use Rattle.pv_stages.specs.Devices.{Devices}
-use Rattle.pv_stages.specs.Documents.{PlainOpened}
+use Rattle.pv_opening.specs.Devices.{Devices}
+use Rattle.pv_opening.specs.Documents.{PlainOpened}
 use Rattle.law_program.specs.Laws.{DeniesImpossible, ShowsImpossible}
-use Rattle.pv_stages.specs.Opening.{Files}
-use Rattle.pv_stages.specs.Response.{PlainResponse}
-use Rattle.pv_stages.specs.Stage.{Responds}
+use Rattle.pv_opening.specs.Opening.{Files}
+use Rattle.pv_opening.specs.Response.{PlainResponse}
+use Rattle.pv_opening.specs.Stage.{Responds}
 use Rattle.pv_cli.specs.declared.checker.Checker.TheVariants.{Deny}
-use Rattle.pv_stages.specs.declared.status.Status.TheVariants.{Done, Limit, Negative}
+use Rattle.pv_opening.specs.declared.status.Status.TheVariants.{Done, Limit, Negative}
 use Rattle.law_program.proofs.Accepting.{WroteAll, no_limit_done, no_negative_done, wrote_all}
 use Rattle.law_program.proofs.DenialCauses.{denial_reads}
-use Rattle.pv_stages.proofs.OneOpening.{GoesWith, told, went_on}
+use Rattle.pv_opening.proofs.OneOpening.{GoesWith, told, went_on}
 use Rattle.law_program.proofs.Refusals.{IsUndone, denial_file_undone, opening_undone, undone}
 
 module _ (dtd root doc file : List ℕ) (files : Files) where

@@ -1,12 +1,12 @@
 -- A count that rose shows in the status.
 use Rattle.std.proofs.Common.{◌≡◌, ℕ, Option, List}
 use Rattle.pv_io.specs.Causes.{CountStays}
-use Rattle.pv_stages.specs.declared.status.Status.{Status}
-use Rattle.pv_stages.specs.declared.status.Status.TheVariants.{ReadFault, WriteFault}
-use Rattle.pv_stages.specs.Course.{RunEnding, responds, shelf_fault, input_fault, output_fault}
-use Rattle.pv_stages.specs.Course.{no_memory}
+use Rattle.pv_opening.specs.declared.status.Status.{Status}
+use Rattle.pv_opening.specs.declared.status.Status.TheVariants.{ReadFault, WriteFault}
+use Rattle.pv_opening.specs.Course.{RunEnding, responds, shelf_fault, input_fault, output_fault}
+use Rattle.pv_opening.specs.Course.{no_memory}
 use Rattle.law_program.specs.Laws.{FaultsShow}
-use Rattle.pv_stages.specs.Showing.{CountsShelf, CountsInput, WritesEnding, wrote, cut_off}
+use Rattle.pv_opening.specs.Showing.{CountsShelf, CountsInput, WritesEnding, wrote, cut_off}
 
 output_stays : (ending : RunEnding) (old new : Option (List ℕ)) (before after : ℕ)
     (status : Status) → WritesEnding ending old new before after status →

@@ -15,11 +15,11 @@ use Rattle.pv_standoff.specs.declared.errors.RangesError.TheVariants as bad_line
 use Rattle.pv_standoff.specs.declared.ranges.Range.{Range}
 use Rattle.pv_tree.specs.Plain.{PlainDoc}
 use Rattle.pv_tree.specs.declared.nodes.Mark.{Mark}
-use Rattle.pv_stages.specs.Course.{Course}
-use Rattle.pv_stages.specs.Opening.{Files, dtd_file_stage, fetch_stage, file_at}
-use Rattle.pv_stages.specs.Possibility.{width_stage}
-use Rattle.pv_stages.specs.Response.{PlainResponse}
-use Rattle.pv_stages.specs.Stage.{Responds, Stage, beside, followed_by}
+use Rattle.pv_opening.specs.Course.{Course}
+use Rattle.pv_opening.specs.Opening.{Files, dtd_file_stage, fetch_stage, file_at}
+use Rattle.pv_opening.specs.Possibility.{width_stage}
+use Rattle.pv_opening.specs.Response.{PlainResponse}
+use Rattle.pv_opening.specs.Stage.{Responds, Stage, beside, followed_by}
 use Rattle.pv_commands.specs.Standoff.{IsNestRefusal, IsRangesRefusal, IsShownCourse, IsTextRefusal}
 use Rattle.pv_commands.specs.Standoff.{MAX_RANGES_BYTES, MAX_TEXT_BYTES, RefusesNesting}
 use Rattle.pv_commands.specs.Standoff.{RefusesRanges, RefusesText, TellsNested, annotation_stage}
@@ -27,10 +27,10 @@ use Rattle.pv_commands.specs.Standoff.{nested_stage, nesting_stage, no_document,
 use Rattle.pv_commands.specs.Standoff.{ranges_file_stage, ranges_stage, text_file_stage, text_stage}
 use Rattle.pv_commands.specs.Standoff.{with_shown}
 use Rattle.law_program.proofs.OneCheck.{one_possibility}
-use Rattle.pv_stages.proofs.OnePossibility.{width_sure}
-use Rattle.pv_stages.proofs.OneOpening.{AreSure, IsEqual, IsSamePair, IsSure, ReadsOneDtd, RunsAs}
-use Rattle.pv_stages.proofs.OneOpening.{beside_sure, dtd_file_sure, fetch_sure, followed_sure}
-use Rattle.pv_stages.proofs.OneOpening.{one_like, reading_sure, sure_at, told}
+use Rattle.pv_opening.proofs.OnePossibility.{width_sure}
+use Rattle.pv_opening.proofs.OneOpening.{AreSure, IsEqual, IsSamePair, IsSure, ReadsOneDtd, RunsAs}
+use Rattle.pv_opening.proofs.OneOpening.{beside_sure, dtd_file_sure, fetch_sure, followed_sure}
+use Rattle.pv_opening.proofs.OneOpening.{one_like, reading_sure, sure_at, told}
 use Rattle.law_program.proofs.OneVerification.{beside_same}
 
 same_text_refusal : (e : TextError) (r also : PlainResponse) → IsTextRefusal e r →

@@ -10,15 +10,15 @@ use Rattle.pv_missing.specs.Verdicts.{HavePossible, is_possible as is_possible_v
 use Rattle.pv_read.specs.DocumentLaws.{SpellsOneDocument}
 use Rattle.pv_commands.specs.Check.{IsCheckCourse, TellsPossibility, is_no_more, is_possible}
 use Rattle.pv_commands.specs.Check.{possible_text}
-use Rattle.pv_stages.specs.Course.{Course}
-use Rattle.pv_stages.specs.Documents.{PlainOpened}
-use Rattle.pv_stages.specs.Possibility.{width_stage}
-use Rattle.pv_stages.specs.Stage.{Behind, Responds}
-use Rattle.pv_stages.specs.Response.{PlainResponse, with_line}
-use Rattle.pv_stages.specs.declared.status.Status.TheVariants.{Done}
-use Rattle.pv_stages.proofs.OneOpening.{AreSameOpened, IsEqual, RunsAs, one_like, told}
-use Rattle.pv_stages.proofs.OneOpening.{unmarked_same}
-use Rattle.pv_stages.proofs.OnePossibility.{one_impossible, possible_or, width_sure}
+use Rattle.pv_opening.specs.Course.{Course}
+use Rattle.pv_opening.specs.Documents.{PlainOpened}
+use Rattle.pv_opening.specs.Possibility.{width_stage}
+use Rattle.pv_opening.specs.Stage.{Behind, Responds}
+use Rattle.pv_opening.specs.Response.{PlainResponse, with_line}
+use Rattle.pv_opening.specs.declared.status.Status.TheVariants.{Done}
+use Rattle.pv_opening.proofs.OneOpening.{AreSameOpened, IsEqual, RunsAs, one_like, told}
+use Rattle.pv_opening.proofs.OneOpening.{unmarked_same}
+use Rattle.pv_opening.proofs.OnePossibility.{one_impossible, possible_or, width_sure}
 
 -- one of two documents without marks is the other
 one_count : {M : Type 0} (g : PlainDtd) (root : List ℕ) (doc same : PlainDoc M) (n m : ℕ) →

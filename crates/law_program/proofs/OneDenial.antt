@@ -35,22 +35,22 @@ use Rattle.pv_tree.specs.Marks.{unmarked_doc}
 use Rattle.pv_tree.specs.Plain.{Forest, PlainDoc, map_marks_all, no_trees, tree}
 use Rattle.pv_tree.specs.View.{view}
 use Rattle.pv_tree.specs.declared.nodes.Mark.{Mark}
-use Rattle.pv_stages.specs.Course.{Course}
+use Rattle.pv_opening.specs.Course.{Course}
 use Rattle.pv_commands.specs.DenialFiles.{RefusesDenial, denial_file_stage, denial_stage, no_denial}
 use Rattle.pv_commands.specs.DenialFiles.{too_large}
 use Rattle.pv_commands.specs.Deny.{TellsJudgement, flaw_text, is_denied, is_rejected, is_too_wide}
-use Rattle.pv_stages.specs.Documents.{PlainOpened}
-use Rattle.pv_stages.specs.Opening.{fetch_stage}
-use Rattle.pv_stages.specs.Possibility.{width_stage}
-use Rattle.pv_stages.specs.Response.{PlainResponse, with_line}
-use Rattle.pv_stages.specs.Stage.{Behind, Responds}
+use Rattle.pv_opening.specs.Documents.{PlainOpened}
+use Rattle.pv_opening.specs.Opening.{fetch_stage}
+use Rattle.pv_opening.specs.Possibility.{width_stage}
+use Rattle.pv_opening.specs.Response.{PlainResponse, with_line}
+use Rattle.pv_opening.specs.Stage.{Behind, Responds}
 use Rattle.pv_commands.specs.Why.{IsWhyCourse, TellsWhy, has_too_many, is_denied as is_explained}
 use Rattle.pv_commands.specs.Why.{is_possible}
-use Rattle.pv_stages.specs.declared.status.Status.TheVariants.{BadPack, Done, Negative}
-use Rattle.pv_stages.proofs.OnePossibility.{width_sure}
-use Rattle.pv_stages.proofs.OneOpening.{AreSameOpened, IsEqual, IsSure, RunsAs, fetch_sure}
-use Rattle.pv_stages.proofs.OneOpening.{followed_sure, one_like, reading_sure, sure_at, told}
-use Rattle.pv_stages.proofs.OneOpening.{unmarked_same}
+use Rattle.pv_opening.specs.declared.status.Status.TheVariants.{BadPack, Done, Negative}
+use Rattle.pv_opening.proofs.OnePossibility.{width_sure}
+use Rattle.pv_opening.proofs.OneOpening.{AreSameOpened, IsEqual, IsSure, RunsAs, fetch_sure}
+use Rattle.pv_opening.proofs.OneOpening.{followed_sure, one_like, reading_sure, sure_at, told}
+use Rattle.pv_opening.proofs.OneOpening.{unmarked_same}
 use Rattle.law_program.proofs.OneVerification.{AreSameFiles}
 
 -- kids are none where they are none with other marks

@@ -7,17 +7,17 @@ use Rattle.pv_drill.specs.Drill.{DRILL_DTD, drill_lines, drill_text}
 use Rattle.pv_edit.specs.declared.answers.Done.{Done}
 use Rattle.pv_session.specs.Sessions.{PlainSession, stamped_document}
 use Rattle.pv_cli.specs.declared.commands.drill.Counts.{Counts}
-use Rattle.pv_stages.specs.declared.status.Status.TheVariants.{Done as AllDone}
-use Rattle.pv_stages.specs.Documents.{PlainOpened, document_stage}
+use Rattle.pv_opening.specs.declared.status.Status.TheVariants.{Done as AllDone}
+use Rattle.pv_opening.specs.Documents.{PlainOpened, document_stage}
 use Rattle.pv_cli.specs.Drill.{CountsReplies, DRILL_ROOT, TellsCounts, counts_text, counts_with}
 use Rattle.pv_cli.specs.Drill.{drill_stage, no_counts, reading_stage}
-use Rattle.pv_stages.specs.Opening.{dtd_stage}
-use Rattle.pv_stages.specs.Response.{PlainResponse, with_line}
+use Rattle.pv_opening.specs.Opening.{dtd_stage}
+use Rattle.pv_opening.specs.Response.{PlainResponse, with_line}
 use Rattle.pv_conversation.specs.Session.{done_of, guarding_stage}
-use Rattle.pv_stages.specs.Stage.{Stage}
+use Rattle.pv_opening.specs.Stage.{Stage}
 use Rattle.pv_conversation.proofs.Likeness.{done_alike}
-use Rattle.pv_stages.proofs.OneOpening.{AreSameOpened, IsEqual, IsSure, ReadsOne, document_sure}
-use Rattle.pv_stages.proofs.OneOpening.{dtd_sure, followed_sure, sure_at}
+use Rattle.pv_opening.proofs.OneOpening.{AreSameOpened, IsEqual, IsSure, ReadsOne, document_sure}
+use Rattle.pv_opening.proofs.OneOpening.{dtd_sure, followed_sure, sure_at}
 use Rattle.pv_conversation.proofs.OneReplies.{AnswersOnce, one_reply}
 use Rattle.pv_conversation.proofs.OneSession.{guarding_sure}
 

@@ -8,7 +8,7 @@ use Rattle.pv_rules.specs.Derivations.{heaviest}
 use Rattle.pv_productive.specs.Sizes.{IsCutSize}
 use Rattle.pv_commands.specs.Dtd.{AreNameLines, IsNameLine, IsTreeText, TellsDtd, counted}
 use Rattle.pv_commands.specs.Dtd.{model_text, over, unproductive}
-use Rattle.pv_stages.specs.Response.{PlainResponse}
+use Rattle.pv_opening.specs.Response.{PlainResponse}
 
 no_more : (g : PlainDtd) (y m n : ℕ) → IsCutSize g y m → IsCutSize g y n → n < heaviest → m ≡ n
 no_more g y m n a b few =

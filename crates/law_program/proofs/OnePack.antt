@@ -33,16 +33,16 @@ use Rattle.pv_tree.specs.declared.nodes.Verdict.TheVariants as verdict
 use Rattle.pv_missing.specs.LiveWords.{IsLiveWord}
 use Rattle.pv_commands.specs.Complete.{IsCompleteCourse, IsPackOfCompletion, TellsPack, has_too_many, is_heavy, is_pack, is_wide}
 use Rattle.law_program.specs.Alike.{PacksAlike, are_one, are_packs}
-use Rattle.pv_stages.specs.Course.{Course}
-use Rattle.pv_stages.specs.Documents.{PlainOpened}
-use Rattle.pv_stages.specs.Possibility.{possibility_stage}
-use Rattle.pv_stages.specs.Response.{PlainResponse, with_line}
-use Rattle.pv_stages.specs.Stage.{Behind, Responds}
-use Rattle.pv_stages.specs.declared.status.Status.TheVariants.{Done, Limit}
+use Rattle.pv_opening.specs.Course.{Course}
+use Rattle.pv_opening.specs.Documents.{PlainOpened}
+use Rattle.pv_opening.specs.Possibility.{possibility_stage}
+use Rattle.pv_opening.specs.Response.{PlainResponse, with_line}
+use Rattle.pv_opening.specs.Stage.{Behind, Responds}
+use Rattle.pv_opening.specs.declared.status.Status.TheVariants.{Done, Limit}
 use Rattle.pv_conversation.proofs.Completions.{completion_as, grown_as}
 use Rattle.pv_conversation.proofs.MissingElements.{cause_as, needs_as, wide_as}
-use Rattle.pv_stages.proofs.OnePossibility.{none_first, possibility_sure}
-use Rattle.pv_stages.proofs.OneOpening.{AreSameOpened, IsEqual, RunsAs, one_like, told, unmarked_same}
+use Rattle.pv_opening.proofs.OnePossibility.{none_first, possibility_sure}
+use Rattle.pv_opening.proofs.OneOpening.{AreSameOpened, IsEqual, RunsAs, one_like, told, unmarked_same}
 
 -- no two keys are each before the other
 before_once : (hs ks : List ℕ) → IsBefore hs ks → IsBefore ks hs → ⊥

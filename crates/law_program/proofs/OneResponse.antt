@@ -9,16 +9,16 @@ use Rattle.law_program.specs.Alike.{VerbRespondsAlike, are_one}
 use Rattle.pv_commands.specs.Certificates.{certificate_stage}
 use Rattle.pv_cli.specs.CommandLine.{drill, on_certificate, on_document, on_dtd, on_ranges}
 use Rattle.pv_cli.specs.Commands.{VerbTells}
-use Rattle.pv_stages.specs.Course.{Course}
+use Rattle.pv_opening.specs.Course.{Course}
 use Rattle.pv_commands.specs.DenialFiles.{denial_file_stage}
 use Rattle.pv_commands.specs.Deny.{TellsJudgement}
-use Rattle.pv_stages.specs.Documents.{PlainOpened}
+use Rattle.pv_opening.specs.Documents.{PlainOpened}
 use Rattle.pv_cli.specs.Drill.{TellsCounts, drill_stage}
 use Rattle.pv_commands.specs.Dtd.{TellsDtd}
 use Rattle.law_program.specs.Laws.{HasOneResponse}
-use Rattle.pv_stages.specs.Opening.{dtd_file_stage, file_at, opening_stage}
-use Rattle.pv_stages.specs.Response.{PlainResponse}
-use Rattle.pv_stages.specs.Stage.{Responds}
+use Rattle.pv_opening.specs.Opening.{dtd_file_stage, file_at, opening_stage}
+use Rattle.pv_opening.specs.Response.{PlainResponse}
+use Rattle.pv_opening.specs.Stage.{Responds}
 use Rattle.pv_commands.specs.Standoff.{IsShownCourse, nested_stage}
 use Rattle.pv_commands.specs.Valid.{IsValidCourse, TellsValidity}
 use Rattle.pv_commands.specs.PackFiles.{pack_file_stage}
@@ -32,9 +32,9 @@ use Rattle.law_program.proofs.OneCheck.{check_once}
 use Rattle.law_program.proofs.OneDenial.{DeniesOnce, denial_file_sure, one_denial, why_once}
 use Rattle.law_program.proofs.OneDrill.{drill_sure, one_drill}
 use Rattle.law_program.proofs.OneDtd.{one_dtd}
-use Rattle.pv_stages.proofs.OneOpening.{AreSameOpened, IsEqual, IsSamePair, ReadsOne, ReadsOneDtd}
-use Rattle.pv_stages.proofs.OneOpening.{RunsAs, dtd_file_sure, has_units, one_like, opening_sure}
-use Rattle.pv_stages.proofs.OneOpening.{told, unmarked_same}
+use Rattle.pv_opening.proofs.OneOpening.{AreSameOpened, IsEqual, IsSamePair, ReadsOne, ReadsOneDtd}
+use Rattle.pv_opening.proofs.OneOpening.{RunsAs, dtd_file_sure, has_units, one_like, opening_sure}
+use Rattle.pv_opening.proofs.OneOpening.{told, unmarked_same}
 use Rattle.law_program.proofs.OnePack.{ListsOnce, complete_once}
 use Rattle.pv_conversation.proofs.OneReplies.{AnswersOnce}
 use Rattle.pv_conversation.proofs.OneSession.{session_once}

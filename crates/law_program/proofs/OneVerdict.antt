@@ -12,12 +12,12 @@ use Rattle.pv_tree.specs.declared.nodes.Mark.{Mark}
 use Rattle.pv_tree.proofs.Every.{all_right}
 use Rattle.pv_tree.proofs.Firsts.{one_first}
 use Rattle.pv_tree.specs.Marks.{unmarked_doc}
-use Rattle.pv_stages.specs.Response.{PlainResponse, with_line}
+use Rattle.pv_opening.specs.Response.{PlainResponse, with_line}
 use Rattle.pv_words.specs.Paths.{path_text}
 use Rattle.pv_commands.specs.Valid.{TellsValidity, is_valid, is_invalid}
-use Rattle.pv_stages.specs.declared.status.Status.TheVariants.{Negative}
+use Rattle.pv_opening.specs.declared.status.Status.TheVariants.{Negative}
 use Rattle.pv_tree.proofs.Marks.{first_invalid-without_marks}
-use Rattle.pv_stages.proofs.OnePossibility.{same_view}
+use Rattle.pv_opening.proofs.OnePossibility.{same_view}
 
 -- one of two documents without marks is the other
 pub one_invalid_path : {M : Type 0} (g : PlainDtd) (root : List ℕ) (doc same : PlainDoc M)

@@ -5,7 +5,7 @@ use Rattle.std.specs.List.{Contains}
 use Rattle.pv_cert.specs.Laws.{OneMeaning}
 use Rattle.pv_cert.specs.Meaning.{MAX_PACK_BYTES, PackMeans, is_fault, is_pack, is_past_limit}
 use Rattle.pv_cert.specs.declared.packs.Pack.{Pack}
-use Rattle.pv_closed.specs.ClosedTables.{AreNarrowTables, IsFirstWideTable, IsNarrowTable}
+use Rattle.pv_table_check.specs.ClosedTables.{AreNarrowTables, IsFirstWideTable, IsNarrowTable}
 use Rattle.pv_dtd.specs.Plain.{PlainDtd}
 use Rattle.pv_read.specs.DocumentLaws.{DocumentsMeanOne}
 use Rattle.pv_read.specs.Meaning.{document_limits, is_document}
@@ -17,14 +17,14 @@ use Rattle.pv_tree.specs.declared.nodes.Mark.{Mark}
 use Rattle.pv_tree.proofs.Every.{contains_first, contains_later}
 use Rattle.pv_verify.specs.Laws.{OneAnswer}
 use Rattle.pv_commands.specs.Certificates.{certificate_stage}
-use Rattle.pv_stages.specs.Documents.{PlainOpened}
-use Rattle.pv_stages.specs.Opening.{Files, fetch_stage, file_at, opening_stage}
+use Rattle.pv_opening.specs.Documents.{PlainOpened}
+use Rattle.pv_opening.specs.Opening.{Files, fetch_stage, file_at, opening_stage}
 use Rattle.pv_commands.specs.PackFiles.{RefusesPack, no_pack, pack_file_stage, pack_stage, too_large}
-use Rattle.pv_stages.specs.Response.{PlainResponse, with_line}
-use Rattle.pv_stages.specs.Stage.{Stage, beside}
+use Rattle.pv_opening.specs.Response.{PlainResponse, with_line}
+use Rattle.pv_opening.specs.Stage.{Stage, beside}
 use Rattle.pv_commands.specs.Verify.{TellsAcceptance, TellsOfPack, is_accepted, is_rejected, names_wide, test_text}
-use Rattle.pv_stages.specs.declared.status.Status.TheVariants.{BadPack, Limit, Negative}
-use Rattle.pv_stages.proofs.OneOpening.{AreSameOpened, AreSure, IsEqual, IsSure, ReadsOne, ReadsOneDtd, fetch_sure, followed_sure, opening_sure, reading_sure, sure_at}
+use Rattle.pv_opening.specs.declared.status.Status.TheVariants.{BadPack, Limit, Negative}
+use Rattle.pv_opening.proofs.OneOpening.{AreSameOpened, AreSure, IsEqual, IsSure, ReadsOne, ReadsOneDtd, fetch_sure, followed_sure, opening_sure, reading_sure, sure_at}
 
 -- the same DTD, document and certificate
 abbrev pub AreSameFiles : {Z : Type 0} → PlainOpened × Z → PlainOpened × Z → Type 0

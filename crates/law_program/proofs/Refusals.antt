@@ -6,15 +6,15 @@ use Rattle.pv_params.specs.Meaning.{limit as params_limit, syntax as params_synt
 use Rattle.pv_read.specs.Kinds.{subset, syntax as bad_syntax, entity, mismatch, doctype_name, deep}
 use Rattle.pv_commands.specs.DenialFiles.{denial_file_stage, no_denial}
 use Rattle.pv_commands.specs.DenialFiles.{too_large as too_large_denial}
-use Rattle.pv_stages.specs.Documents.{RefusesDocument, no_document, too_many_bytes}
-use Rattle.pv_stages.specs.Opening.{Files, IsFileTooLong, RefusesDtd, dtd_file_stage, no_dtd}
-use Rattle.pv_stages.specs.Opening.{opening_stage}
+use Rattle.pv_opening.specs.Documents.{RefusesDocument, no_document, too_many_bytes}
+use Rattle.pv_opening.specs.Opening.{Files, IsFileTooLong, RefusesDtd, dtd_file_stage, no_dtd}
+use Rattle.pv_opening.specs.Opening.{opening_stage}
 use Rattle.pv_commands.specs.PackFiles.{no_pack, pack_file_stage, too_large}
-use Rattle.pv_stages.specs.Parameters.{RefusesParameters, not_expanded}
-use Rattle.pv_stages.specs.Response.{PlainResponse}
-use Rattle.pv_stages.specs.declared.status.Status.{Status}
-use Rattle.pv_stages.specs.declared.status.Status.TheVariants.{BadDocument, BadDtd, BadPack, Done}
-use Rattle.pv_stages.specs.declared.status.Status.TheVariants.{Limit}
+use Rattle.pv_opening.specs.Parameters.{RefusesParameters, not_expanded}
+use Rattle.pv_opening.specs.Response.{PlainResponse}
+use Rattle.pv_opening.specs.declared.status.Status.{Status}
+use Rattle.pv_opening.specs.declared.status.Status.TheVariants.{BadDocument, BadDtd, BadPack, Done}
+use Rattle.pv_opening.specs.declared.status.Status.TheVariants.{Limit}
 
 -- all was not done
 abbrev pub IsUndone : PlainResponse → Type 0

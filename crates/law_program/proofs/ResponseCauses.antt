@@ -14,7 +14,7 @@ use Rattle.pv_tree.specs.declared.nodes.Mark.{Mark}
 use Rattle.pv_session.specs.Sessions.{PlainSession}
 use Rattle.pv_params.specs.Meaning.{conditional, external, undeclared, recursive}
 use Rattle.pv_params.specs.Meaning.{limit as params_limit, syntax as params_syntax}
-use Rattle.pv_stages.specs.Parameters.{RefusesParameters, not_expanded}
+use Rattle.pv_opening.specs.Parameters.{RefusesParameters, not_expanded}
 use Rattle.law_program.specs.Causes.{HoldsText, NeedsTables, ReadsScript, TestsFor, parameters}
 use Rattle.law_program.specs.Causes.{ReadsBoth, ReadsDocument, ReadsDtd, RespondsBy}
 use Rattle.law_program.specs.Causes.{is_document_limit, dtd_file, document_file, in_dtd}
@@ -25,22 +25,22 @@ use Rattle.pv_commands.specs.Check.{TellsPossibility, is_no_more, is_possible}
 use Rattle.pv_commands.specs.Complete.{TellsPack, has_too_many, is_heavy, is_pack, is_wide}
 use Rattle.pv_cli.specs.CommandLine.{PlainCommandLine}
 use Rattle.law_program.specs.Tests.{Test, possibility, tests_width, validity, width}
-use Rattle.pv_stages.specs.Course.{Course, RunEnding, responds}
-use Rattle.pv_stages.specs.Documents.{PlainOpened, RefusesDocument, no_document, too_many_bytes}
-use Rattle.pv_stages.specs.Opening.{Files, RefusesDtd, dtd_file_stage, file_at, no_dtd}
-use Rattle.pv_stages.specs.Opening.{opening_stage}
-use Rattle.pv_stages.specs.Possibility.{RefusesImpossible, RefusesWidth, is_impossible, is_too_wide}
-use Rattle.pv_stages.specs.Possibility.{possibility_stage}
-use Rattle.pv_stages.specs.Response.{PlainResponse}
+use Rattle.pv_opening.specs.Course.{Course, RunEnding, responds}
+use Rattle.pv_opening.specs.Documents.{PlainOpened, RefusesDocument, no_document, too_many_bytes}
+use Rattle.pv_opening.specs.Opening.{Files, RefusesDtd, dtd_file_stage, file_at, no_dtd}
+use Rattle.pv_opening.specs.Opening.{opening_stage}
+use Rattle.pv_opening.specs.Possibility.{RefusesImpossible, RefusesWidth, is_impossible, is_too_wide}
+use Rattle.pv_opening.specs.Possibility.{possibility_stage}
+use Rattle.pv_opening.specs.Response.{PlainResponse}
 use Rattle.pv_conversation.specs.Session.{Converses, ended_over, finished, guarding_stage}
 use Rattle.pv_conversation.specs.Session.{input_failed, output_failed, past_line, past_script}
 use Rattle.pv_conversation.specs.Session.{quitted, without_room}
-use Rattle.pv_stages.specs.Stage.{Stage, Behind, Responds, opened, refused, responded}
-use Rattle.pv_stages.specs.Stage.{short_of_memory, short_of_memory as out_of_memory, stopped}
+use Rattle.pv_opening.specs.Stage.{Stage, Behind, Responds, opened, refused, responded}
+use Rattle.pv_opening.specs.Stage.{short_of_memory, short_of_memory as out_of_memory, stopped}
 use Rattle.pv_commands.specs.Valid.{TellsValidity, is_invalid, is_valid}
-use Rattle.pv_stages.specs.declared.status.Status.{Status}
-use Rattle.pv_stages.specs.declared.status.Status.TheVariants.{Done, Negative, BadDtd, BadDocument}
-use Rattle.pv_stages.specs.declared.status.Status.TheVariants.{Limit}
+use Rattle.pv_opening.specs.declared.status.Status.{Status}
+use Rattle.pv_opening.specs.declared.status.Status.TheVariants.{Done, Negative, BadDtd, BadDocument}
+use Rattle.pv_opening.specs.declared.status.Status.TheVariants.{Limit}
 
 -- a response of a known status
 pub by_status : (line : Option PlainCommandLine) (files : Files) (taken : Option (List ℕ))

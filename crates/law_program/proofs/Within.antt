@@ -28,16 +28,16 @@ use Rattle.law_program.specs.Causes.{table_entries, pack_file, in_pack, pack_wid
 use Rattle.law_program.specs.Causes.{ranges_file, range_lines, nested_depth, nested_width}
 use Rattle.law_program.specs.Causes.{script_line, whole_script}
 use Rattle.pv_cli.specs.CommandLine.{PlainCommandLine}
-use Rattle.pv_stages.specs.Devices.{Devices}
+use Rattle.pv_opening.specs.Devices.{Devices}
 use Rattle.pv_cli.specs.Headline.{HadNoMemory}
 use Rattle.pv_cli.specs.Laws.{Answered, AnswersWithoutFault}
-use Rattle.pv_stages.specs.Opening.{Files}
+use Rattle.pv_opening.specs.Opening.{Files}
 use Rattle.pv_cli.specs.Program.{Runs}
 use Rattle.law_program.specs.Within.{AnswersWithin, IsAllWithin, IsAnswered, PassesLimitOfLists}
-use Rattle.pv_stages.specs.declared.status.Status.{Status}
-use Rattle.pv_stages.specs.declared.status.Status.TheVariants.{Done, Negative, Usage, ReadFault}
-use Rattle.pv_stages.specs.declared.status.Status.TheVariants.{WriteFault, NoMemory, BadDtd}
-use Rattle.pv_stages.specs.declared.status.Status.TheVariants.{BadDocument, BadPack, Limit}
+use Rattle.pv_opening.specs.declared.status.Status.{Status}
+use Rattle.pv_opening.specs.declared.status.Status.TheVariants.{Done, Negative, Usage, ReadFault}
+use Rattle.pv_opening.specs.declared.status.Status.TheVariants.{WriteFault, NoMemory, BadDtd}
+use Rattle.pv_opening.specs.declared.status.Status.TheVariants.{BadDocument, BadPack, Limit}
 use Rattle.law_program.proofs.Causes.{responds_caused}
 
 -- what the laws say that the proof stands on

@@ -4,8 +4,8 @@ use Rattle.pv_cert.specs.Packs.{lines_of_pack, lines_text}
 use Rattle.pv_cert.specs.declared.packs.Pack.{Pack}
 use Rattle.pv_cli.specs.CommandLine.{PlainCommandLine, drill, on_certificate, on_document, on_dtd}
 use Rattle.pv_cli.specs.CommandLine.{on_ranges}
-use Rattle.pv_stages.specs.Response.{PlainResponse}
-use Rattle.pv_stages.specs.declared.status.Status.TheVariants.{Done}
+use Rattle.pv_opening.specs.Response.{PlainResponse}
+use Rattle.pv_opening.specs.declared.status.Status.TheVariants.{Done}
 use Rattle.pv_cli.specs.declared.verb.Verb.{Verb}
 use Rattle.pv_cli.specs.declared.verb.Verb.TheVariants.{Session, Complete}
 use Rattle.pv_conversation.specs.Alike.{ResponsesAlike}

@@ -5,7 +5,7 @@ use Rattle.pv_chars.specs.Units.{TextMeans}
 use Rattle.pv_chars.specs.declared.errors.TextError.{TextError}
 use Rattle.pv_cert.specs.Meaning.{MAX_PACK_BYTES, PackMeans, is_fault, is_pack, is_past_limit}
 use Rattle.pv_cert.specs.declared.packs.Pack.{Pack}
-use Rattle.pv_closed.specs.ClosedTables.{IsFirstWideTable}
+use Rattle.pv_table_check.specs.ClosedTables.{IsFirstWideTable}
 use Rattle.pv_complete.specs.Needing.{IsHeavy, StopsAtWide}
 use Rattle.pv_complete.specs.Tables.{HasTooMany}
 use Rattle.pv_denial.specs.Judging.{IsDenialJudged, IsTooWideFor}
@@ -45,18 +45,18 @@ use Rattle.pv_cli.specs.CommandLine.{PlainCommandLine, drill, files_named, on_ce
 use Rattle.pv_cli.specs.CommandLine.{on_document, on_dtd, on_ranges}
 use Rattle.law_program.specs.Tests.{Test, validity, width, possibility, impossibility, test_of}
 use Rattle.law_program.specs.Tests.{makes_tables, reads_script, tests_width}
-use Rattle.pv_stages.specs.Devices.{Devices}
+use Rattle.pv_opening.specs.Devices.{Devices}
 use Rattle.pv_cli.specs.Drill.{DRILL_ROOT}
-use Rattle.pv_stages.specs.Opening.{Files, file_at}
-use Rattle.pv_stages.specs.Parameters.{is_parameters_limit}
+use Rattle.pv_opening.specs.Opening.{Files, file_at}
+use Rattle.pv_opening.specs.Parameters.{is_parameters_limit}
 use Rattle.pv_conversation.specs.Script.{MAX_SCRIPT_BYTES, has_long_line}
 use Rattle.pv_commands.specs.Standoff.{MAX_RANGES_BYTES, MAX_TEXT_BYTES}
 use Rattle.pv_cli.specs.declared.checker.Checker.{Checker}
 use Rattle.pv_cli.specs.declared.checker.Checker.TheVariants.{Deny, Verify}
-use Rattle.pv_stages.specs.declared.status.Status.{Status}
-use Rattle.pv_stages.specs.declared.status.Status.TheVariants.{Done, Negative, Usage, ReadFault}
-use Rattle.pv_stages.specs.declared.status.Status.TheVariants.{WriteFault, NoMemory, BadDtd}
-use Rattle.pv_stages.specs.declared.status.Status.TheVariants.{BadDocument, BadPack, Limit}
+use Rattle.pv_opening.specs.declared.status.Status.{Status}
+use Rattle.pv_opening.specs.declared.status.Status.TheVariants.{Done, Negative, Usage, ReadFault}
+use Rattle.pv_opening.specs.declared.status.Status.TheVariants.{WriteFault, NoMemory, BadDtd}
+use Rattle.pv_opening.specs.declared.status.Status.TheVariants.{BadDocument, BadPack, Limit}
 
 -- a file is this text, with its parameter entities put in place
 pub record HoldsText (file : Option (List ℕ)) (text : List ℕ) : Type 0 where

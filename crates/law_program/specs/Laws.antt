@@ -12,16 +12,16 @@ use Rattle.pv_tree.specs.View.{view}
 use Rattle.pv_tree.specs.declared.nodes.Mark.{Mark}
 use Rattle.pv_verify.specs.Laws.{IsLeastPack}
 use Rattle.pv_cli.specs.declared.checker.Checker.TheVariants.{Deny, Verify}
-use Rattle.pv_stages.specs.declared.status.Status.{Status}
-use Rattle.pv_stages.specs.declared.status.Status.TheVariants.{Done, ReadFault, WriteFault}
+use Rattle.pv_opening.specs.declared.status.Status.{Status}
+use Rattle.pv_opening.specs.declared.status.Status.TheVariants.{Done, ReadFault, WriteFault}
 use Rattle.law_program.specs.Alike.{RespondsAlike}
 use Rattle.law_program.specs.Causes.{HasCause, OneRoseAtMost, ReadsDenial, ReadsPack}
 use Rattle.pv_cli.specs.CommandLine.{PlainCommandLine, on_certificate}
-use Rattle.pv_stages.specs.Course.{Course, responds}
-use Rattle.pv_stages.specs.Opening.{Files}
-use Rattle.pv_stages.specs.Devices.{Devices}
+use Rattle.pv_opening.specs.Course.{Course, responds}
+use Rattle.pv_opening.specs.Opening.{Files}
+use Rattle.pv_opening.specs.Devices.{Devices}
 use Rattle.pv_cli.specs.Program.{IsDefined, Runs}
-use Rattle.pv_stages.specs.Response.{PlainResponse}
+use Rattle.pv_opening.specs.Response.{PlainResponse}
 
 -- over given files, and where what was taken from the input and the lines that there was no memory
 -- for are given, a command has one response, but for the documents of completions in a session

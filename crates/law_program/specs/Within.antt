@@ -24,15 +24,15 @@ use Rattle.law_program.specs.Causes.{ReadsDocument, ReadsDtd, ReadsRanges, Reads
 use Rattle.law_program.specs.Causes.{list_width, weights_width, missing_elements, table_entries}
 use Rattle.law_program.specs.Causes.{denial_values, pack_width, denial_width, nested_width}
 use Rattle.pv_cli.specs.CommandLine.{PlainCommandLine}
-use Rattle.pv_stages.specs.Devices.{Devices}
+use Rattle.pv_opening.specs.Devices.{Devices}
 use Rattle.pv_cli.specs.Headline.{HadNoMemory}
-use Rattle.pv_stages.specs.Opening.{Files, file_at}
+use Rattle.pv_opening.specs.Opening.{Files, file_at}
 use Rattle.pv_cli.specs.Program.{Runs}
 use Rattle.pv_conversation.specs.Script.{IsWithin}
 use Rattle.pv_commands.specs.Standoff.{MAX_RANGES_BYTES, MAX_TEXT_BYTES}
 use Rattle.pv_cli.specs.declared.checker.Checker.TheVariants.{Deny, Verify}
-use Rattle.pv_stages.specs.declared.status.Status.{Status}
-use Rattle.pv_stages.specs.declared.status.Status.TheVariants.{Done, Limit, Negative}
+use Rattle.pv_opening.specs.declared.status.Status.{Status}
+use Rattle.pv_opening.specs.declared.status.Status.TheVariants.{Done, Limit, Negative}
 
 -- the DTD's file is short enough, and its parameter entities can be put in place
 pub record CanBeExpanded (bytes : List ℕ) : Type 0 where

@@ -2,17 +2,17 @@
 use Rattle.std.proofs.Common.{◌≡◌, ◌⊎◌, inl, inr, ℕ, Option, List, [], refl}
 use Rattle.std.specs.Io.KnownBytes.{Appends}
 use Rattle.pv_io.specs.Causes.{Rose}
-use Rattle.pv_stages.specs.declared.status.Status.{Status}
-use Rattle.pv_stages.specs.declared.status.Status.TheVariants.{NoMemory}
+use Rattle.pv_opening.specs.declared.status.Status.{Status}
+use Rattle.pv_opening.specs.declared.status.Status.TheVariants.{NoMemory}
 use Rattle.pv_cli.specs.CommandLine.{PlainCommandLine}
-use Rattle.pv_stages.specs.Course.{RunEnding, responds, shelf_fault, input_fault, output_fault}
-use Rattle.pv_stages.specs.Course.{no_memory}
+use Rattle.pv_opening.specs.Course.{RunEnding, responds, shelf_fault, input_fault, output_fault}
+use Rattle.pv_opening.specs.Course.{no_memory}
 use Rattle.pv_cli.specs.Headline.{HadNoMemory}
 use Rattle.pv_cli.specs.Laws.{AnswersWithoutFault, Answered}
-use Rattle.pv_stages.specs.Devices.{Devices}
-use Rattle.pv_stages.specs.Showing.{CountsShelf, CountsInput, WritesEnding, wrote, cut_off}
+use Rattle.pv_opening.specs.Devices.{Devices}
+use Rattle.pv_opening.specs.Showing.{CountsShelf, CountsInput, WritesEnding, wrote, cut_off}
 use Rattle.pv_cli.specs.Program.{Runs}
-use Rattle.pv_stages.specs.Response.{PlainResponse}
+use Rattle.pv_opening.specs.Response.{PlainResponse}
 
 -- the parts of `HadNoMemory` that speak of the output alone
 abbrev pub EndsUnwritten : Option (List ℕ) → Option (List ℕ) → Status → Type 0

@@ -11,16 +11,16 @@ use Rattle.pv_cli.specs.Checking.{CountsAtMost, CountsVerb, judging_files_stage}
 use Rattle.pv_cli.specs.declared.verb.Verb.{Verb}
 use Rattle.pv_cli.specs.declared.verb.Verb.TheVariants.{Valid, Check, Session, Complete, Why}
 use Rattle.pv_conversation.specs.Counting.{CountsScript}
-use Rattle.pv_stages.specs.Course.{Course, RunEnding, after_fetches, without_input}
-use Rattle.pv_stages.specs.Documents.{PlainOpened, document_stage}
-use Rattle.pv_stages.specs.Judging.{CountsJudged, CountsNoMore, CountsOpening, judges_all}
-use Rattle.pv_stages.specs.Judging.{judges_none, judging_stage, lists_judged}
-use Rattle.pv_stages.specs.Opening.{Files, fetching_stage}
-use Rattle.pv_stages.specs.Possibility.{width_stage}
-use Rattle.pv_stages.specs.Returns.{StopsBy, ending_of}
-use Rattle.pv_stages.specs.Stage.{Stage, beside}
-use Rattle.pv_stages.specs.declared.stop.Stop.{Stop}
-use Rattle.pv_stages.proofs.JudgedLists.{judged_second, opening_beside, opening_second, stops_first}
+use Rattle.pv_opening.specs.Course.{Course, RunEnding, after_fetches, without_input}
+use Rattle.pv_opening.specs.Documents.{PlainOpened, document_stage}
+use Rattle.pv_opening.specs.Judging.{CountsJudged, CountsNoMore, CountsOpening, judges_all}
+use Rattle.pv_opening.specs.Judging.{judges_none, judging_stage, lists_judged}
+use Rattle.pv_opening.specs.Opening.{Files, fetching_stage}
+use Rattle.pv_opening.specs.Possibility.{width_stage}
+use Rattle.pv_opening.specs.Returns.{StopsBy, ending_of}
+use Rattle.pv_opening.specs.Stage.{Stage, beside}
+use Rattle.pv_opening.specs.declared.stop.Stop.{Stop}
+use Rattle.pv_opening.proofs.JudgedLists.{judged_second, opening_beside, opening_second, stops_first}
 
 -- what was counted before a session on a document that was opened
 pub opened_document : {Z : Type 0} (root : List ℕ) (g : PlainDtd) (bytes : List ℕ)

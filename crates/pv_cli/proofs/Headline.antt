@@ -10,25 +10,25 @@ use Rattle.pv_session.specs.Sessions.{PlainSession, session_on}
 use Rattle.pv_tree.specs.Marks.{unmarked_doc}
 use Rattle.pv_tree.specs.Plain.{PlainDoc}
 use Rattle.pv_tree.specs.declared.nodes.Mark.{Mark}
-use Rattle.pv_stages.specs.Possibility.{AreAllNarrow}
+use Rattle.pv_opening.specs.Possibility.{AreAllNarrow}
 use Rattle.pv_cli.specs.CommandLine.{PlainCommandLine, on_document}
-use Rattle.pv_stages.specs.Course.{Course, RunEnding, input_fault, responds}
-use Rattle.pv_stages.specs.Devices.{Devices}
-use Rattle.pv_stages.specs.Documents.{PlainOpened}
+use Rattle.pv_opening.specs.Course.{Course, RunEnding, input_fault, responds}
+use Rattle.pv_opening.specs.Devices.{Devices}
+use Rattle.pv_opening.specs.Documents.{PlainOpened}
 use Rattle.pv_cli.specs.Headline.{AnswersScript, HadNoMemory, HoldsDocument, HoldsDtd}
 use Rattle.pv_cli.specs.Laws.{Answered, AnswersWithoutFault, SessionsAreGuarded}
-use Rattle.pv_stages.specs.Opening.{AreFiles, Files, file_at, opening_stage}
-use Rattle.pv_stages.specs.Showing.{ReadsAll, TakesInput}
+use Rattle.pv_opening.specs.Opening.{AreFiles, Files, file_at, opening_stage}
+use Rattle.pv_opening.specs.Showing.{ReadsAll, TakesInput}
 use Rattle.pv_cli.specs.Program.{Runs}
-use Rattle.pv_stages.specs.Response.{PlainResponse}
+use Rattle.pv_opening.specs.Response.{PlainResponse}
 use Rattle.pv_conversation.specs.Script.{IsWithin}
 use Rattle.pv_conversation.specs.Session.{Converses, EndsSession, IsSessionCourse, Place, Replies, at_quit, ended_over, finished, guarding_stage, input_failed, output_failed, past_line, past_script, quitted, without_room}
-use Rattle.pv_stages.specs.declared.status.Status.{Status}
-use Rattle.pv_stages.specs.declared.status.Status.TheVariants.{Done}
+use Rattle.pv_opening.specs.declared.status.Status.{Status}
+use Rattle.pv_opening.specs.declared.status.Status.TheVariants.{Done}
 use Rattle.pv_cli.specs.declared.verb.Verb.TheVariants.{Session}
 use Rattle.pv_conversation.proofs.Beginnings.{session_begins}
 use Rattle.pv_conversation.proofs.GoingOn.{more_changes_nothing}
-use Rattle.pv_stages.proofs.OneOpening.{AreSameOpened, GoesWith, ReadsOne, ReadsOneDtd, opening_sure, went_on}
+use Rattle.pv_opening.proofs.OneOpening.{AreSameOpened, GoesWith, ReadsOne, ReadsOneDtd, opening_sure, went_on}
 use Rattle.pv_conversation.proofs.OneSession.{guarding_sure, quit_on, within_or_past}
 
 -- the replies to a whole script, and that they are the response

@@ -2,11 +2,11 @@
 use Rattle.std.proofs.Common.{◌≡◌, inl, inr, ℕ, List, [], ◌∷◌, Option, Some, Result, Ok, Err, refl}
 use Rattle.std.proofs.Common.{arith}
 use Rattle.pv_dtd.specs.Plain.{PlainDtd}
-use Rattle.pv_stages.specs.declared.opening.Fetched.{Fetched}
-use Rattle.pv_stages.specs.declared.response.Response.{Response}
-use Rattle.pv_stages.specs.declared.status.Status.{Status}
-use Rattle.pv_stages.specs.declared.stop.Stop.{Stop}
-use Rattle.pv_stages.specs.declared.stop.Stop.TheVariants.{Refused, ShelfFault, NoMemory}
+use Rattle.pv_opening.specs.declared.opening.Fetched.{Fetched}
+use Rattle.pv_opening.specs.declared.response.Response.{Response}
+use Rattle.pv_opening.specs.declared.status.Status.{Status}
+use Rattle.pv_opening.specs.declared.stop.Stop.{Stop}
+use Rattle.pv_opening.specs.declared.stop.Stop.TheVariants.{Refused, ShelfFault, NoMemory}
 use Rattle.pv_cli.specs.declared.verb.Verb.{Verb}
 use Rattle.pv_cli.specs.declared.verb.Verb.TheVariants.{Session}
 use Rattle.pv_session.specs.Sessions.{PlainSession}
@@ -15,22 +15,22 @@ use Rattle.pv_conversation.specs.Counting.{CountsScript}
 use Rattle.pv_cli.specs.CommandLine.{PlainCommandLine, files_named, on_document}
 use Rattle.pv_cli.specs.Commands.{GoesOn, VerbTells}
 use Rattle.pv_conversation.specs.Conversation.{Talked}
-use Rattle.pv_stages.specs.Course.{Course, after_fetches, responds, without_input}
-use Rattle.pv_stages.specs.Devices.{InputNow, OutputNow, ShelfNow, devices}
-use Rattle.pv_stages.specs.Documents.{PlainOpened, document_stage}
-use Rattle.pv_stages.specs.Judging.{CountsOpening, judging_stage, lists_judged}
-use Rattle.pv_stages.specs.Opening.{AreFiles, fetching_stage, opening_stage}
+use Rattle.pv_opening.specs.Course.{Course, after_fetches, responds, without_input}
+use Rattle.pv_opening.specs.Devices.{InputNow, OutputNow, ShelfNow, devices}
+use Rattle.pv_opening.specs.Documents.{PlainOpened, document_stage}
+use Rattle.pv_opening.specs.Judging.{CountsOpening, judging_stage, lists_judged}
+use Rattle.pv_opening.specs.Opening.{AreFiles, fetching_stage, opening_stage}
 use Rattle.pv_cli.specs.Program.{ChecksLists, IsDefined, Runs}
-use Rattle.pv_stages.specs.Showing.{CountsInput, CountsShelf, ShowsStreams, WritesEnding}
-use Rattle.pv_stages.specs.Response.{plain_response}
+use Rattle.pv_opening.specs.Showing.{CountsInput, CountsShelf, ShowsStreams, WritesEnding}
+use Rattle.pv_opening.specs.Response.{plain_response}
 use Rattle.pv_cli.specs.Returns.{DoesRest, FindsResponse, session_stage}
-use Rattle.pv_stages.specs.Returns.{TakesCourse, ReturnsOver, StopsBy, ending_of, plain_fetched}
+use Rattle.pv_opening.specs.Returns.{TakesCourse, ReturnsOver, StopsBy, ending_of, plain_fetched}
 use Rattle.pv_conversation.specs.Session.{guarding_stage}
-use Rattle.pv_stages.specs.Stage.{opened, refused, short_of_memory}
+use Rattle.pv_opening.specs.Stage.{opened, refused, short_of_memory}
 use Rattle.pv_cli.proofs.Counting.{verb_counts, verb_stopped}
-use Rattle.pv_stages.proofs.JudgedLists.{opened_goes}
-use Rattle.pv_stages.proofs.Stages.{behind_second, finds_goes, finds_stays, stays_from, stop_counts}
-use Rattle.pv_stages.proofs.Stages.{stop_ends, stopped_first}
+use Rattle.pv_opening.proofs.JudgedLists.{opened_goes}
+use Rattle.pv_opening.proofs.Stages.{behind_second, finds_goes, finds_stays, stays_from, stop_counts}
+use Rattle.pv_opening.proofs.Stages.{stop_ends, stopped_first}
 
 -- what didn't ask the input left its count
 input_stays : (result : Result Response Stop) (count : ℕ) →

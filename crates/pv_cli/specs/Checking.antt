@@ -6,11 +6,11 @@ use Rattle.pv_cli.specs.Drill.{DRILL_ROOT}
 use Rattle.pv_cli.specs.declared.verb.Verb.{Verb}
 use Rattle.pv_cli.specs.declared.verb.Verb.TheVariants.{Check, Session, Why}
 use Rattle.pv_conversation.specs.Counting.{CountsScript}
-use Rattle.pv_stages.specs.Course.{Course, RunEnding}
-use Rattle.pv_stages.specs.Documents.{PlainOpened}
-use Rattle.pv_stages.specs.Judging.{CountsJudged, CountsNoMore, judging_stage, lists_judged}
-use Rattle.pv_stages.specs.Opening.{Files, dtd_stage, fetching_stage}
-use Rattle.pv_stages.specs.Stage.{Stage, followed_by}
+use Rattle.pv_opening.specs.Course.{Course, RunEnding}
+use Rattle.pv_opening.specs.Documents.{PlainOpened}
+use Rattle.pv_opening.specs.Judging.{CountsJudged, CountsNoMore, judging_stage, lists_judged}
+use Rattle.pv_opening.specs.Opening.{Files, dtd_stage, fetching_stage}
+use Rattle.pv_opening.specs.Stage.{Stage, followed_by}
 
 -- opening the files of a command on a document, and testing the width of its lists
 abbrev pub judging_files_stage : List ℕ → Files → Stage (PlainOpened × Unit {0})

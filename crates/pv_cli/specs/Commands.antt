@@ -3,12 +3,12 @@ use Rattle.std.specs.Prelude.{ℕ, List}
 use Rattle.pv_dtd.specs.Plain.{PlainDtd}
 use Rattle.pv_commands.specs.Check.{IsCheckCourse}
 use Rattle.pv_commands.specs.Complete.{IsCompleteCourse}
-use Rattle.pv_stages.specs.Course.{Course}
+use Rattle.pv_opening.specs.Course.{Course}
 use Rattle.pv_commands.specs.Deny.{IsDenyCourse}
-use Rattle.pv_stages.specs.Documents.{PlainOpened, document_stage}
-use Rattle.pv_stages.specs.Opening.{Files, opening_stage}
+use Rattle.pv_opening.specs.Documents.{PlainOpened, document_stage}
+use Rattle.pv_opening.specs.Opening.{Files, opening_stage}
 use Rattle.pv_conversation.specs.Session.{IsSessionCourse}
-use Rattle.pv_stages.specs.Stage.{Behind}
+use Rattle.pv_opening.specs.Stage.{Behind}
 use Rattle.pv_commands.specs.Valid.{IsValidCourse}
 use Rattle.pv_commands.specs.Verify.{IsVerifyCourse}
 use Rattle.pv_commands.specs.Why.{IsWhyCourse}

@@ -7,13 +7,13 @@ use Rattle.pv_drill.specs.Drill.{DRILL_DTD, drill_lines, drill_text}
 use Rattle.pv_cache.specs.Moves.{HasOpen}
 use Rattle.pv_session.specs.Sessions.{PlainSession, stamped_document}
 use Rattle.pv_cli.specs.declared.commands.drill.Counts.{Counts}
-use Rattle.pv_stages.specs.declared.status.Status.TheVariants.{Done}
-use Rattle.pv_stages.specs.Course.{Course}
-use Rattle.pv_stages.specs.Documents.{PlainOpened, document_stage}
-use Rattle.pv_stages.specs.Opening.{dtd_stage}
-use Rattle.pv_stages.specs.Response.{PlainResponse, with_line}
+use Rattle.pv_opening.specs.declared.status.Status.TheVariants.{Done}
+use Rattle.pv_opening.specs.Course.{Course}
+use Rattle.pv_opening.specs.Documents.{PlainOpened, document_stage}
+use Rattle.pv_opening.specs.Opening.{dtd_stage}
+use Rattle.pv_opening.specs.Response.{PlainResponse, with_line}
 use Rattle.pv_conversation.specs.Session.{RepliesTo, done_of, guarding_stage}
-use Rattle.pv_stages.specs.Stage.{Stage, followed_by, Behind, Responds}
+use Rattle.pv_opening.specs.Stage.{Stage, followed_by, Behind, Responds}
 
 -- no reply was counted
 abbrev pub no_counts : Counts

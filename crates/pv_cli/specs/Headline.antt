@@ -15,13 +15,13 @@ use Rattle.pv_session.specs.Sessions.{PlainSession, session_on}
 use Rattle.pv_tree.specs.Marks.{unmarked_doc}
 use Rattle.pv_tree.specs.Plain.{PlainDoc}
 use Rattle.pv_tree.specs.declared.nodes.Mark.{Mark}
-use Rattle.pv_stages.specs.Possibility.{AreAllNarrow}
+use Rattle.pv_opening.specs.Possibility.{AreAllNarrow}
 use Rattle.pv_cli.specs.CommandLine.{PlainCommandLine, on_document}
-use Rattle.pv_stages.specs.Devices.{Devices}
+use Rattle.pv_opening.specs.Devices.{Devices}
 use Rattle.pv_conversation.specs.Script.{IsWithin}
 use Rattle.pv_conversation.specs.Session.{Place, Replies}
-use Rattle.pv_stages.specs.declared.status.Status.{Status}
-use Rattle.pv_stages.specs.declared.status.Status.TheVariants.{Done, NoMemory}
+use Rattle.pv_opening.specs.declared.status.Status.{Status}
+use Rattle.pv_opening.specs.declared.status.Status.TheVariants.{Done, NoMemory}
 use Rattle.pv_cli.specs.declared.verb.Verb.TheVariants.{Session}
 
 -- the file of this name is, with its parameter entities put in place, the text of this DTD, within

@@ -3,13 +3,13 @@ use Rattle.std.specs.Prelude.{◌≡◌, ◌⊎◌}
 use Rattle.std.specs.Prelude.{Option}
 use Rattle.std.specs.Io.KnownBytes.{Appends}
 use Rattle.pv_io.specs.Causes.{Rose}
-use Rattle.pv_stages.specs.declared.status.Status.{Status}
+use Rattle.pv_opening.specs.declared.status.Status.{Status}
 use Rattle.pv_cli.specs.CommandLine.{PlainCommandLine}
-use Rattle.pv_stages.specs.Course.{responds}
+use Rattle.pv_opening.specs.Course.{responds}
 use Rattle.pv_cli.specs.Headline.{GuardsSession, HadNoMemory}
-use Rattle.pv_stages.specs.Devices.{Devices}
+use Rattle.pv_opening.specs.Devices.{Devices}
 use Rattle.pv_cli.specs.Program.{Runs}
-use Rattle.pv_stages.specs.Response.{PlainResponse}
+use Rattle.pv_opening.specs.Response.{PlainResponse}
 
 -- a defined response was written
 pub record Answered {S : Type 0} {line : Option PlainCommandLine} {before after : Devices S}

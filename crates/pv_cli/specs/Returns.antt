@@ -5,18 +5,18 @@ use Rattle.pv_session.specs.Sessions.{PlainSession}
 use Rattle.pv_cli.specs.Commands.{GoesOn}
 use Rattle.pv_cli.specs.Checking.{CountsVerb}
 use Rattle.pv_cli.specs.CommandLine.{PlainCommandLine, files_named}
-use Rattle.pv_stages.specs.Devices.{InputNow, OutputNow, ShelfNow}
-use Rattle.pv_stages.specs.Documents.{document_stage}
-use Rattle.pv_stages.specs.Judging.{judging_stage}
+use Rattle.pv_opening.specs.Devices.{InputNow, OutputNow, ShelfNow}
+use Rattle.pv_opening.specs.Documents.{document_stage}
+use Rattle.pv_opening.specs.Judging.{judging_stage}
 use Rattle.pv_cli.specs.Program.{ChecksLists, IsDefined}
 use Rattle.pv_commands.specs.Returns.{FindsOver}
 use Rattle.pv_conversation.specs.Session.{guarding_stage}
-use Rattle.pv_stages.specs.Stage.{Stage, followed_by}
-use Rattle.pv_stages.specs.declared.response.Response.{Response}
-use Rattle.pv_stages.specs.declared.status.Status.{Status}
-use Rattle.pv_stages.specs.declared.stop.Stop.{Stop}
+use Rattle.pv_opening.specs.Stage.{Stage, followed_by}
+use Rattle.pv_opening.specs.declared.response.Response.{Response}
+use Rattle.pv_opening.specs.declared.status.Status.{Status}
+use Rattle.pv_opening.specs.declared.stop.Stop.{Stop}
 use Rattle.pv_cli.specs.declared.verb.Verb.{Verb}
-use Rattle.pv_stages.specs.Returns.{GoesThrough}
+use Rattle.pv_opening.specs.Returns.{GoesThrough}
 
 -- reading a document that was fetched, and beginning a session on it
 abbrev pub session_stage : List ℕ → PlainDtd × List ℕ → Stage PlainSession

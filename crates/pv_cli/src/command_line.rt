@@ -11,8 +11,8 @@ use crate::checker::{Checker, checker_of};
 use crate::verb::{Verb, verb_of};
 use pv_chars::is_name;
 use pv_commands::standoff::Annotation;
+use pv_opening::Named;
 use pv_script::written_number;
-use pv_stages::Named;
 
 /// A well-formed command line, by its form.
 #[derive(Clone, Copy)]

@@ -2,10 +2,10 @@
 
 ghost use Rattle.std.specs.Prelude.{◌≡◌, ℕ, Some, Contains, true};
 ghost use Rattle.pv_cli.specs.CommandLine.{on_certificate, on_document};
-ghost use Rattle.pv_stages.specs.Devices.{devices, input_at, output_at};
+ghost use Rattle.pv_opening.specs.Devices.{devices, input_at, output_at};
 ghost use Rattle.pv_cli.specs.Program.{Runs};
 ghost use Rattle.pv_cli.specs.Returns.{DoesRest, FindsResponse};
-ghost use Rattle.pv_stages.specs.Returns.{plain_fetched};
+ghost use Rattle.pv_opening.specs.Returns.{plain_fetched};
 
 use crate::checker::Checker;
 use crate::commands::session::session;
@@ -17,7 +17,7 @@ use pv_commands::valid::valid;
 use pv_commands::verify::verify;
 use pv_commands::why::why;
 use pv_io::{Shelf, Sink, Source};
-use pv_stages::{Fetched, Named, Response, Status, Stop, fetch_files, respond};
+use pv_opening::{Fetched, Named, Response, Status, Stop, fetch_files, respond};
 use pv_steps::Steps;
 use std::alloc::Global;
 use std::sync::ledger::Ledger;

@@ -3,11 +3,11 @@
 ghost use Rattle.std.specs.Prelude.{◌≡◌, [], codes, true};
 ghost use Rattle.pv_cli.specs.CommandLine.{command_line_of, files_named};
 ghost use Rattle.pv_cli.specs.Headline.{GuardsSession};
-ghost use Rattle.pv_stages.specs.Devices.{devices, input_at, output_at};
+ghost use Rattle.pv_opening.specs.Devices.{devices, input_at, output_at};
 ghost use Rattle.pv_cli.specs.Program.{Runs};
-ghost use Rattle.pv_stages.specs.Response.{with_line};
-ghost use Rattle.pv_stages.specs.Returns.{TellsBy};
-ghost use Rattle.pv_stages.specs.declared.status.Status.TheVariants.{Usage};
+ghost use Rattle.pv_opening.specs.Response.{with_line};
+ghost use Rattle.pv_opening.specs.Returns.{TellsBy};
+ghost use Rattle.pv_opening.specs.declared.status.Status.TheVariants.{Usage};
 ghost use Rattle.pv_io.specs.Files.{byte_lists, fetch_names};
 
 use crate::command_line::{CommandLine, command_line_of};
@@ -17,7 +17,7 @@ use crate::laws::guarded_session_law;
 use pv_commands::dtd::dtd;
 use pv_commands::standoff::standoff;
 use pv_io::{Shelf, Sink, Source};
-use pv_stages::{Response, Status, Stop, respond};
+use pv_opening::{Response, Status, Stop, respond};
 use pv_steps::Steps;
 use std::alloc::Global;
 use std::sync::ledger::Ledger;

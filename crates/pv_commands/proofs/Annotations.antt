@@ -10,27 +10,27 @@ use Rattle.pv_standoff.specs.Laws.{TextsHaveNoCloseMark}
 use Rattle.pv_standoff.specs.Lines.{SpellRanges}
 use Rattle.pv_standoff.specs.Ranges.{AreNamed, MAX_RANGES}
 use Rattle.pv_standoff.specs.declared.ranges.Range.{Range}
-use Rattle.pv_stages.specs.declared.response.Response.{Response}
-use Rattle.pv_stages.specs.declared.stop.Stop.{Stop}
-use Rattle.pv_stages.specs.Course.{RunEnding, without_input}
-use Rattle.pv_stages.specs.Devices.{ShelfNow}
-use Rattle.pv_stages.specs.Judging.{CountsJudged, CountsNoMore}
-use Rattle.pv_stages.specs.Possibility.{width_stage}
+use Rattle.pv_opening.specs.declared.response.Response.{Response}
+use Rattle.pv_opening.specs.declared.stop.Stop.{Stop}
+use Rattle.pv_opening.specs.Course.{RunEnding, without_input}
+use Rattle.pv_opening.specs.Devices.{ShelfNow}
+use Rattle.pv_opening.specs.Judging.{CountsJudged, CountsNoMore}
+use Rattle.pv_opening.specs.Possibility.{width_stage}
 use Rattle.pv_tree.specs.Lists.{lists_of}
 use Rattle.pv_tree.specs.Plain.{PlainDoc}
 use Rattle.pv_tree.specs.declared.nodes.Mark.{Mark}
-use Rattle.pv_stages.proofs.JudgedLists.{judged_beside, judged_second, stops_first}
-use Rattle.pv_stages.specs.Opening.{Files, IsFile, dtd_file_stage}
-use Rattle.pv_stages.specs.Showing.{CountsShelf}
-use Rattle.pv_stages.specs.Returns.{TakesCourse, ReturnsOver, ending_of}
-use Rattle.pv_stages.specs.Stage.{Behind, Stage, beside, followed_by}
+use Rattle.pv_opening.proofs.JudgedLists.{judged_beside, judged_second, stops_first}
+use Rattle.pv_opening.specs.Opening.{Files, IsFile, dtd_file_stage}
+use Rattle.pv_opening.specs.Showing.{CountsShelf}
+use Rattle.pv_opening.specs.Returns.{TakesCourse, ReturnsOver, ending_of}
+use Rattle.pv_opening.specs.Stage.{Behind, Stage, beside, followed_by}
 use Rattle.pv_commands.specs.Returns.{FindsOver}
 use Rattle.pv_commands.specs.Standoff.{CountsNested, IsShownCourse, IsStandoffCourse}
 use Rattle.pv_commands.specs.Standoff.{annotation_stage, judging_nested_stage, nested_lists}
 use Rattle.pv_commands.specs.Standoff.{nested_stage, nesting_stage, ranges_file_stage}
 use Rattle.pv_commands.specs.Standoff.{text_file_stage}
-use Rattle.pv_stages.proofs.Stages.{behind_second, finds_goes, finds_stays, stays_from, stop_counts}
-use Rattle.pv_stages.proofs.Stages.{stop_ends, stopped_first}
+use Rattle.pv_opening.proofs.Stages.{behind_second, finds_goes, finds_stays, stays_from, stop_counts}
+use Rattle.pv_opening.proofs.Stages.{stop_ends, stopped_first}
 
 -- the files of a DTD and a text, and of ranges
 abbrev pub ThreeFiles : Type 0

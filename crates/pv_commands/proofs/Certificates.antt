@@ -1,22 +1,22 @@
 -- What a command on a certificate did, as a course that is defined for it.
 use Rattle.std.proofs.Common.{ℕ, ◌+◌, List, [], ◌∷◌, Option, Result, Ok, Err, refl, subst, ◌∙◌}
 use Rattle.std.proofs.Common.{arith}
-use Rattle.pv_stages.specs.declared.opening.Opened.{Opened}
-use Rattle.pv_stages.specs.declared.response.Response.{Response}
-use Rattle.pv_stages.specs.declared.stop.Stop.{Stop}
+use Rattle.pv_opening.specs.declared.opening.Opened.{Opened}
+use Rattle.pv_opening.specs.declared.response.Response.{Response}
+use Rattle.pv_opening.specs.declared.stop.Stop.{Stop}
 use Rattle.pv_commands.specs.Certificates.{certificate_stage}
 use Rattle.pv_commands.specs.Returns.{CountsNone, FindsOver}
-use Rattle.pv_stages.specs.Course.{Course, without_input}
-use Rattle.pv_stages.specs.Devices.{ShelfNow}
-use Rattle.pv_stages.specs.Documents.{PlainOpened}
-use Rattle.pv_stages.specs.Opening.{AreFiles, Files, IsFile, file_at, opening_stage}
-use Rattle.pv_stages.specs.Showing.{CountsShelf}
-use Rattle.pv_stages.specs.Response.{PlainResponse}
-use Rattle.pv_stages.specs.Returns.{ReturnsOver, StopCounts, TellsBy, ending_of, plain_opened}
-use Rattle.pv_stages.specs.Stage.{Behind, Responds, Stage, beside, opened}
-use Rattle.pv_stages.proofs.Stages.{finds_goes, finds_stays, some_file, stays_from, stop_counts}
-use Rattle.pv_stages.proofs.Stages.{stop_ends, stopped_beside, stopped_first, stopped_second}
-use Rattle.pv_stages.proofs.Stages.{tells_found}
+use Rattle.pv_opening.specs.Course.{Course, without_input}
+use Rattle.pv_opening.specs.Devices.{ShelfNow}
+use Rattle.pv_opening.specs.Documents.{PlainOpened}
+use Rattle.pv_opening.specs.Opening.{AreFiles, Files, IsFile, file_at, opening_stage}
+use Rattle.pv_opening.specs.Showing.{CountsShelf}
+use Rattle.pv_opening.specs.Response.{PlainResponse}
+use Rattle.pv_opening.specs.Returns.{ReturnsOver, StopCounts, TellsBy, ending_of, plain_opened}
+use Rattle.pv_opening.specs.Stage.{Behind, Responds, Stage, beside, opened}
+use Rattle.pv_opening.proofs.Stages.{finds_goes, finds_stays, some_file, stays_from, stop_counts}
+use Rattle.pv_opening.proofs.Stages.{stop_ends, stopped_beside, stopped_first, stopped_second}
+use Rattle.pv_opening.proofs.Stages.{tells_found}
 
 -- the files of two names
 two_files : (told : Option (List (List ℕ × List ℕ))) (dtd doc : List ℕ) (files : Files) →

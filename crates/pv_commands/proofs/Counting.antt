@@ -2,12 +2,12 @@
 use Rattle.std.proofs.Common.{◌≡◌, ℕ, List, length, subst}
 use Rattle.pv_dtd.specs.Plain.{PlainDtd}
 use Rattle.pv_tree.specs.Lists.{lists_of}
-use Rattle.pv_stages.specs.Course.{RunEnding}
-use Rattle.pv_stages.specs.Documents.{PlainOpened, document_stage}
-use Rattle.pv_stages.specs.Judging.{CountsJudged, CountsNoMore, judging_stage, lists_judged}
-use Rattle.pv_stages.specs.Possibility.{width_stage}
-use Rattle.pv_stages.specs.Stage.{beside}
-use Rattle.pv_stages.proofs.JudgedLists.{judged_beside, judged_second}
+use Rattle.pv_opening.specs.Course.{RunEnding}
+use Rattle.pv_opening.specs.Documents.{PlainOpened, document_stage}
+use Rattle.pv_opening.specs.Judging.{CountsJudged, CountsNoMore, judging_stage, lists_judged}
+use Rattle.pv_opening.specs.Possibility.{width_stage}
+use Rattle.pv_opening.specs.Stage.{beside}
+use Rattle.pv_opening.proofs.JudgedLists.{judged_beside, judged_second}
 
 -- what was counted of a document that was opened, by a grammar of its DTD
 pub judged_document : (root : List ℕ) (g d : PlainDtd) (bytes : List ℕ) (opened : PlainOpened)

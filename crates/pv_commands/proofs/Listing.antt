@@ -4,16 +4,16 @@ use Rattle.pv_dtd.specs.PlainForms.{plain_dtd}
 use Rattle.pv_dtd.specs.declared.dtd.Dtd.{Dtd}
 use Rattle.pv_commands.specs.Dtd.{IsDtdCourse, TellsDtd}
 use Rattle.pv_commands.specs.Returns.{CountsNone, FindsOver}
-use Rattle.pv_stages.specs.Course.{without_input}
-use Rattle.pv_stages.specs.Devices.{ShelfNow}
-use Rattle.pv_stages.specs.Opening.{IsFile, dtd_file_stage}
-use Rattle.pv_stages.specs.Returns.{ReturnsOver, TellsBy, ending_of}
-use Rattle.pv_stages.specs.Showing.{CountsShelf}
-use Rattle.pv_stages.specs.Stage.{Responds, opened}
-use Rattle.pv_stages.specs.declared.response.Response.{Response}
-use Rattle.pv_stages.specs.declared.stop.Stop.{Stop}
-use Rattle.pv_stages.proofs.Stages.{finds_goes, finds_stays, stays_from, stop_counts, stop_ends}
-use Rattle.pv_stages.proofs.Stages.{tells_found}
+use Rattle.pv_opening.specs.Course.{without_input}
+use Rattle.pv_opening.specs.Devices.{ShelfNow}
+use Rattle.pv_opening.specs.Opening.{IsFile, dtd_file_stage}
+use Rattle.pv_opening.specs.Returns.{ReturnsOver, TellsBy, ending_of}
+use Rattle.pv_opening.specs.Showing.{CountsShelf}
+use Rattle.pv_opening.specs.Stage.{Responds, opened}
+use Rattle.pv_opening.specs.declared.response.Response.{Response}
+use Rattle.pv_opening.specs.declared.stop.Stop.{Stop}
+use Rattle.pv_opening.proofs.Stages.{finds_goes, finds_stays, stays_from, stop_counts, stop_ends}
+use Rattle.pv_opening.proofs.Stages.{tells_found}
 
 pub dtd_stopped : (name : List ℕ) (before after : ShelfNow) (checked : ℕ) (stop : Stop) →
     ReturnsOver {X = Dtd} (IsFile before.files name) plain_dtd dtd_file_stage before after

@@ -26,8 +26,8 @@ use Rattle.pv_tables.specs.TableLaws.{OneListAtPath}
 use Rattle.pv_tables.specs.Tables.{AreTables, no_list, other_list, possible_list}
 use Rattle.pv_tables.specs.declared.tables.Table.{Table}
 use Rattle.pv_flat.specs.Coming.{flat_limits}
-use Rattle.pv_kept.specs.Kept.{IsBodyText}
-use Rattle.pv_closed.specs.ClosedTables.{AreClosedTables, AreNarrowTables, IsNarrowTable}
+use Rattle.pv_compare.specs.Kept.{IsBodyText}
+use Rattle.pv_table_check.specs.ClosedTables.{AreClosedTables, AreNarrowTables, IsNarrowTable}
 use Rattle.pv_reach.proofs.OtherMarks.{view_as}
 use Rattle.pv_complete.specs.Growing.{IsBounded}
 use Rattle.pv_complete.specs.Needing.{CanWeigh}

@@ -19,8 +19,8 @@ use Rattle.pv_missing.specs.Widths.{FitsWeights, columns_of}
 use Rattle.pv_tables.specs.Tables.{Precedes, site_number}
 use Rattle.pv_tables.specs.declared.tables.Entry.{Entry}
 use Rattle.pv_tables.specs.declared.tables.Table.{Table}
-use Rattle.pv_closed.specs.ClosedEntries.{IsEntryOver}
-use Rattle.pv_closed.specs.ClosedTables.{AreClosedTables, AreNarrowTables, IsClosedTable, IsNarrowTable}
+use Rattle.pv_table_check.specs.ClosedEntries.{IsEntryOver}
+use Rattle.pv_table_check.specs.ClosedTables.{AreClosedTables, AreNarrowTables, IsClosedTable, IsNarrowTable}
 use Rattle.pv_words.specs.Numbers.{AreNumbers, MAX_NUMBER}
 use Rattle.pv_cert.specs.Lines.{IsEntryInRange, PackLine, body_line, end_line, entry_line, list_line, mark_line, total_line}
 use Rattle.pv_cert.specs.Packs.{AreLines, IsMarkOrBody, MayFollow, lines_of_pack, table_lines}

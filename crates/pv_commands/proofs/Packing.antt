@@ -16,17 +16,17 @@ use Rattle.pv_tree.specs.Plain.{PlainDoc}
 use Rattle.pv_tree.specs.declared.nodes.Mark.{Mark}
 use Rattle.pv_commands.specs.Complete.{IsPackOfCompletion, IsVerifiable, TellsPack, has_too_many}
 use Rattle.pv_commands.specs.Complete.{is_heavy, is_pack, is_wide}
-use Rattle.pv_stages.specs.Course.{Course, responds, without_input}
+use Rattle.pv_opening.specs.Course.{Course, responds, without_input}
 use Rattle.pv_commands.specs.Packing.{IsRefusalFor}
-use Rattle.pv_stages.specs.Possibility.{is_impossible, is_too_wide, possibility_stage}
-use Rattle.pv_stages.specs.Response.{PlainResponse, plain_response}
-use Rattle.pv_stages.specs.Returns.{TakesCourse, RefusesWith}
-use Rattle.pv_stages.specs.Stage.{Behind, Responds, opened, refused, responded, short_of_memory}
-use Rattle.pv_stages.specs.declared.response.Response.{Response}
-use Rattle.pv_stages.specs.declared.status.Status.TheVariants.{Done}
-use Rattle.pv_stages.specs.declared.stop.Stop.{Stop}
-use Rattle.pv_stages.specs.declared.stop.Stop.TheVariants.{NoMemory, Refused, ShelfFault}
-use Rattle.pv_stages.proofs.OnePossibility.{none_first}
+use Rattle.pv_opening.specs.Possibility.{is_impossible, is_too_wide, possibility_stage}
+use Rattle.pv_opening.specs.Response.{PlainResponse, plain_response}
+use Rattle.pv_opening.specs.Returns.{TakesCourse, RefusesWith}
+use Rattle.pv_opening.specs.Stage.{Behind, Responds, opened, refused, responded, short_of_memory}
+use Rattle.pv_opening.specs.declared.response.Response.{Response}
+use Rattle.pv_opening.specs.declared.status.Status.TheVariants.{Done}
+use Rattle.pv_opening.specs.declared.stop.Stop.{Stop}
+use Rattle.pv_opening.specs.declared.stop.Stop.TheVariants.{NoMemory, Refused, ShelfFault}
+use Rattle.pv_opening.proofs.OnePossibility.{none_first}
 
 -- why there is no completion is why there are no tables
 pub tables_cause : {M : Type 0} (g : PlainDtd) (root : List ℕ) (doc : PlainDoc M) (e : NeedError) →

@@ -4,12 +4,12 @@ use Rattle.pv_dtd.specs.Plain.{PlainDtd}
 use Rattle.pv_commands.specs.Returns.{BehindDocument}
 use Rattle.pv_commands.specs.Valid.{IsValidCourse}
 use Rattle.pv_commands.specs.Validity.{validity_stage}
-use Rattle.pv_stages.specs.Response.{plain_response}
-use Rattle.pv_stages.specs.Returns.{TakesCourse, Returns}
-use Rattle.pv_stages.specs.Stage.{opened, refused, short_of_memory, responded}
-use Rattle.pv_stages.specs.declared.response.Response.{Response}
-use Rattle.pv_stages.specs.declared.stop.Stop.{Stop}
-use Rattle.pv_stages.specs.declared.stop.Stop.TheVariants.{Refused, ShelfFault, NoMemory}
+use Rattle.pv_opening.specs.Response.{plain_response}
+use Rattle.pv_opening.specs.Returns.{TakesCourse, Returns}
+use Rattle.pv_opening.specs.Stage.{opened, refused, short_of_memory, responded}
+use Rattle.pv_opening.specs.declared.response.Response.{Response}
+use Rattle.pv_opening.specs.declared.stop.Stop.{Stop}
+use Rattle.pv_opening.specs.declared.stop.Stop.TheVariants.{Refused, ShelfFault, NoMemory}
 
 pub told_found : (root : List ℕ) (g : PlainDtd) (bytes : List ℕ) (result : Result Response Stop) →
     Returns plain_response (validity_stage root g bytes) 0 result →

@@ -3,8 +3,8 @@ use Rattle.std.specs.Prelude.{ℕ, List, Option}
 use Rattle.pv_dtd.specs.Plain.{PlainDtd}
 use Rattle.pv_dtd.specs.PlainForms.{plain_dtd}
 use Rattle.pv_dtd.specs.declared.dtd.Dtd.{Dtd}
-use Rattle.pv_stages.specs.Opening.{IsFile, dtd_file_stage}
-use Rattle.pv_stages.specs.Stage.{Stage, beside, followed_by}
+use Rattle.pv_opening.specs.Opening.{IsFile, dtd_file_stage}
+use Rattle.pv_opening.specs.Stage.{Stage, beside, followed_by}
 use Rattle.pv_commands.specs.Standoff.{text_file_stage}
 
 -- the files of these two names

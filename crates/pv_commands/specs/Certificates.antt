@@ -1,8 +1,8 @@
 -- The files of a command on a certificate: a DTD, a document, and the certificate behind them.
 use Rattle.std.specs.Prelude.{ℕ, List, Option}
-use Rattle.pv_stages.specs.Documents.{PlainOpened}
-use Rattle.pv_stages.specs.Opening.{Files, file_at, opening_stage}
-use Rattle.pv_stages.specs.Stage.{Stage, beside, followed_by}
+use Rattle.pv_opening.specs.Documents.{PlainOpened}
+use Rattle.pv_opening.specs.Opening.{Files, file_at, opening_stage}
+use Rattle.pv_opening.specs.Stage.{Stage, beside, followed_by}
 
 -- Opening the DTD and the document, and then fetching and reading the certificate.
 abbrev pub certificate_stage : {X : Type 0} → (Option (List ℕ) → Stage X) → List ℕ → Files →

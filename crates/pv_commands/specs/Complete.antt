@@ -2,7 +2,7 @@
 use Rattle.std.specs.Prelude.{◌≡◌, ℕ, List, ◌++◌, codes}
 use Rattle.pv_cert.specs.Packs.{IsPackText, lines_of_pack, lines_text}
 use Rattle.pv_cert.specs.declared.packs.Pack.{Pack}
-use Rattle.pv_closed.specs.ClosedTables.{AreNarrowTables}
+use Rattle.pv_table_check.specs.ClosedTables.{AreNarrowTables}
 use Rattle.pv_complete.specs.Completing.{IsLeastCompletion}
 use Rattle.pv_complete.specs.Growing.{IsGrownText}
 use Rattle.pv_complete.specs.Needing.{IsHeavy, StopsAtWide}
@@ -12,12 +12,12 @@ use Rattle.pv_words.specs.Paths.{path_text}
 use Rattle.pv_tree.specs.Lists.{lists_of}
 use Rattle.pv_tree.specs.Plain.{PlainDoc}
 use Rattle.pv_verify.specs.Tests.{PassesAllTests}
-use Rattle.pv_stages.specs.declared.status.Status.TheVariants.{Done, Limit}
-use Rattle.pv_stages.specs.Course.{Course}
-use Rattle.pv_stages.specs.Documents.{PlainOpened}
-use Rattle.pv_stages.specs.Possibility.{possibility_stage}
-use Rattle.pv_stages.specs.Response.{PlainResponse, with_line}
-use Rattle.pv_stages.specs.Stage.{Behind, Responds}
+use Rattle.pv_opening.specs.declared.status.Status.TheVariants.{Done, Limit}
+use Rattle.pv_opening.specs.Course.{Course}
+use Rattle.pv_opening.specs.Documents.{PlainOpened}
+use Rattle.pv_opening.specs.Possibility.{possibility_stage}
+use Rattle.pv_opening.specs.Response.{PlainResponse, with_line}
+use Rattle.pv_opening.specs.Stage.{Behind, Responds}
 
 -- The pack of a least completion: its body is a text of the document with `total` elements
 -- inserted, which makes it valid, and no fewer can; all else is written as it was; the marks are

@@ -3,10 +3,10 @@ use Rattle.std.specs.Prelude.{◌≡◌, ℕ, List, ◌++◌, codes, decimal, Op
 use Rattle.pv_denial.specs.declared.denials.Denial.{Denial}
 use Rattle.pv_denial_text.specs.Meaning.{DenialMeans, MAX_DENIAL_BYTES, is_denial, is_fault}
 use Rattle.pv_denial_text.specs.Meaning.{is_past_limit}
-use Rattle.pv_stages.specs.declared.status.Status.TheVariants.{BadPack, Limit}
-use Rattle.pv_stages.specs.Opening.{file_stage}
-use Rattle.pv_stages.specs.Response.{PlainResponse, with_line}
-use Rattle.pv_stages.specs.Stage.{Stage, without_fetch}
+use Rattle.pv_opening.specs.declared.status.Status.TheVariants.{BadPack, Limit}
+use Rattle.pv_opening.specs.Opening.{file_stage}
+use Rattle.pv_opening.specs.Response.{PlainResponse, with_line}
+use Rattle.pv_opening.specs.Stage.{Stage, without_fetch}
 
 -- the response to bytes that are no denial: behind so many whole lines stands none that may stand
 -- there; or the rows have too many values

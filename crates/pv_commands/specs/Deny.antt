@@ -10,13 +10,13 @@ use Rattle.pv_missing.specs.Completing.{IsPotentiallyValid}
 use Rattle.pv_words.specs.Paths.{path_text}
 use Rattle.pv_tree.specs.Plain.{PlainDoc}
 use Rattle.pv_tree.specs.View.{view}
-use Rattle.pv_stages.specs.declared.status.Status.TheVariants.{Done, Limit, Negative}
+use Rattle.pv_opening.specs.declared.status.Status.TheVariants.{Done, Limit, Negative}
 use Rattle.pv_commands.specs.Certificates.{certificate_stage}
-use Rattle.pv_stages.specs.Course.{Course}
+use Rattle.pv_opening.specs.Course.{Course}
 use Rattle.pv_commands.specs.DenialFiles.{denial_file_stage}
-use Rattle.pv_stages.specs.Opening.{Files}
-use Rattle.pv_stages.specs.Response.{PlainResponse, with_line}
-use Rattle.pv_stages.specs.Stage.{Behind, Responds}
+use Rattle.pv_opening.specs.Opening.{Files}
+use Rattle.pv_opening.specs.Response.{PlainResponse, with_line}
+use Rattle.pv_opening.specs.Stage.{Behind, Responds}
 
 -- the word of a test
 abbrev pub flaw_text : Flaw → List ℕ

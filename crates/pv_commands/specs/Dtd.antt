@@ -5,11 +5,11 @@ use Rattle.pv_dtd.specs.Plain.{PlainDtd, declared, parts_in_models, spelling_of}
 use Rattle.pv_dtd.specs.Productive.{IsProductive}
 use Rattle.pv_rules.specs.Derivations.{heaviest}
 use Rattle.pv_productive.specs.Sizes.{IsCutSize}
-use Rattle.pv_stages.specs.declared.status.Status.TheVariants.{Done}
-use Rattle.pv_stages.specs.Course.{Course}
-use Rattle.pv_stages.specs.Opening.{Files, dtd_file_stage, file_at}
-use Rattle.pv_stages.specs.Response.{PlainResponse}
-use Rattle.pv_stages.specs.Stage.{Behind, Responds}
+use Rattle.pv_opening.specs.declared.status.Status.TheVariants.{Done}
+use Rattle.pv_opening.specs.Course.{Course}
+use Rattle.pv_opening.specs.Opening.{Files, dtd_file_stage, file_at}
+use Rattle.pv_opening.specs.Response.{PlainResponse}
+use Rattle.pv_opening.specs.Stage.{Behind, Responds}
 
 abbrev pub model_text : PlainModel → List ℕ
 model_text empty = codes "empty"

@@ -2,10 +2,10 @@
 use Rattle.std.specs.Prelude.{◌≡◌, ℕ, List, ◌++◌, codes, decimal, Option}
 use Rattle.pv_cert.specs.Meaning.{MAX_PACK_BYTES, PackMeans, is_fault, is_pack, is_past_limit}
 use Rattle.pv_cert.specs.declared.packs.Pack.{Pack}
-use Rattle.pv_stages.specs.declared.status.Status.TheVariants.{BadPack, Limit}
-use Rattle.pv_stages.specs.Opening.{file_stage}
-use Rattle.pv_stages.specs.Response.{PlainResponse, with_line}
-use Rattle.pv_stages.specs.Stage.{Stage, without_fetch}
+use Rattle.pv_opening.specs.declared.status.Status.TheVariants.{BadPack, Limit}
+use Rattle.pv_opening.specs.Opening.{file_stage}
+use Rattle.pv_opening.specs.Response.{PlainResponse, with_line}
+use Rattle.pv_opening.specs.Stage.{Stage, without_fetch}
 
 -- the response to bytes that are no pack: behind so many whole lines stands none that may stand
 -- there; or the pack has too many entries

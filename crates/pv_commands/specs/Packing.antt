@@ -4,8 +4,8 @@ use Rattle.pv_complete.specs.declared.errors.NeedError.{NeedError}
 use Rattle.pv_complete.specs.declared.errors.NeedError.TheVariants.{Impossible, NoMemory}
 use Rattle.pv_complete.specs.declared.errors.NeedError.TheVariants.{TooHeavy, TooMany, TooWide}
 use Rattle.pv_words.specs.Paths.{path_text}
-use Rattle.pv_stages.specs.declared.status.Status.TheVariants.{Limit, Negative}
-use Rattle.pv_stages.specs.Response.{PlainResponse, with_line}
+use Rattle.pv_opening.specs.declared.status.Status.TheVariants.{Limit, Negative}
+use Rattle.pv_opening.specs.Response.{PlainResponse, with_line}
 
 -- the response for such a reason; want of memory has none
 abbrev pub IsRefusalFor : NeedError → PlainResponse → Type 0

@@ -1,16 +1,16 @@
 -- What the commands return.
 use Rattle.std.specs.Prelude.{ℕ, List, Result}
 use Rattle.pv_dtd.specs.Plain.{PlainDtd}
-use Rattle.pv_stages.specs.Course.{Course, without_input}
-use Rattle.pv_stages.specs.Devices.{ShelfNow}
-use Rattle.pv_stages.specs.Documents.{PlainOpened, document_stage}
-use Rattle.pv_stages.specs.Judging.{CountsNoMore}
-use Rattle.pv_stages.specs.Opening.{AreFiles, Files}
-use Rattle.pv_stages.specs.Returns.{ending_of}
-use Rattle.pv_stages.specs.Showing.{ShowsShelf}
-use Rattle.pv_stages.specs.Stage.{Behind}
-use Rattle.pv_stages.specs.declared.response.Response.{Response}
-use Rattle.pv_stages.specs.declared.stop.Stop.{Stop}
+use Rattle.pv_opening.specs.Course.{Course, without_input}
+use Rattle.pv_opening.specs.Devices.{ShelfNow}
+use Rattle.pv_opening.specs.Documents.{PlainOpened, document_stage}
+use Rattle.pv_opening.specs.Judging.{CountsNoMore}
+use Rattle.pv_opening.specs.Opening.{AreFiles, Files}
+use Rattle.pv_opening.specs.Returns.{ending_of}
+use Rattle.pv_opening.specs.Showing.{ShowsShelf}
+use Rattle.pv_opening.specs.Stage.{Behind}
+use Rattle.pv_opening.specs.declared.response.Response.{Response}
+use Rattle.pv_opening.specs.declared.stop.Stop.{Stop}
 
 -- a command on a document, once the DTD is opened and the document's bytes are fetched: they are
 -- read, and then it does this

@@ -16,15 +16,15 @@ use Rattle.pv_tree.specs.Plain.{PlainDoc}
 use Rattle.pv_words.specs.Words.{counted_text}
 use Rattle.pv_write.specs.Text.{doc_text}
 use Rattle.pv_tree.specs.declared.nodes.Mark.{Mark}
-use Rattle.pv_stages.specs.declared.status.Status.TheVariants.{BadDocument, BadPack, Limit}
+use Rattle.pv_opening.specs.declared.status.Status.TheVariants.{BadDocument, BadPack, Limit}
 use Rattle.pv_commands.specs.Check.{TellsPossibility}
-use Rattle.pv_stages.specs.Course.{Course}
-use Rattle.pv_stages.specs.Judging.{CountsJudged, CountsNoMore}
-use Rattle.pv_stages.specs.Opening.{Files, dtd_file_stage, file_at, file_stage}
-use Rattle.pv_stages.specs.Possibility.{width_stage}
-use Rattle.pv_stages.specs.Response.{PlainResponse, with_line}
+use Rattle.pv_opening.specs.Course.{Course}
+use Rattle.pv_opening.specs.Judging.{CountsJudged, CountsNoMore}
+use Rattle.pv_opening.specs.Opening.{Files, dtd_file_stage, file_at, file_stage}
+use Rattle.pv_opening.specs.Possibility.{width_stage}
+use Rattle.pv_opening.specs.Response.{PlainResponse, with_line}
 use Rattle.pv_words.specs.Numbers.{numbers_text}
-use Rattle.pv_stages.specs.Stage.{Behind, Responds, Stage, beside, followed_by, without_fetch}
+use Rattle.pv_opening.specs.Stage.{Behind, Responds, Stage, beside, followed_by, without_fetch}
 
 -- the most bytes of the file of a text, and of the file of ranges
 abbrev pub MAX_TEXT_BYTES : ℕ

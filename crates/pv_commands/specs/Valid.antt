@@ -6,12 +6,12 @@ use Rattle.pv_tree.specs.Lists.{IsFirstNot, IsValidList, lists_of}
 use Rattle.pv_tree.specs.Plain.{PlainDoc}
 use Rattle.pv_tree.specs.View.{view}
 use Rattle.pv_tree.specs.declared.nodes.Mark.{Mark}
-use Rattle.pv_stages.specs.declared.status.Status.TheVariants.{Done, Negative}
-use Rattle.pv_stages.specs.Course.{Course}
-use Rattle.pv_stages.specs.Documents.{PlainOpened}
+use Rattle.pv_opening.specs.declared.status.Status.TheVariants.{Done, Negative}
+use Rattle.pv_opening.specs.Course.{Course}
+use Rattle.pv_opening.specs.Documents.{PlainOpened}
 use Rattle.pv_words.specs.Paths.{path_text}
-use Rattle.pv_stages.specs.Response.{PlainResponse, with_line}
-use Rattle.pv_stages.specs.Stage.{Responds}
+use Rattle.pv_opening.specs.Response.{PlainResponse, with_line}
+use Rattle.pv_opening.specs.Stage.{Responds}
 
 -- the document is valid, or this is the path of its first list that isn't
 pub data TellsValidity (root : List ℕ) (g : PlainDtd) (doc : PlainDoc Mark) (r : PlainResponse) :

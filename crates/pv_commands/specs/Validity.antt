@@ -4,9 +4,9 @@ use Rattle.pv_dtd.specs.Plain.{PlainDtd}
 use Rattle.pv_tree.specs.Plain.{PlainDoc}
 use Rattle.pv_tree.specs.declared.nodes.Mark.{Mark}
 use Rattle.pv_read.specs.Grammar.{IsDocumentText}
-use Rattle.pv_stages.specs.Documents.{RefusesDocument}
-use Rattle.pv_stages.specs.Response.{PlainResponse}
-use Rattle.pv_stages.specs.Stage.{Stage, without_fetch}
+use Rattle.pv_opening.specs.Documents.{RefusesDocument}
+use Rattle.pv_opening.specs.Response.{PlainResponse}
+use Rattle.pv_opening.specs.Stage.{Stage, without_fetch}
 use Rattle.pv_commands.specs.Valid.{TellsValidity}
 
 -- such a response, of the document that the bytes are

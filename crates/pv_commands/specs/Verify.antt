@@ -1,7 +1,7 @@
 -- What `verify DTD ROOT DOC PACK` responds.
 use Rattle.std.specs.Prelude.{◌≡◌, ℕ, List, ◌++◌, codes, decimal}
 use Rattle.pv_cert.specs.declared.packs.Pack.{Pack}
-use Rattle.pv_closed.specs.ClosedTables.{AreNarrowTables, IsFirstWideTable}
+use Rattle.pv_table_check.specs.ClosedTables.{AreNarrowTables, IsFirstWideTable}
 use Rattle.pv_dtd.specs.Plain.{PlainDtd}
 use Rattle.pv_read.specs.Meaning.{DocumentMeans, is_document}
 use Rattle.pv_words.specs.Paths.{path_text}
@@ -13,13 +13,13 @@ use Rattle.pv_verify.specs.Laws.{IsLeastPack}
 use Rattle.pv_verify.specs.Tests.{PassesAllTests, IsRejected}
 use Rattle.pv_verify.specs.declared.answers.Why.{Why}
 use Rattle.pv_verify.specs.declared.answers.Why.TheVariants as why
-use Rattle.pv_stages.specs.declared.status.Status.TheVariants.{Done, Limit, Negative}
+use Rattle.pv_opening.specs.declared.status.Status.TheVariants.{Done, Limit, Negative}
 use Rattle.pv_commands.specs.Certificates.{certificate_stage}
-use Rattle.pv_stages.specs.Course.{Course}
-use Rattle.pv_stages.specs.Opening.{Files}
+use Rattle.pv_opening.specs.Course.{Course}
+use Rattle.pv_opening.specs.Opening.{Files}
 use Rattle.pv_commands.specs.PackFiles.{pack_file_stage}
-use Rattle.pv_stages.specs.Response.{PlainResponse, with_line}
-use Rattle.pv_stages.specs.Stage.{Behind, Responds}
+use Rattle.pv_opening.specs.Response.{PlainResponse, with_line}
+use Rattle.pv_opening.specs.Stage.{Behind, Responds}
 
 -- the word of a test
 abbrev pub test_text : Why → List ℕ

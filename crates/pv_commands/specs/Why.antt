@@ -7,12 +7,12 @@ use Rattle.pv_dtd.specs.Plain.{PlainDtd}
 use Rattle.pv_missing.specs.Completing.{IsPotentiallyValid}
 use Rattle.pv_tree.specs.Plain.{PlainDoc}
 use Rattle.pv_tree.specs.View.{view}
-use Rattle.pv_stages.specs.declared.status.Status.TheVariants.{Done, Limit, Negative}
-use Rattle.pv_stages.specs.Course.{Course}
-use Rattle.pv_stages.specs.Documents.{PlainOpened}
-use Rattle.pv_stages.specs.Possibility.{width_stage}
-use Rattle.pv_stages.specs.Response.{PlainResponse, with_line}
-use Rattle.pv_stages.specs.Stage.{Behind, Responds}
+use Rattle.pv_opening.specs.declared.status.Status.TheVariants.{Done, Limit, Negative}
+use Rattle.pv_opening.specs.Course.{Course}
+use Rattle.pv_opening.specs.Documents.{PlainOpened}
+use Rattle.pv_opening.specs.Possibility.{width_stage}
+use Rattle.pv_opening.specs.Response.{PlainResponse, with_line}
+use Rattle.pv_opening.specs.Stage.{Behind, Responds}
 
 -- No insertions can make the document valid, and this is the text of what denies it: its first
 -- impossible list, the cause, and where that is its word the furthest places of all sites. Or its

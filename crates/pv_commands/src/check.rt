@@ -7,12 +7,12 @@ ghost use Rattle.pv_tree.specs.Marks.{blank_mark};
 ghost use Rattle.pv_commands.specs.Check.{IsCheckCourse, TellsPossibility, possible_text};
 ghost use Rattle.pv_commands.specs.Returns.{BehindDocument};
 ghost use Rattle.pv_dtd.specs.Plain.{PlainDtd};
-ghost use Rattle.pv_stages.specs.Documents.{PlainOpened};
-ghost use Rattle.pv_stages.specs.Judging.{CountsJudged, CountsNoMore, judging_stage, lists_judged};
-ghost use Rattle.pv_stages.specs.Possibility.{AreVerdictsOf, width_stage};
-ghost use Rattle.pv_stages.specs.Response.{plain_response, with_line};
-ghost use Rattle.pv_stages.specs.Returns.{TakesCourse, ending_of, plain_fetched};
-ghost use Rattle.pv_stages.specs.declared.status.Status.TheVariants.{Done};
+ghost use Rattle.pv_opening.specs.Documents.{PlainOpened};
+ghost use Rattle.pv_opening.specs.Judging.{CountsJudged, CountsNoMore, judging_stage, lists_judged};
+ghost use Rattle.pv_opening.specs.Possibility.{AreVerdictsOf, width_stage};
+ghost use Rattle.pv_opening.specs.Response.{plain_response, with_line};
+ghost use Rattle.pv_opening.specs.Returns.{TakesCourse, ending_of, plain_fetched};
+ghost use Rattle.pv_opening.specs.declared.status.Status.TheVariants.{Done};
 ghost use Rattle.pv_productive.specs.PlainForms.{dtd_of};
 ghost use Rattle.pv_reach.specs.Plans.{IsPlan};
 ghost use Rattle.pv_tree.specs.Lists.{lists_of};
@@ -24,12 +24,12 @@ use pv_chars::NoMemory;
 use pv_check::{TextError, Told, check_text};
 use pv_dtd::Dtd;
 use pv_missing::Verdicts;
+use pv_opening::{
+    Fetched, Response, Status, Stop, narrow_verdicts_by, refuse_document, refuse_path,
+};
 use pv_productive::{Grammar, build};
 use pv_reach::{Judge, Plan};
 use pv_read::read_doc;
-use pv_stages::{
-    Fetched, Response, Status, Stop, narrow_verdicts_by, refuse_document, refuse_path,
-};
 use pv_steps::Steps;
 use pv_tree::Doc;
 use pv_valid::first_invalid_in;

@@ -2,10 +2,10 @@
 
 ghost use Rattle.std.specs.Prelude.{◌≡◌, IfErr, IfOk};
 ghost use Rattle.pv_commands.specs.Complete.{IsCompleteCourse, IsPackOfCompletion, IsVerifiable};
-ghost use Rattle.pv_stages.specs.Documents.{HasText, PlainOpened};
+ghost use Rattle.pv_opening.specs.Documents.{HasText, PlainOpened};
 ghost use Rattle.pv_commands.specs.Packing.{IsRefusalFor};
 ghost use Rattle.pv_commands.specs.Returns.{BehindDocument};
-ghost use Rattle.pv_stages.specs.Returns.{TakesCourse, RefusesWith, plain_fetched};
+ghost use Rattle.pv_opening.specs.Returns.{TakesCourse, RefusesWith, plain_fetched};
 ghost use Rattle.pv_complete.specs.Tables.{HasTablesCause};
 ghost use Rattle.pv_productive.specs.PlainForms.{dtd_of};
 ghost use Rattle.pv_tree.specs.PlainDocs.{plain_doc};
@@ -14,9 +14,9 @@ use pv_cert::{Pack, write_pack};
 use pv_complete::{Completion, NeedError, TabledCompletion, complete_with_tables};
 use pv_dtd::laws::proper_dtd_law;
 use pv_missing::laws::proper::proper_doc_law;
+use pv_opening::{Fetched, Opened, Response, Status, Stop, open_document, refuse, refuse_path};
 use pv_productive::{Grammar, build};
 use pv_read::laws::meant_law;
-use pv_stages::{Fetched, Opened, Response, Status, Stop, open_document, refuse, refuse_path};
 use pv_tables::laws::one_list_at_path_law;
 use pv_tree::{Doc, Mark};
 use pv_verify::laws::made_pack_law;

@@ -4,9 +4,9 @@ ghost use Rattle.std.specs.Prelude.{◌≡◌, ◌∷◌, [], ℕ, Contains};
 ghost use Rattle.pv_denial.specs.declared.denials.Denial.{Denial as PlainDenial};
 ghost use Rattle.pv_commands.specs.DenialFiles.{denial_file_stage, denial_stage};
 ghost use Rattle.pv_commands.specs.Deny.{IsDenyCourse, TellsJudgement, flaw_text};
-ghost use Rattle.pv_stages.specs.Opening.{IsFile};
+ghost use Rattle.pv_opening.specs.Opening.{IsFile};
 ghost use Rattle.pv_commands.specs.Returns.{CountsNone, FindsOver};
-ghost use Rattle.pv_stages.specs.Returns.{Returns, ReturnsOver, TellsBy};
+ghost use Rattle.pv_opening.specs.Returns.{Returns, ReturnsOver, TellsBy};
 ghost use Rattle.pv_dtd.specs.PlainForms.{plain_dtd};
 ghost use Rattle.pv_tree.specs.PlainDocs.{plain_doc};
 
@@ -17,10 +17,10 @@ use pv_dtd::Dtd;
 use pv_dtd::laws::proper_dtd_law;
 use pv_io::Shelf;
 use pv_missing::laws::proper::proper_doc_law;
-use pv_productive::build;
-use pv_stages::{
+use pv_opening::{
     Named, Opened, Response, Status, Stop, fetch, open_files, refuse, refuse_item, refuse_path,
 };
+use pv_productive::build;
 use pv_tree::{Doc, Mark};
 use std::alloc::Global;
 use std::mem::forget;

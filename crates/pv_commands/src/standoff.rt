@@ -4,14 +4,14 @@ ghost use Rattle.std.specs.Prelude.{◌≡◌, ◌≤◌, ◌∷◌, [], ℕ, Li
 ghost use Rattle.std.specs.Prelude.{length};
 ghost use Rattle.pv_chars.specs.Names.{IsName};
 ghost use Rattle.pv_chars.specs.Texts.{holds_close_mark};
-ghost use Rattle.pv_stages.specs.Opening.{IsFile};
-ghost use Rattle.pv_stages.specs.Judging.{CountsJudged, CountsNoMore};
-ghost use Rattle.pv_stages.specs.Possibility.{width_stage};
-ghost use Rattle.pv_stages.specs.Response.{plain_response};
-ghost use Rattle.pv_stages.specs.Returns.{TakesCourse, RefusesWith, Returns, ending_of};
+ghost use Rattle.pv_opening.specs.Opening.{IsFile};
+ghost use Rattle.pv_opening.specs.Judging.{CountsJudged, CountsNoMore};
+ghost use Rattle.pv_opening.specs.Possibility.{width_stage};
+ghost use Rattle.pv_opening.specs.Response.{plain_response};
+ghost use Rattle.pv_opening.specs.Returns.{TakesCourse, RefusesWith, Returns, ending_of};
 ghost use Rattle.pv_commands.specs.Returns.{FindsOver};
-ghost use Rattle.pv_stages.specs.Returns.{ReturnsOver};
-ghost use Rattle.pv_stages.specs.Stage.{Behind, beside};
+ghost use Rattle.pv_opening.specs.Returns.{ReturnsOver};
+ghost use Rattle.pv_opening.specs.Stage.{Behind, beside};
 ghost use Rattle.pv_commands.specs.Annotations.{AreTwo, plain_two, two_stage};
 ghost use Rattle.pv_commands.specs.Standoff.{CountsNested, IsNestRefusal, IsRangesRefusal};
 ghost use Rattle.pv_commands.specs.Standoff.{IsShownCourse, IsStandoffCourse, IsTextRefusal};
@@ -30,10 +30,10 @@ use crate::check::check_line;
 use pv_chars::{NoMemory, TextError, Units, text_units};
 use pv_dtd::Dtd;
 use pv_io::Shelf;
-use pv_productive::{Grammar, build};
-use pv_stages::{
+use pv_opening::{
     Response, Status, Stop, fetch, narrow_verdicts, open_dtd, refuse, refuse_item, refuse_numbers,
 };
+use pv_productive::{Grammar, build};
 use pv_standoff::laws::text_law;
 use pv_standoff::{NestError, Ranges, RangesError, nest, read_ranges};
 use pv_steps::Steps;

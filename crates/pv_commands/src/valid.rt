@@ -2,13 +2,13 @@
 
 ghost use Rattle.pv_commands.specs.Returns.{BehindDocument};
 ghost use Rattle.pv_commands.specs.Valid.{IsValidCourse};
-ghost use Rattle.pv_stages.specs.Response.{plain_response};
-ghost use Rattle.pv_stages.specs.Returns.{TakesCourse, Returns, plain_fetched};
+ghost use Rattle.pv_opening.specs.Response.{plain_response};
+ghost use Rattle.pv_opening.specs.Returns.{TakesCourse, Returns, plain_fetched};
 ghost use Rattle.pv_commands.specs.Validity.{validity_stage};
 ghost use Rattle.pv_dtd.specs.PlainForms.{plain_dtd};
 
 use pv_dtd::Dtd;
-use pv_stages::{Fetched, Response, Status, Stop, refuse_document};
+use pv_opening::{Fetched, Response, Status, Stop, refuse_document};
 use pv_valid::first_invalid_in;
 use std::alloc::Global;
 

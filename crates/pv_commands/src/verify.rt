@@ -2,10 +2,10 @@
 
 ghost use Rattle.std.specs.Prelude.{◌≡◌, ◌∷◌, [], List, ℕ, Contains};
 ghost use Rattle.pv_cert.specs.declared.packs.Pack.{Pack as PlainPack};
-ghost use Rattle.pv_stages.specs.Opening.{IsFile};
+ghost use Rattle.pv_opening.specs.Opening.{IsFile};
 ghost use Rattle.pv_commands.specs.PackFiles.{pack_file_stage, pack_stage};
 ghost use Rattle.pv_commands.specs.Returns.{CountsNone, FindsOver};
-ghost use Rattle.pv_stages.specs.Returns.{Returns, ReturnsOver, TellsBy};
+ghost use Rattle.pv_opening.specs.Returns.{Returns, ReturnsOver, TellsBy};
 ghost use Rattle.pv_commands.specs.Verify.{IsVerifyCourse, TellsOfPack, test_text};
 ghost use Rattle.pv_dtd.specs.PlainForms.{plain_dtd};
 ghost use Rattle.pv_read.specs.Meaning.{DocumentMeans, is_document};
@@ -16,7 +16,7 @@ ghost use Rattle.pv_verify.specs.Reading.{IsMeant};
 use pv_cert::{MAX_PACK_BYTES, Pack, PackError, take_pack};
 use pv_dtd::Dtd;
 use pv_io::Shelf;
-use pv_stages::{
+use pv_opening::{
     Named, Opened, Response, Status, Stop, fetch, open_files, refuse, refuse_item, refuse_path,
 };
 use pv_tree::Doc;

@@ -2,10 +2,10 @@
 
 ghost use Rattle.std.specs.Prelude.{◌≡◌, length};
 ghost use Rattle.pv_commands.specs.Returns.{BehindDocument};
-ghost use Rattle.pv_stages.specs.Documents.{PlainOpened};
-ghost use Rattle.pv_stages.specs.Judging.{CountsJudged, CountsNoMore, judging_stage, lists_judged};
-ghost use Rattle.pv_stages.specs.Possibility.{width_stage};
-ghost use Rattle.pv_stages.specs.Returns.{TakesCourse, TellsBy, ending_of, plain_fetched};
+ghost use Rattle.pv_opening.specs.Documents.{PlainOpened};
+ghost use Rattle.pv_opening.specs.Judging.{CountsJudged, CountsNoMore, judging_stage, lists_judged};
+ghost use Rattle.pv_opening.specs.Possibility.{width_stage};
+ghost use Rattle.pv_opening.specs.Returns.{TakesCourse, TellsBy, ending_of, plain_fetched};
 ghost use Rattle.pv_commands.specs.Why.{IsWhyCourse, TellsWhy};
 ghost use Rattle.pv_fresh.specs.Answers.{IsImpossibleAt};
 ghost use Rattle.pv_productive.specs.PlainForms.{dtd_of};
@@ -14,11 +14,11 @@ ghost use Rattle.pv_tree.specs.PlainDocs.{plain_doc};
 
 use pv_denial_text::write_denial;
 use pv_deny::{DenyError, denial_by};
-use pv_productive::build;
-use pv_reach::{Judge, Plan};
-use pv_stages::{
+use pv_opening::{
     Fetched, Opened, Response, Status, Stop, narrow_verdicts_by, open_document, refuse,
 };
+use pv_productive::build;
+use pv_reach::{Judge, Plan};
 use pv_steps::Steps;
 use pv_tree::{Doc, Path};
 use std::alloc::Global;

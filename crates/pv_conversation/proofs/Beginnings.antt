@@ -5,7 +5,7 @@ use Rattle.pv_session.specs.Sessions.{PlainSession, session_on}
 use Rattle.pv_tree.specs.Marks.{unmarked_doc}
 use Rattle.pv_tree.specs.Plain.{PlainDoc}
 use Rattle.pv_tree.specs.declared.nodes.Mark.{Mark}
-use Rattle.pv_stages.specs.Possibility.{AreAllNarrow}
+use Rattle.pv_opening.specs.Possibility.{AreAllNarrow}
 use Rattle.pv_conversation.specs.Session.{guarding_stage}
 
 -- where no list of a document is too wide, for this DTD under another name

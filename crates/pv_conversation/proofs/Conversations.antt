@@ -5,13 +5,13 @@ use Rattle.std.specs.Io.KnownBytes.{Consumes, IsAtEnd}
 use Rattle.pv_io.specs.Causes.{Asked, CountStays, MadeCalls, WasAsked, empty_in}
 use Rattle.pv_io.specs.declared.source.Failed.{Failed}
 use Rattle.pv_session.specs.Sessions.{PlainSession}
-use Rattle.pv_stages.specs.declared.status.Status.{Status}
-use Rattle.pv_stages.specs.declared.status.Status.TheVariants.{NoMemory}
+use Rattle.pv_opening.specs.declared.status.Status.{Status}
+use Rattle.pv_opening.specs.declared.status.Status.TheVariants.{NoMemory}
 use Rattle.pv_conversation.specs.Conversation.{Talked}
 use Rattle.pv_conversation.specs.Counting.{CountsFirst, lines_answered}
-use Rattle.pv_stages.specs.Course.{RunEnding, no_memory, without_input}
-use Rattle.pv_stages.specs.Devices.{InputNow, OutputNow}
-use Rattle.pv_stages.specs.Showing.{AskedAtMost, CountsInput, CountsShelf, MadeAtMost, WritesEnding, wrote}
+use Rattle.pv_opening.specs.Course.{RunEnding, no_memory, without_input}
+use Rattle.pv_opening.specs.Devices.{InputNow, OutputNow}
+use Rattle.pv_opening.specs.Showing.{AskedAtMost, CountsInput, CountsShelf, MadeAtMost, WritesEnding, wrote}
 use Rattle.pv_conversation.specs.Session.{EndsSession, ended_over, without_room}
 use Rattle.pv_conversation.proofs.Replies.{appends_none}
 

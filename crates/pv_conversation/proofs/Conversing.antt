@@ -11,7 +11,7 @@ use Rattle.pv_script.specs.declared.commands.Command.TheVariants.{Quit}
 use Rattle.pv_session.specs.Sessions.{PlainSession}
 use Rattle.pv_conversation.specs.Counting.{CountedSession}
 use Rattle.pv_conversation.specs.Conversation.{Conversed, EndedWith, IsScriptLine, IsReplyText}
-use Rattle.pv_stages.specs.Course.{RunEnding, input_fault, output_fault}
+use Rattle.pv_opening.specs.Course.{RunEnding, input_fault, output_fault}
 use Rattle.pv_conversation.specs.Script.{MAX_SCRIPT_BYTES, lines_within}
 use Rattle.pv_conversation.specs.Session.{EndsSession, Place, Replies, finished, quitted, past_line, past_script, input_failed, output_failed, no_lines, at_line, at_quit, all_told, limited}
 use Rattle.pv_conversation.proofs.Counting.{counts_all, counts_front}

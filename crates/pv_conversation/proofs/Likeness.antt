@@ -3,10 +3,10 @@ use Rattle.std.proofs.Common.{◌≡◌, ◌++◌, ◌∙◌, List, ap, append_a
 use Rattle.pv_script.specs.Replies.{reply_bytes}
 use Rattle.pv_script.specs.declared.replies.Reply.{Reply}
 use Rattle.pv_conversation.specs.Alike.{RepliesAlike, OutputsAlike, ResponsesAlike, are_completions, are_one, begins_alike, ends_alike}
-use Rattle.pv_stages.specs.Course.{RunEnding, responds}
-use Rattle.pv_stages.specs.Response.{PlainResponse}
+use Rattle.pv_opening.specs.Course.{RunEnding, responds}
+use Rattle.pv_opening.specs.Response.{PlainResponse}
 use Rattle.pv_conversation.specs.Session.{done_of}
-use Rattle.pv_stages.specs.declared.status.Status.{Status}
+use Rattle.pv_opening.specs.declared.status.Status.{Status}
 
 -- replies that are alike tell the same of what was done
 pub done_alike : (told also : Reply) → RepliesAlike told also → done_of told ≡ done_of also

@@ -26,7 +26,7 @@ use Rattle.pv_tree.specs.Plain.{PlainDoc}
 use Rattle.pv_tree.specs.View.{view}
 use Rattle.pv_tree.specs.declared.nodes.Mark.{Mark}
 use Rattle.pv_tree.specs.declared.nodes.Verdict.TheVariants as verdict
-use Rattle.pv_stages.proofs.OnePossibility.{none_first}
+use Rattle.pv_opening.proofs.OnePossibility.{none_first}
 
 module _ {M N : Type 0} (f : M → N) (g : PlainDtd) (root : List ℕ) where
   weigh_to : (list : Listed M) → CanWeigh g root list → CanWeigh g root (list_as f list)

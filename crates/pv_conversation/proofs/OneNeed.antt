@@ -13,7 +13,7 @@ use Rattle.pv_tree.specs.Lists.{lists_of}
 use Rattle.pv_tree.proofs.Firsts.{one_first}
 use Rattle.pv_conversation.specs.Alike.{RepliesAlike, are_completions, are_one}
 use Rattle.pv_conversation.specs.Missing.{TellsCompletion, TellsNeed, Withholds, is_completed, is_heavy, is_impossible, is_needed, is_not_completed, is_wide, is_withheld}
-use Rattle.pv_stages.proofs.OnePossibility.{none_first}
+use Rattle.pv_opening.proofs.OnePossibility.{none_first}
 
 module _ (s : PlainSession) where
   -- all lists can be weighed, or one is too wide

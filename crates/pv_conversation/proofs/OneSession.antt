@@ -6,19 +6,19 @@ use Rattle.pv_read.specs.DocumentLaws.{SpellsOneDocument}
 use Rattle.pv_words.specs.Lines.{lines_of}
 use Rattle.pv_words.specs.Words.{with_feed}
 use Rattle.pv_session.specs.Sessions.{PlainSession, session_on}
-use Rattle.pv_stages.specs.declared.status.Status.TheVariants.{Done, Limit}
+use Rattle.pv_opening.specs.declared.status.Status.TheVariants.{Done, Limit}
 use Rattle.pv_conversation.specs.Alike.{OutputsAlike, ResponsesAlike}
-use Rattle.pv_stages.specs.Course.{Course, RunEnding, responds}
-use Rattle.pv_stages.specs.Documents.{PlainOpened}
-use Rattle.pv_stages.specs.Possibility.{width_stage}
-use Rattle.pv_stages.specs.Response.{PlainResponse}
+use Rattle.pv_opening.specs.Course.{Course, RunEnding, responds}
+use Rattle.pv_opening.specs.Documents.{PlainOpened}
+use Rattle.pv_opening.specs.Possibility.{width_stage}
+use Rattle.pv_opening.specs.Response.{PlainResponse}
 use Rattle.pv_conversation.specs.Script.{MAX_SCRIPT_BYTES, IsWithin, lines_within}
 use Rattle.pv_conversation.specs.Session.{Converses, EndsSession, IsSessionCourse, Place, Replies, at_line, at_quit, beginning_stage, ended_over, finished, guarding_stage, input_failed, limited, output_failed, past_line, past_script, quitted, without_room}
 use Rattle.pv_words.proofs.RawLines.{cut_of}
 use Rattle.pv_conversation.proofs.GoingOn.{lines_and_last}
 use Rattle.pv_conversation.proofs.Likeness.{alike_behind, endings_alike, one_response_alike}
-use Rattle.pv_stages.proofs.OnePossibility.{width_sure}
-use Rattle.pv_stages.proofs.OneOpening.{AreSameOpened, AreSure, IsEqual, RunsAs, followed_sure, one_like, reading_sure, unmarked_same}
+use Rattle.pv_opening.proofs.OnePossibility.{width_sure}
+use Rattle.pv_opening.proofs.OneOpening.{AreSameOpened, AreSure, IsEqual, RunsAs, followed_sure, one_like, reading_sure, unmarked_same}
 use Rattle.pv_conversation.proofs.OneReplies.{AnswersOnce, one_replies}
 use Rattle.pv_conversation.proofs.Replies.{ends_at_quit}
 

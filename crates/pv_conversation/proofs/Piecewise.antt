@@ -11,8 +11,8 @@ use Rattle.pv_conversation.specs.declared.talk.Next.{Next}
 use Rattle.pv_conversation.specs.declared.talk.Next.TheVariants.{More as more_asked, Quit as quit, LineLimit as line_limit, ScriptLimit as script_limit}
 use Rattle.pv_conversation.specs.declared.talk.Reading.{Reading}
 use Rattle.pv_conversation.specs.Conversation.{AnswersLine, ComesNext, Conversed, EndedWith, IsWithinScript, IsBeyond, IsNext, IsReplyText, RepliesWith}
-use Rattle.pv_stages.specs.Course.{RunEnding, output_fault}
-use Rattle.pv_stages.specs.Showing.{AskedAtMost}
+use Rattle.pv_opening.specs.Course.{RunEnding, output_fault}
+use Rattle.pv_opening.specs.Showing.{AskedAtMost}
 use Rattle.pv_conversation.specs.Counting.{CountedSession}
 use Rattle.pv_conversation.specs.ReplyBuffer.{HoldsReplies}
 use Rattle.pv_conversation.specs.Script.{MAX_SCRIPT_BYTES}

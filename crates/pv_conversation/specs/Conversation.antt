@@ -16,12 +16,12 @@ use Rattle.pv_session.specs.Sessions.{PlainSession}
 use Rattle.pv_conversation.specs.declared.talk.Next.{Next}
 use Rattle.pv_conversation.specs.declared.talk.Next.TheVariants as next
 use Rattle.pv_conversation.specs.declared.talk.Reading.{Reading}
-use Rattle.pv_stages.specs.declared.status.Status.{Status}
+use Rattle.pv_opening.specs.declared.status.Status.{Status}
 use Rattle.pv_conversation.specs.Counting.{CountedSession, CountsFirst, CountsOneLine, CountsLines}
 use Rattle.pv_conversation.specs.Counting.{CountsScript, lines_answered}
-use Rattle.pv_stages.specs.Course.{RunEnding, output_fault}
-use Rattle.pv_stages.specs.Devices.{InputNow, OutputNow}
-use Rattle.pv_stages.specs.Returns.{GoesThrough}
+use Rattle.pv_opening.specs.Course.{RunEnding, output_fault}
+use Rattle.pv_opening.specs.Devices.{InputNow, OutputNow}
+use Rattle.pv_opening.specs.Returns.{GoesThrough}
 use Rattle.pv_conversation.specs.Session.{Converses, EndsSession, Replies, RepliesTo, all_told}
 use Rattle.pv_conversation.specs.Session.{at_line, limited}
 

@@ -6,7 +6,7 @@ use Rattle.pv_words.specs.Lines.{lines_of}
 use Rattle.pv_script.specs.declared.commands.Command.{Command}
 use Rattle.pv_script.specs.declared.commands.Command.TheVariants as command
 use Rattle.pv_session.specs.Sessions.{PlainSession}
-use Rattle.pv_stages.specs.Course.{Course}
+use Rattle.pv_opening.specs.Course.{Course}
 use Rattle.pv_conversation.specs.Script.{lines_within}
 use Rattle.pv_conversation.specs.Session.{is_among}
 

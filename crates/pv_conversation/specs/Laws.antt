@@ -10,7 +10,7 @@ use Rattle.pv_script.specs.declared.replies.Reply.{Reply}
 use Rattle.pv_script.specs.declared.replies.Reply.TheVariants as reply
 use Rattle.pv_session.specs.Sessions.{PlainSession}
 use Rattle.pv_conversation.specs.Alike.{RepliesAlike, OutputsAlike}
-use Rattle.pv_stages.specs.Course.{RunEnding, input_fault}
+use Rattle.pv_opening.specs.Course.{RunEnding, input_fault}
 use Rattle.pv_conversation.specs.Session.{EndsSession, Place, at_line, at_quit, Replies, RepliesTo}
 
 -- the replies to a piece of a script, and then those to the lines behind it, are the replies to

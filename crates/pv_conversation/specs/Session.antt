@@ -23,15 +23,15 @@ use Rattle.pv_edit.specs.declared.answers.VerdictRow.{VerdictRow}
 use Rattle.pv_session.specs.Sessions.{PlainSession, session_on, stamped_document}
 use Rattle.pv_session.specs.Steps.{PlainAnswer, is_done, lacks_shape, is_past_limit, is_impossible}
 use Rattle.pv_session.specs.Steps.{lacks_history, IsEditStep, IsUndoStep, IsRedoStep}
-use Rattle.pv_stages.specs.declared.status.Status.TheVariants.{Done, Limit}
-use Rattle.pv_stages.specs.Course.{Course, RunEnding, responds, input_fault, output_fault}
-use Rattle.pv_stages.specs.Course.{no_memory as short_of_memory, without_input}
+use Rattle.pv_opening.specs.declared.status.Status.TheVariants.{Done, Limit}
+use Rattle.pv_opening.specs.Course.{Course, RunEnding, responds, input_fault, output_fault}
+use Rattle.pv_opening.specs.Course.{no_memory as short_of_memory, without_input}
 use Rattle.pv_conversation.specs.Missing.{TellsCompletion, TellsNeed}
 use Rattle.pv_conversation.specs.Offers.{TellsOffer}
-use Rattle.pv_stages.specs.Documents.{PlainOpened}
-use Rattle.pv_stages.specs.Possibility.{width_stage}
+use Rattle.pv_opening.specs.Documents.{PlainOpened}
+use Rattle.pv_opening.specs.Possibility.{width_stage}
 use Rattle.pv_conversation.specs.Script.{MAX_SCRIPT_BYTES, IsWithin, has_long_line, lines_within}
-use Rattle.pv_stages.specs.Stage.{Stage, without_fetch, followed_by, Behind}
+use Rattle.pv_opening.specs.Stage.{Stage, without_fetch, followed_by, Behind}
 
 -- beginning a session, which nothing refuses
 abbrev pub beginning_stage : List ℕ → PlainDtd → PlainDoc Mark → Stage PlainSession

@@ -8,8 +8,8 @@ use Rattle.pv_rules.specs.Sites.{PlainSite}
 use Rattle.pv_tree.specs.Lists.{Listed}
 use Rattle.pv_tree.specs.Words.{word_of}
 use Rattle.pv_missing.specs.Weighing.{BoundInAll, IsBound, site_of}
-use Rattle.pv_fronts.specs.Bounds.{IsBelowSites}
-use Rattle.pv_fronts.specs.Laws.{BelowSitesIsBound}
+use Rattle.pv_bounds.specs.Bounds.{IsBelowSites}
+use Rattle.pv_bounds.specs.Laws.{BelowSitesIsBound}
 use Rattle.pv_long.specs.Bounding.{AreBounded}
 
 module _ {M : Type 0} (g : PlainDtd) (root : List ℕ) where

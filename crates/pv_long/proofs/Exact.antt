@@ -14,7 +14,7 @@ use Rattle.pv_flat.specs.Coming.{flat_limits}
 use Rattle.pv_missing.specs.Completing.{HasCompletion}
 use Rattle.pv_missing.specs.DocumentLaws.{BoundsAddUp, TagsExtend}
 use Rattle.pv_missing.specs.Proper.{IsProperDoc}
-use Rattle.pv_kept.specs.Kept.{IsBodyText, KeepsDocument}
+use Rattle.pv_compare.specs.Kept.{IsBodyText, KeepsDocument}
 use Rattle.pv_long.specs.Bounding.{AreBounded}
 use Rattle.pv_long.specs.Told.{AreMissing, IsCompletion, IsCompletionText, IsExact, OneLeast, SaysNothing, TellsNone}
 use Rattle.pv_long.specs.declared.answers.Completion.{Completion}

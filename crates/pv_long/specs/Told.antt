@@ -10,7 +10,7 @@ use Rattle.pv_tree.specs.declared.nodes.Mark.{Mark}
 use Rattle.pv_missing.specs.Completing.{Completes, HasCompletion, IsLeast}
 use Rattle.pv_missing.specs.Widths.{IsFirstTooWide}
 use Rattle.pv_fresh.specs.Answers.{IsImpossibleAt}
-use Rattle.pv_kept.specs.Kept.{IsBodyText}
+use Rattle.pv_compare.specs.Kept.{IsBodyText}
 use Rattle.pv_long.specs.declared.answers.Completion.{Completion}
 use Rattle.pv_long.specs.declared.answers.Missing.{Missing}
 use Rattle.pv_long.specs.declared.answers.Missing.TheVariants.{Between, Exactly}

@@ -10,9 +10,9 @@ ghost use Rattle.pv_long.specs.Told.{IsCompletionText};
 
 use crate::errors::MakeError;
 use pv_chars::NoMemory;
+use pv_compare::is_kept;
 use pv_dtd::Dtd;
 use pv_flat::{MAX_FLAT_BYTES, valid_events};
-use pv_kept::is_kept;
 use pv_missing::laws::documents::tags_extend_law;
 use pv_read::DocError;
 use pv_read::laws::wider_limits_law;

@@ -1,11 +1,11 @@
 //! How many elements are missing in a document with wide lists, by two bounds that mostly meet.
 //!
 //! Where a list is too wide to weigh, `pv_complete` tells nothing. `missing` tells of it all the
-//! same: of each Possible list it makes fronts (pv_fronts), by which a bound is known of what is
+//! same: of each Possible list it makes fronts (pv_bounds), by which a bound is known of what is
 //! missing in it, and of these fronts a completion. What is made is promised nothing of; what is
 //! told is checked: the fronts are closed, so that the sum of their bounds is at most the number of
 //! every completion (`bounds_add_up_law` of pv_missing), and the text that was written is one of a
-//! valid document that is the given one with elements inserted (pv_kept, pv_flat). Where the sum is
+//! valid document that is the given one with elements inserted (pv_compare, pv_flat). Where the sum is
 //! as large as the number of these, it is the least one.
 //!
 //! `specs/Told.antt` says what is told, and when the refusals come.

@@ -14,8 +14,8 @@ use Rattle.pv_missing.proofs.PossibleSites.{content_possible}
 use Rattle.pv_missing.specs.Filling.{IsPossible}
 use Rattle.pv_missing.specs.LiveWords.{AreProductiveTokens}
 use Rattle.pv_reach.specs.Taking.{ContentTakes, IsFreeContent}
-use Rattle.pv_course.specs.Counts.{AreWithout}
-use Rattle.pv_course.proofs.Counting.{all_of_none, none_of_all}
+use Rattle.pv_rematch.specs.Counts.{AreWithout}
+use Rattle.pv_rematch.proofs.Counting.{all_of_none, none_of_all}
 use Rattle.pv_verdicts.specs.Counting.{IsTakenToken}
 
 -- tokens that are taken are those of productive names that the content takes

@@ -1,7 +1,7 @@
 -- How many tokens keep a word from being possible.
 use Rattle.std.specs.Prelude.{IfSome, List, ℕ}
 use Rattle.pv_model.specs.Plain.{PlainToken}
-use Rattle.pv_course.specs.Counts.{AreWithout}
+use Rattle.pv_rematch.specs.Counts.{AreWithout}
 use Rattle.pv_dtd.specs.Plain.{PlainDtd}
 use Rattle.pv_missing.specs.LiveWords.{IsProductiveToken}
 use Rattle.pv_reach.specs.Taking.{ContentTakes, IsFreeContent}

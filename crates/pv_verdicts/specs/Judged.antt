@@ -1,7 +1,7 @@
 -- What is kept of a list's word, and what a change of the word makes of it.
 use Rattle.std.specs.Prelude.{IfSome, List, None, Option, Some, ℕ, ◌≡◌}
 use Rattle.pv_model.specs.Plain.{PlainModel, PlainToken}
-use Rattle.pv_course.specs.Courses.{IsCourse, IsTurn}
+use Rattle.pv_rematch.specs.Courses.{IsCourse, IsTurn}
 use Rattle.pv_dtd.specs.Plain.{PlainDtd, declared, model_of}
 use Rattle.pv_rules.specs.Sites.{PlainSite, content_site, name_site, part_site, rest_site}
 use Rattle.pv_verdicts.specs.Counting.{AreCounts}

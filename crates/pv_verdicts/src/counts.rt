@@ -1,18 +1,18 @@
 //! How many tokens of a word keep it from being possible.
 
 ghost use Rattle.std.specs.Prelude.{◌≡◌, ◌↔◌, IfSome, IsTrue, map};
-ghost use Rattle.pv_course.specs.Changes.{word_before};
-ghost use Rattle.pv_course.specs.Counts.{AreWithout};
+ghost use Rattle.pv_rematch.specs.Changes.{word_before};
+ghost use Rattle.pv_rematch.specs.Counts.{AreWithout};
 ghost use Rattle.pv_model.specs.PlainForms.{plain_token};
 ghost use Rattle.pv_productive.specs.PlainForms.{dtd_of};
 ghost use Rattle.pv_missing.specs.LiveWords.{IsProductiveToken};
 ghost use Rattle.pv_reach.specs.Taking.{IsFreeContent};
 ghost use Rattle.pv_verdicts.specs.Counting.{IsTakenToken};
 
-use pv_course::WordChange;
 use pv_missing::are_productive;
 use pv_model::{NameId, Token};
 use pv_reach::{FreeContent, Judge};
+use pv_rematch::WordChange;
 
 /// How many tokens of a word keep it from being possible for the content of a name.
 #[derive(Clone, Copy, Debug)]

@@ -1,10 +1,10 @@
 //! Where two words differ.
 
 ghost use Rattle.std.specs.Prelude.{◌≡◌, ◌≤◌, ◌+◌, ℕ, take, drop, length};
-ghost use Rattle.pv_course.specs.Changes.{word_before};
+ghost use Rattle.pv_rematch.specs.Changes.{word_before};
 
-use pv_course::WordChange;
 use pv_model::Token;
+use pv_rematch::WordChange;
 
 // How many tokens at the start of two words are the same.
 fn common_front(before: &[Token], after: &[Token]) -> usize

@@ -2,7 +2,7 @@
 //! change.
 
 ghost use Rattle.std.specs.Prelude.{◌≡◌, List, IfOk, IfSome, Option, map};
-ghost use Rattle.pv_course.specs.Courses.{IsCourse};
+ghost use Rattle.pv_rematch.specs.Courses.{IsCourse};
 ghost use Rattle.pv_dtd.specs.Plain.{PlainDtd};
 ghost use Rattle.pv_model.specs.Plain.{PlainToken};
 ghost use Rattle.pv_model.specs.PlainForms.{plain_model, plain_token};
@@ -13,10 +13,10 @@ ghost use Rattle.pv_verdicts.specs.declared.judged.Kept.{Kept as PlainKept};
 use crate::counts::Counts;
 use crate::deciding::{Content, content_of, verdict_by};
 use pv_chars::NoMemory;
-use pv_course::{Course, Turn, WordChange};
 use pv_missing::{Of, is_narrow};
 use pv_model::{LaidModel, Token};
 use pv_reach::{Judge, ReachError, word_verdict};
+use pv_rematch::{Course, Turn, WordChange};
 use pv_steps::Steps;
 use pv_tree::Verdict;
 use std::alloc::Global;
@@ -74,7 +74,7 @@ fn made_of(kept: Option<Kept>, turn: Option<KeptTurn>) -> Option<Kept>
 
 impl Kept {
     ghost use Rattle.std.specs.Prelude.{◌≡◌, ℕ, Bool, List, IfErr, IfOk, Some, length, map};
-    ghost use Rattle.pv_course.specs.Changes.{word_before};
+    ghost use Rattle.pv_rematch.specs.Changes.{word_before};
     ghost use Rattle.pv_model.specs.Plain.{PlainToken};
     ghost use Rattle.pv_model.specs.PlainForms.{plain_model, plain_token};
     ghost use Rattle.pv_dtd.specs.Plain.{PlainDtd};
@@ -173,7 +173,7 @@ impl Kept {
 
 impl Judged {
     ghost use Rattle.std.specs.Prelude.{◌≡◌, ◌+◌, List, IfErr, IfOk, Option, length, map};
-    ghost use Rattle.pv_course.specs.Changes.{word_before};
+    ghost use Rattle.pv_rematch.specs.Changes.{word_before};
     ghost use Rattle.std.specs.Option.{option_map};
     ghost use Rattle.pv_model.specs.Plain.{PlainToken};
     ghost use Rattle.pv_model.specs.PlainForms.{plain_token};

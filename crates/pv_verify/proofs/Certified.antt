@@ -19,8 +19,8 @@ use Rattle.pv_missing.specs.Weighing.{AscendBounds, BoundAt, IsBound, IsBoundAt,
 use Rattle.pv_tables.specs.TableLaws.{OneListAtPath}
 use Rattle.pv_tables.specs.Values.{HasWholeValue, HaveTotal, listed_value}
 use Rattle.pv_tables.specs.declared.tables.Table.{Table}
-use Rattle.pv_closed.specs.ClosedTables.{AreClosedTables, IsClosedTable}
-use Rattle.pv_kept.specs.Kept.{KeepsDocument}
+use Rattle.pv_table_check.specs.ClosedTables.{AreClosedTables, IsClosedTable}
+use Rattle.pv_compare.specs.Kept.{KeepsDocument}
 use Rattle.pv_verify.specs.Laws.{AcceptedIsLeast}
 use Rattle.pv_verify.specs.Tests.{HasTotals}
 use Rattle.pv_verify.specs.declared.answers.Why.TheVariants as why

@@ -14,10 +14,10 @@ use Rattle.pv_missing.specs.Weighing.{SumIsLeast, whole}
 use Rattle.pv_tables.specs.TableLaws.{TablesAddUp}
 use Rattle.pv_tables.specs.Values.{HaveTotal, listed_value}
 use Rattle.pv_tables.specs.declared.tables.Table.{Table}
-use Rattle.pv_closed.specs.ClosedTables.{IsClosedTable}
-use Rattle.pv_closed.specs.Laws.{TablesAreClosed}
+use Rattle.pv_table_check.specs.ClosedTables.{IsClosedTable}
+use Rattle.pv_table_check.specs.Laws.{TablesAreClosed}
 use Rattle.pv_verify.specs.Laws.{MadeIsAccepted}
-use Rattle.pv_kept.specs.Kept.{AreMarks, attributes_of}
+use Rattle.pv_compare.specs.Kept.{AreMarks, attributes_of}
 use Rattle.pv_verify.specs.Tests.{HasTotals, PassesTest}
 use Rattle.pv_verify.specs.declared.answers.Why.{Why}
 use Rattle.pv_verify.specs.declared.answers.Why.TheVariants as why

@@ -9,7 +9,7 @@ use Rattle.pv_read.specs.Meaning.{DocumentMeans, DocumentMeansWithin, document_l
 use Rattle.pv_read.specs.declared.errors.DocError.{DocError}
 use Rattle.pv_read.specs.declared.errors.DocError.TheVariants.{Deep, DoctypeName, Entity, Limit, Mismatch, NoMemory, Subset, Syntax}
 use Rattle.pv_flat.specs.Coming.{flat_limits}
-use Rattle.pv_kept.specs.Kept.{IsBodyText}
+use Rattle.pv_compare.specs.Kept.{IsBodyText}
 
 module _ (one : DocumentsMeanOne) (root bytes : List ℕ) (body : PlainDoc Mark) (text : IsBodyText root bytes body) where
   pub refuted : (error : DocError) → Refuses (DocumentMeansWithin flat_limits blank_mark root bytes) error → (error ≡ NoMemory → ⊥) → ⊥

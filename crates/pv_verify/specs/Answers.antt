@@ -9,7 +9,7 @@ use Rattle.pv_read.specs.Errors.{Refuses}
 use Rattle.pv_read.specs.Meaning.{DocumentMeans, is_document}
 use Rattle.pv_read.specs.declared.errors.DocError.{DocError}
 use Rattle.pv_read.specs.declared.errors.DocError.TheVariants as document
-use Rattle.pv_closed.specs.ClosedTables.{AreNarrowTables, IsFirstWideTable}
+use Rattle.pv_table_check.specs.ClosedTables.{AreNarrowTables, IsFirstWideTable}
 use Rattle.pv_cert.specs.declared.packs.Pack.{Pack}
 use Rattle.pv_verify.specs.Laws.{IsLeastPack}
 use Rattle.pv_verify.specs.Tests.{PassesAllTests, IsRejected}

@@ -12,7 +12,7 @@ use Rattle.pv_missing.specs.Completing.{Completes, IsLeast}
 use Rattle.pv_missing.specs.Proper.{IsProperDoc}
 use Rattle.pv_missing.specs.Verdicts.{AreVerdicts}
 use Rattle.pv_tables.specs.Tables.{AreTables}
-use Rattle.pv_kept.specs.Kept.{IsBodyText}
+use Rattle.pv_compare.specs.Kept.{IsBodyText}
 use Rattle.pv_cert.specs.declared.packs.Pack.{Pack}
 use Rattle.pv_verify.specs.Tests.{PassesAllTests, IsRejected}
 use Rattle.pv_verify.specs.declared.answers.Why.{Why}

@@ -4,9 +4,9 @@ use Rattle.pv_tree.specs.Marks.{blank_mark}
 use Rattle.pv_tree.specs.Plain.{PlainDoc}
 use Rattle.pv_tree.specs.declared.nodes.Mark.{Mark}
 use Rattle.pv_read.specs.Meaning.{DocumentMeans, is_document}
-use Rattle.pv_kept.specs.Comparing.{IsBodyRead}
-use Rattle.pv_kept.specs.Kept.{IsBodyText, KeepsDocument}
-use Rattle.pv_kept.specs.declared.comparing.BodyRead.{BodyRead}
+use Rattle.pv_compare.specs.Comparing.{IsBodyRead}
+use Rattle.pv_compare.specs.Kept.{IsBodyText, KeepsDocument}
+use Rattle.pv_compare.specs.declared.comparing.BodyRead.{BodyRead}
 
 -- One reading of a body tells this of it, beside a document and by these marks.
 pub record IsReadBeside (root : List ℕ) (doc : PlainDoc Mark) (body marks : List ℕ)

@@ -7,8 +7,8 @@ use Rattle.pv_tree.specs.Plain.{PlainDoc}
 use Rattle.pv_tree.specs.View.{view}
 use Rattle.pv_tree.specs.declared.nodes.Mark.{Mark}
 use Rattle.pv_tables.specs.Values.{HaveTotal}
-use Rattle.pv_closed.specs.ClosedTables.{AreClosedTables}
-use Rattle.pv_kept.specs.Kept.{AreMarks, IsBodyText, KeepsDocument}
+use Rattle.pv_table_check.specs.ClosedTables.{AreClosedTables}
+use Rattle.pv_compare.specs.Kept.{AreMarks, IsBodyText, KeepsDocument}
 use Rattle.pv_cert.specs.declared.packs.Pack.{Pack}
 use Rattle.pv_verify.specs.declared.answers.Why.{Why}
 use Rattle.pv_verify.specs.declared.answers.Why.TheVariants as why

@@ -3,10 +3,10 @@
 
 ghost use Rattle.pv_verify.specs.Laws.{AcceptedIsLeast, MadeIsAccepted, OneAnswer};
 
-use pv_closed::laws::tables_closed_law;
 use pv_missing::laws::documents::{some_bounds_law, tags_extend_law};
 use pv_missing::laws::lists::closed_is_bound_law;
 use pv_read::laws::one_meaning_law;
+use pv_table_check::laws::tables_closed_law;
 use pv_tables::laws::{one_list_at_path_law, tables_add_up_law};
 
 /// What passes all tests is a least completion.

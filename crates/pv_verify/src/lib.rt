@@ -7,7 +7,7 @@
 //! made the pack. The crate stands on nothing that makes completions or tables.
 //!
 //! `verify` makes the tests in their order: bodies are read and compared with the document by
-//! pv_kept, tables are tested and added up by pv_closed.
+//! pv_compare, tables are tested and added up by pv_table_check.
 #![tactic(auto)]
 
 mod answers;

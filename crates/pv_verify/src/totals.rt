@@ -8,8 +8,8 @@ ghost use Rattle.pv_verify.specs.Tests.{HasTotals};
 
 use pv_cert::Pack;
 use pv_chars::NoMemory;
-use pv_closed::tables_add_up;
 use pv_dtd::Dtd;
+use pv_table_check::tables_add_up;
 use pv_tree::Doc;
 use std::alloc::Global;
 

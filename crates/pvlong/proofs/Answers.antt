@@ -1,16 +1,16 @@
 -- What a request comes to, as the devices show it.
 use Rattle.std.proofs.Common.{◌≡◌, ℕ, ◌+◌, List, [], ◌∷◌, Option, Some, None, Result, Err, Ok, subst, sym, arith}
-use Rattle.pv_stages.specs.declared.opening.Fetched.{Fetched}
-use Rattle.pv_stages.specs.declared.response.Response.{Response}
-use Rattle.pv_stages.specs.declared.status.Status.{Status}
-use Rattle.pv_stages.specs.declared.stop.Stop.{Stop}
-use Rattle.pv_stages.specs.Course.{without_input}
-use Rattle.pv_stages.specs.Devices.{OutputNow, ShelfNow}
-use Rattle.pv_stages.specs.Documents.{document_stage}
-use Rattle.pv_stages.specs.Opening.{AreFiles, fetching_stage, opening_stage}
-use Rattle.pv_stages.specs.Returns.{ReturnsOver, TakesCourse, ending_of, plain_fetched}
-use Rattle.pv_stages.specs.Showing.{CountsShelf, WritesEnding}
-use Rattle.pv_stages.proofs.Stages.{behind_second, finds_goes, finds_stays, stays_from, stop_counts, stop_ends, stopped_first}
+use Rattle.pv_opening.specs.declared.opening.Fetched.{Fetched}
+use Rattle.pv_opening.specs.declared.response.Response.{Response}
+use Rattle.pv_opening.specs.declared.status.Status.{Status}
+use Rattle.pv_opening.specs.declared.stop.Stop.{Stop}
+use Rattle.pv_opening.specs.Course.{without_input}
+use Rattle.pv_opening.specs.Devices.{OutputNow, ShelfNow}
+use Rattle.pv_opening.specs.Documents.{document_stage}
+use Rattle.pv_opening.specs.Opening.{AreFiles, fetching_stage, opening_stage}
+use Rattle.pv_opening.specs.Returns.{ReturnsOver, TakesCourse, ending_of, plain_fetched}
+use Rattle.pv_opening.specs.Showing.{CountsShelf, WritesEnding}
+use Rattle.pv_opening.proofs.Stages.{behind_second, finds_goes, finds_stays, stays_from, stop_counts, stop_ends, stopped_first}
 use Rattle.pvlong.specs.Answering.{AnswersWords, FindsAnswer, AnswersFetched, IsAnswerTo, IsToldOf}
 use Rattle.pvlong.specs.Requests.{PlainRequest, request, request_of}
 use Rattle.pvlong.specs.declared.requests.Question.{Question}

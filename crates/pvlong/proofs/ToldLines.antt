@@ -4,9 +4,9 @@ use Rattle.pv_dtd.specs.Plain.{PlainDtd}
 use Rattle.pv_long.specs.Told.{IsCompletion, IsExact, IsWithinBounds}
 use Rattle.pv_long.specs.declared.answers.Completion.{Completion}
 use Rattle.pv_missing.specs.Completing.{HasCompletion}
-use Rattle.pv_stages.specs.Response.{PlainResponse, plain_response, with_line}
-use Rattle.pv_stages.specs.declared.response.Response.{Response}
-use Rattle.pv_stages.specs.declared.status.Status.TheVariants.{Done, Negative}
+use Rattle.pv_opening.specs.Response.{PlainResponse, plain_response, with_line}
+use Rattle.pv_opening.specs.declared.response.Response.{Response}
+use Rattle.pv_opening.specs.declared.status.Status.TheVariants.{Done, Negative}
 use Rattle.pv_tree.specs.Plain.{PlainDoc}
 use Rattle.pv_tree.specs.View.{view}
 use Rattle.pv_tree.specs.declared.nodes.Mark.{Mark}

@@ -1,18 +1,18 @@
 -- What words are answered, over files and devices.
 use Rattle.std.specs.Prelude.{◌≡◌, ℕ, List, codes, Option, Some, None, Result}
 use Rattle.pv_dtd.specs.Plain.{PlainDtd}
-use Rattle.pv_stages.specs.Course.{Course, without_input}
-use Rattle.pv_stages.specs.Devices.{OutputNow, ShelfNow, shelf_at}
-use Rattle.pv_stages.specs.Documents.{PlainOpened, document_stage}
-use Rattle.pv_stages.specs.Opening.{AreFiles, Files, opening_stage}
-use Rattle.pv_stages.specs.Response.{with_line}
-use Rattle.pv_stages.specs.Returns.{ending_of}
-use Rattle.pv_stages.specs.Showing.{ShowsShelf, WritesEnding}
-use Rattle.pv_stages.specs.Stage.{Behind, Responds}
-use Rattle.pv_stages.specs.declared.response.Response.{Response}
-use Rattle.pv_stages.specs.declared.status.Status.{Status}
-use Rattle.pv_stages.specs.declared.status.Status.TheVariants.{Usage}
-use Rattle.pv_stages.specs.declared.stop.Stop.{Stop}
+use Rattle.pv_opening.specs.Course.{Course, without_input}
+use Rattle.pv_opening.specs.Devices.{OutputNow, ShelfNow, shelf_at}
+use Rattle.pv_opening.specs.Documents.{PlainOpened, document_stage}
+use Rattle.pv_opening.specs.Opening.{AreFiles, Files, opening_stage}
+use Rattle.pv_opening.specs.Response.{with_line}
+use Rattle.pv_opening.specs.Returns.{ending_of}
+use Rattle.pv_opening.specs.Showing.{ShowsShelf, WritesEnding}
+use Rattle.pv_opening.specs.Stage.{Behind, Responds}
+use Rattle.pv_opening.specs.declared.response.Response.{Response}
+use Rattle.pv_opening.specs.declared.status.Status.{Status}
+use Rattle.pv_opening.specs.declared.status.Status.TheVariants.{Usage}
+use Rattle.pv_opening.specs.declared.stop.Stop.{Stop}
 use Rattle.pvlong.specs.Requests.{PlainRequest, files_asked, request, request_of}
 use Rattle.pvlong.specs.Telling.{TellsFor}
 use Rattle.pvlong.specs.declared.requests.Question.{Question}

@@ -9,8 +9,8 @@ use Rattle.pv_missing.specs.Widths.{IsFirstTooWide}
 use Rattle.pv_fresh.specs.Answers.{IsImpossibleAt}
 use Rattle.pv_long.specs.Told.{AreMissing, IsCompletionText}
 use Rattle.pv_words.specs.Paths.{path_text}
-use Rattle.pv_stages.specs.declared.status.Status.TheVariants.{Done, Limit, Negative}
-use Rattle.pv_stages.specs.Response.{PlainResponse, with_line}
+use Rattle.pv_opening.specs.declared.status.Status.TheVariants.{Done, Limit, Negative}
+use Rattle.pv_opening.specs.Response.{PlainResponse, with_line}
 use Rattle.pvlong.specs.declared.requests.Question.{Question}
 use Rattle.pvlong.specs.declared.requests.Question.TheVariants.{Complete, Need}
 

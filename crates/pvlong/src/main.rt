@@ -2,7 +2,7 @@
 //! `pvlong` answers, whatever the devices are. It tells how many elements are missing in a
 //! document, also where a list is too wide to weigh, and prints a completed document
 //! (`specs/Telling.antt`): by two bounds, which mostly meet (of `pv_long`). By its words it opens
-//! the files in the order of work (of `pv_stages`); `specs/Answering.antt` says what comes of them.
+//! the files in the order of work (of `pv_opening`); `specs/Answering.antt` says what comes of them.
 #![tactic(auto)]
 
 mod answering;
@@ -13,13 +13,13 @@ mod telling;
 ghost use Rattle.std.specs.Prelude.{◌≡◌, true};
 ghost use Rattle.std.specs.Process.{exit_status};
 ghost use Rattle.pv_io.specs.Files.{byte_lists, fetch_names};
-ghost use Rattle.pv_stages.specs.Devices.{output_at};
-ghost use Rattle.pv_stages.specs.Status.{code_of};
+ghost use Rattle.pv_opening.specs.Devices.{output_at};
+ghost use Rattle.pv_opening.specs.Status.{code_of};
 ghost use Rattle.pvlong.specs.Answering.{AnswersHere, AnswersWords};
 
 use crate::program::pvlong;
 use pv_io::{FolderShelf, Shelf, Sink, WriteSink};
-use pv_stages::Status;
+use pv_opening::Status;
 use std::alloc::Global;
 use std::process::ExitCode;
 use std::rt::{Env, Files};

@@ -2,17 +2,17 @@
 
 ghost use Rattle.std.specs.Prelude.{[], codes, true, ◌≡◌};
 ghost use Rattle.pv_io.specs.Files.{byte_lists, fetch_names};
-ghost use Rattle.pv_stages.specs.Devices.{output_at};
-ghost use Rattle.pv_stages.specs.Response.{with_line};
-ghost use Rattle.pv_stages.specs.Returns.{TellsBy};
-ghost use Rattle.pv_stages.specs.declared.status.Status.TheVariants.{Usage};
+ghost use Rattle.pv_opening.specs.Devices.{output_at};
+ghost use Rattle.pv_opening.specs.Response.{with_line};
+ghost use Rattle.pv_opening.specs.Returns.{TellsBy};
+ghost use Rattle.pv_opening.specs.declared.status.Status.TheVariants.{Usage};
 ghost use Rattle.pvlong.specs.Answering.{AnswersWords};
 ghost use Rattle.pvlong.specs.Requests.{files_asked, request_of};
 
 use crate::answering::answer;
 use crate::requests::request_of;
 use pv_io::{Shelf, Sink};
-use pv_stages::{Response, Status, Stop, respond};
+use pv_opening::{Response, Status, Stop, respond};
 use std::alloc::Global;
 
 fn usage(alloc: Global) -> Result<Response, Stop>

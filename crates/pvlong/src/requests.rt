@@ -7,7 +7,7 @@ ghost use Rattle.pv_io.specs.Files.{byte_lists, fetch_names};
 ghost use Rattle.pvlong.specs.Requests.{files_asked, plain_request, question_of, request_of};
 
 use pv_chars::is_name;
-use pv_stages::Named;
+use pv_opening::Named;
 
 /// What is asked of a document.
 #[derive(Clone, Copy, Debug, PartialEq, Eq)]

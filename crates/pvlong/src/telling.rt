@@ -5,15 +5,15 @@ ghost use Rattle.pv_dtd.specs.Plain.{PlainDtd};
 ghost use Rattle.pv_tree.specs.Plain.{PlainDoc};
 ghost use Rattle.pv_tree.specs.declared.nodes.Mark.{Mark};
 ghost use Rattle.pv_long.specs.Told.{IsMissing, TellsNone};
-ghost use Rattle.pv_stages.specs.Response.{plain_response, with_line};
-ghost use Rattle.pv_stages.specs.Returns.{RefusesWith};
-ghost use Rattle.pv_stages.specs.declared.status.Status.TheVariants.{Done};
+ghost use Rattle.pv_opening.specs.Response.{plain_response, with_line};
+ghost use Rattle.pv_opening.specs.Returns.{RefusesWith};
+ghost use Rattle.pv_opening.specs.declared.status.Status.TheVariants.{Done};
 ghost use Rattle.pvlong.specs.Telling.{TellsDocument, TellsFor, TellsNothing, TellsNumber};
 ghost use Rattle.pvlong.specs.Telling.{bounds_text};
 
 use crate::requests::Question;
 use pv_long::{Completion, LongError, Missing};
-use pv_stages::{Response, Status, Stop, refuse, refuse_path};
+use pv_opening::{Response, Status, Stop, refuse, refuse_path};
 use pv_words::push_number;
 use std::alloc::{AllocError, Global};
 

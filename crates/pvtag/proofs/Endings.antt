@@ -1,10 +1,10 @@
 -- A run, apart from what its input is.
 use Rattle.std.proofs.Common.{ℕ, List, Option, Some, None, refl}
 use Rattle.pv_cli.specs.CommandLine.{PlainCommandLine}
-use Rattle.pv_stages.specs.Devices.{Devices, InputNow}
+use Rattle.pv_opening.specs.Devices.{Devices, InputNow}
 use Rattle.pv_cli.specs.Program.{Runs}
-use Rattle.pv_stages.specs.Showing.{TakesInput}
-use Rattle.pv_stages.specs.declared.status.Status.{Status}
+use Rattle.pv_opening.specs.Showing.{TakesInput}
+use Rattle.pv_opening.specs.declared.status.Status.{Status}
 use Rattle.pvtag.specs.Here.{all_told_of, told_of}
 
 taken_so : {S : Type 0} (taken : Option (List ℕ)) (before after : InputNow S) → TakesInput taken before after → TakesInput taken (told_of before) (told_of after)

@@ -2,9 +2,9 @@
 use Rattle.std.specs.Prelude.{◌≡◌, Option, None}
 use Rattle.pv_io.specs.Causes.{never_asked}
 use Rattle.pv_cli.specs.CommandLine.{PlainCommandLine}
-use Rattle.pv_stages.specs.Devices.{Devices, InputNow, devices, input_at, shelf_at}
+use Rattle.pv_opening.specs.Devices.{Devices, InputNow, devices, input_at, shelf_at}
 use Rattle.pv_cli.specs.Program.{Runs}
-use Rattle.pv_stages.specs.declared.status.Status.{Status}
+use Rattle.pv_opening.specs.declared.status.Status.{Status}
 
 -- an input, apart from what it is
 abbrev pub told_of : {S : Type 0} → InputNow S → InputNow (Unit {0})

@@ -5,9 +5,9 @@
 ghost use Rattle.std.specs.Prelude.{◌≡◌, ◌<◌, true};
 ghost use Rattle.std.specs.Process.{exit_status};
 ghost use Rattle.pv_cli.specs.CommandLine.{command_line_of};
-ghost use Rattle.pv_stages.specs.Devices.{devices, input_at, output_at};
+ghost use Rattle.pv_opening.specs.Devices.{devices, input_at, output_at};
 ghost use Rattle.pv_cli.specs.Program.{Runs};
-ghost use Rattle.pv_stages.specs.Status.{code_of};
+ghost use Rattle.pv_opening.specs.Status.{code_of};
 ghost use Rattle.pv_io.specs.Files.{byte_lists, fetch_names};
 ghost use Rattle.pvtag.specs.Here.{RunsHere};
 

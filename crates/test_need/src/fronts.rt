@@ -1,9 +1,9 @@
 //! Columns of a grammar, fronts over a word of them, whether they are closed, and their bounds.
 
 use crate::calls::grammar_of;
+use pv_bounds::laws::below_sites_law;
+use pv_bounds::{Fronts, Reach, Row, are_closed, bound};
 use pv_chars::NoMemory;
-use pv_fronts::laws::below_sites_law;
-use pv_fronts::{Fronts, Reach, Row, are_closed, bound};
 use pv_model::{NameId, Token};
 use pv_rules::Site;
 use pv_span::laws::columns_derive_law;

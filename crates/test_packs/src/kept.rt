@@ -1,7 +1,7 @@
 //! Documents without the tags of marked elements.
 
+use pv_compare::{are_marks, is_kept, read_body};
 use pv_flat::MAX_FLAT_BYTES;
-use pv_kept::{are_marks, is_kept, read_body};
 use pv_read::read_doc;
 use std::alloc::Global;
 use std::test::Fail;

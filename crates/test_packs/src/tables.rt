@@ -1,9 +1,9 @@
 //! Tables of packs, tested against documents.
 
 use pv_cert::read_pack;
-use pv_closed::{first_wide_table, tables_add_up, tables_closed};
 use pv_dtd::{Dtd, read_dtd};
 use pv_read::read_doc;
+use pv_table_check::{first_wide_table, tables_add_up, tables_closed};
 use pv_tables::Tables;
 use pv_tree::Doc;
 use std::alloc::{AllocError, Global};

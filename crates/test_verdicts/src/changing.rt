@@ -3,16 +3,16 @@
 ghost use Rattle.std.specs.Prelude.{◌≡◌, ◌≤◌, IfOk, length, map};
 ghost use Rattle.std.specs.List.{splice};
 ghost use Rattle.std.specs.Option.{option_map};
-ghost use Rattle.pv_course.specs.Changes.{word_before};
+ghost use Rattle.pv_rematch.specs.Changes.{word_before};
 ghost use Rattle.pv_missing.specs.PlainForms.{plain_of};
 ghost use Rattle.pv_model.specs.PlainForms.{plain_token};
 ghost use Rattle.pv_productive.specs.PlainForms.{dtd_of};
 ghost use Rattle.pv_verdicts.specs.Judged.{IsJudged};
 
-use pv_course::WordChange;
 use pv_missing::Of;
 use pv_model::Token;
 use pv_reach::{Judge, word_verdict};
+use pv_rematch::WordChange;
 use pv_steps::Steps;
 use pv_tree::Verdict;
 use pv_verdicts::Judged;

@@ -4,9 +4,9 @@ ghost use Rattle.std.specs.Prelude.{IfOk};
 ghost use Rattle.pv_productive.specs.PlainForms.{dtd_of};
 ghost use Rattle.pv_verdicts.specs.Last.{IsLast};
 
-use pv_course::WordChange;
 use pv_missing::Of;
 use pv_reach::{Judge, word_verdict};
+use pv_rematch::WordChange;
 use pv_steps::Steps;
 use pv_verdicts::LastWord;
 use std::sync::ledger::Ledger;

@@ -3,11 +3,11 @@
 ghost use Rattle.std.specs.Prelude.{◌≡◌, ◌<◌};
 
 use crate::changing::{make_change, spliced};
-use pv_course::WordChange;
 use pv_missing::Of;
 use pv_model::{NameId, Token};
 use pv_productive::build;
 use pv_reach::{Judge, Plan};
+use pv_rematch::WordChange;
 use pv_steps::Steps;
 use pv_tree::Verdict;
 use pv_verdicts::Judged;

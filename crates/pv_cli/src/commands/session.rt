@@ -1,15 +1,15 @@
 //! The command `session`.
 
 ghost use Rattle.std.specs.Prelude.{◌≡◌, true};
-ghost use Rattle.pv_stages.specs.Devices.{input_at, output_at};
+ghost use Rattle.pv_opening.specs.Devices.{input_at, output_at};
 ghost use Rattle.pv_cli.specs.Returns.{DoesRest, session_stage};
-ghost use Rattle.pv_stages.specs.Judging.{CountsOpening, judging_stage, lists_judged};
-ghost use Rattle.pv_stages.specs.Returns.{Returns, plain_fetched};
+ghost use Rattle.pv_opening.specs.Judging.{CountsOpening, judging_stage, lists_judged};
+ghost use Rattle.pv_opening.specs.Returns.{Returns, plain_fetched};
 ghost use Rattle.pv_cli.specs.declared.verb.Verb.TheVariants.{Session as session_verb};
 
 use pv_conversation::{OpenedSession, begin, converse};
 use pv_io::{Sink, Source};
-use pv_stages::{Fetched, Status, Stop, open_document, respond};
+use pv_opening::{Fetched, Status, Stop, open_document, respond};
 use pv_steps::Steps;
 use std::alloc::Global;
 use std::mem::forget;

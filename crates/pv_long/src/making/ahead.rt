@@ -1,7 +1,7 @@
 //! How far columns reach from places further on.
 
+use pv_bounds::{Reach, Row};
 use pv_chars::NoMemory;
-use pv_fronts::{Reach, Row};
 use std::alloc::Global;
 
 /// A place from which a column reaches so far.

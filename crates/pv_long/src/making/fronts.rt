@@ -1,7 +1,7 @@
 //! The front of a column at a place: reaches of which none is as cheap as another and as far.
 
+use pv_bounds::Reach;
 use pv_chars::NoMemory;
-use pv_fronts::Reach;
 
 /// Whether a front has a reach that is as cheap, and as far.
 pub fn covers(front: &[Reach], cost: u32, end: u32) -> bool {

@@ -1,8 +1,8 @@
 //! The fronts of the place at hand.
 
 use crate::making::fronts::{covers, has, put, shorten};
+use pv_bounds::Reach;
 use pv_chars::NoMemory;
-use pv_fronts::Reach;
 use pv_rules::HEAVIEST;
 use std::alloc::Global;
 

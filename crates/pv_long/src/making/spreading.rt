@@ -5,8 +5,8 @@ use crate::making::empties::{cost_at, sum_of};
 use crate::making::fronts::covers;
 use crate::making::here::{Here, KINDS, Step};
 use crate::making::plan::Plan;
+use pv_bounds::Reach;
 use pv_chars::NoMemory;
-use pv_fronts::Reach;
 use pv_span::Form;
 
 /// How far places are tried one by one.

@@ -1,5 +1,5 @@
 use Rattle.std.proofs.Common.{None, ap}
-use Rattle.pv_stages.specs.Devices.{shelf_at}
+use Rattle.pv_opening.specs.Devices.{shelf_at}
 use Rattle.pvlong.proofs.run_here.Goals as goal
 
 pub returns : goal.returns

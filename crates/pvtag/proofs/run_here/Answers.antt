@@ -1,5 +1,5 @@
 use Rattle.std.proofs.Common.{None, ap}
-use Rattle.pv_stages.specs.Devices.{shelf_at}
+use Rattle.pv_opening.specs.Devices.{shelf_at}
 use Rattle.pvtag.specs.Here.{all_told_of}
 use Rattle.pvtag.proofs.Endings.{runs_so}
 use Rattle.pvtag.proofs.run_here.Goals as goal

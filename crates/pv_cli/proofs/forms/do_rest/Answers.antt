@@ -1,5 +1,5 @@
 use Rattle.std.proofs.Common.{refl}
-use Rattle.pv_stages.specs.Returns.{plain_fetched}
+use Rattle.pv_opening.specs.Returns.{plain_fetched}
 use Rattle.pv_cli.specs.declared.verb.Verb.TheVariants.{Valid, Check, Complete, Why}
 use Rattle.pv_cli.proofs.Runs.{found_rest}
 use Rattle.pv_cli.proofs.forms.do_rest.Goals as goal

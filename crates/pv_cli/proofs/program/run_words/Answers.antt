@@ -2,10 +2,10 @@ use Rattle.std.proofs.Common.{◌≡◌, ℕ, List, [], ◌∷◌, refl, sym, So
 use Rattle.pv_io.specs.Files.{byte_lists}
 use Rattle.pv_cli.specs.CommandLine.{command_line_of, drill, on_certificate, on_document, on_dtd}
 use Rattle.pv_cli.specs.CommandLine.{on_ranges}
-use Rattle.pv_stages.specs.Response.{PlainResponse, with_line}
-use Rattle.pv_stages.specs.declared.status.Status.TheVariants.{Usage}
+use Rattle.pv_opening.specs.Response.{PlainResponse, with_line}
+use Rattle.pv_opening.specs.declared.status.Status.TheVariants.{Usage}
 use Rattle.pv_cli.proofs.Runs.{found_alone, found_runs}
-use Rattle.pv_stages.proofs.Stages.{tells_found}
+use Rattle.pv_opening.proofs.Stages.{tells_found}
 use Rattle.pv_cli.proofs.program.run_words.Goals as goal
 
 pub returns-in-Some-OnDocument-clause-runs : goal.returns-in-Some-OnDocument-clause-runs

@@ -8,12 +8,12 @@ use Rattle.pv_tree.specs.Marks.{blank_mark}
 use Rattle.pv_read.proofs.Agreement.{spelled_where_meant}
 use Rattle.pv_check.specs.Answers.{Tells}
 use Rattle.pv_commands.specs.Check.{IsCheckCourse}
-use Rattle.pv_stages.specs.Documents.{PlainOpened, document_stage}
-use Rattle.pv_stages.specs.Judging.{judges_none, without_memory}
-use Rattle.pv_stages.specs.Stage.{short_of_memory}
-use Rattle.pv_stages.specs.declared.stop.Stop.TheVariants.{NoMemory}
+use Rattle.pv_opening.specs.Documents.{PlainOpened, document_stage}
+use Rattle.pv_opening.specs.Judging.{judges_none, without_memory}
+use Rattle.pv_opening.specs.Stage.{short_of_memory}
+use Rattle.pv_opening.specs.declared.stop.Stop.TheVariants.{NoMemory}
 use Rattle.pv_commands.proofs.Counting.{judged_document}
-use Rattle.pv_stages.proofs.Stages.{found_behind}
+use Rattle.pv_opening.proofs.Stages.{found_behind}
 use Rattle.pv_commands.proofs.check.check.Goals as goal
 
 pub returns-in_err-grammar-clause-finds : goal.returns-in_err-grammar-clause-finds

@@ -8,10 +8,10 @@ use Rattle.pv_tree.specs.Lists.{lists_of}
 use Rattle.pv_tree.specs.Plain.{PlainDoc}
 use Rattle.pv_tree.specs.declared.nodes.Mark.{Mark}
 use Rattle.pv_commands.specs.Check.{TellsPossibility, is_no_more, is_possible, possible_text}
-use Rattle.pv_stages.specs.Possibility.{AreVerdictsOf, is_impossible}
-use Rattle.pv_stages.specs.Response.{PlainResponse, plain_response, with_line}
-use Rattle.pv_stages.specs.declared.response.Response.{Response}
-use Rattle.pv_stages.specs.declared.status.Status.TheVariants.{Done, Negative}
+use Rattle.pv_opening.specs.Possibility.{AreVerdictsOf, is_impossible}
+use Rattle.pv_opening.specs.Response.{PlainResponse, plain_response, with_line}
+use Rattle.pv_opening.specs.declared.response.Response.{Response}
+use Rattle.pv_opening.specs.declared.status.Status.TheVariants.{Done, Negative}
 use Rattle.pv_commands.proofs.check.check_line.Goals as goal
 
 module _ (root : List ℕ) (g : PlainDtd) (doc : PlainDoc Mark) (vs : PlainVerdicts)

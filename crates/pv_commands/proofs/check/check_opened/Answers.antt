@@ -2,13 +2,13 @@ use Rattle.std.proofs.Common.{refl}
 use Rattle.pv_productive.specs.PlainForms.{dtd_of}
 use Rattle.pv_tree.specs.PlainDocs.{plain_doc}
 use Rattle.pv_commands.specs.Check.{IsCheckCourse}
-use Rattle.pv_stages.specs.Documents.{OpensDocument, PlainOpened, RefusesDocument, document_stage}
-use Rattle.pv_stages.specs.Judging.{CountsNoMore, lists_judged}
-use Rattle.pv_stages.specs.Possibility.{width_stage}
-use Rattle.pv_stages.specs.Stage.{beside}
+use Rattle.pv_opening.specs.Documents.{OpensDocument, PlainOpened, RefusesDocument, document_stage}
+use Rattle.pv_opening.specs.Judging.{CountsNoMore, lists_judged}
+use Rattle.pv_opening.specs.Possibility.{width_stage}
+use Rattle.pv_opening.specs.Stage.{beside}
 use Rattle.pv_commands.proofs.Counting.{judged_document}
-use Rattle.pv_stages.proofs.JudgedLists.{stops_first}
-use Rattle.pv_stages.proofs.Stages.{found_behind, refusal_stops, stop_found}
+use Rattle.pv_opening.proofs.JudgedLists.{stops_first}
+use Rattle.pv_opening.proofs.Stages.{found_behind, refusal_stops, stop_found}
 use Rattle.pv_commands.proofs.check.check_opened.Goals as goal
 
 pub returns-in-Ok-clause-finds : goal.returns-in-Ok-clause-finds

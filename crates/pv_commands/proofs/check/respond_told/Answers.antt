@@ -2,16 +2,16 @@ use Rattle.std.proofs.Common.{◌≡◌, ◌++◌, codes, refl, Result, Err, Ok}
 use Rattle.std.proofs.lemmas.Result.{err_from_is_err_and}
 use Rattle.pv_words.specs.Paths.{path_text}
 use Rattle.pv_commands.specs.Check.{TellsPossibility, is_no_more, is_possible}
-use Rattle.pv_stages.specs.Judging.{judges_all, judges_none}
-use Rattle.pv_stages.specs.Possibility.{AreAllNarrow, RefusesWidth, is_impossible, is_too_wide, width_stage}
-use Rattle.pv_stages.specs.Response.{plain_response, with_line}
-use Rattle.pv_stages.specs.Returns.{RefusesWith}
-use Rattle.pv_stages.specs.Stage.{Responds, short_of_memory}
-use Rattle.pv_stages.specs.declared.response.Response.{Response}
-use Rattle.pv_stages.specs.declared.status.Status.TheVariants.{Limit, Negative}
-use Rattle.pv_stages.specs.declared.stop.Stop.{Stop}
-use Rattle.pv_stages.proofs.JudgedLists.{stops_within}
-use Rattle.pv_stages.proofs.Stages.{found_behind, refusal_stops, stop_found, stops_as, tells_found}
+use Rattle.pv_opening.specs.Judging.{judges_all, judges_none}
+use Rattle.pv_opening.specs.Possibility.{AreAllNarrow, RefusesWidth, is_impossible, is_too_wide, width_stage}
+use Rattle.pv_opening.specs.Response.{plain_response, with_line}
+use Rattle.pv_opening.specs.Returns.{RefusesWith}
+use Rattle.pv_opening.specs.Stage.{Responds, short_of_memory}
+use Rattle.pv_opening.specs.declared.response.Response.{Response}
+use Rattle.pv_opening.specs.declared.status.Status.TheVariants.{Limit, Negative}
+use Rattle.pv_opening.specs.declared.stop.Stop.{Stop}
+use Rattle.pv_opening.proofs.JudgedLists.{stops_within}
+use Rattle.pv_opening.proofs.Stages.{found_behind, refusal_stops, stop_found, stops_as, tells_found}
 use Rattle.pv_commands.proofs.check.respond_told.Goals as goal
 
 pub returns-in_ok-possible-in-Possible-clause-tells :

@@ -6,14 +6,14 @@ use Rattle.pv_tree.specs.Plain.{PlainDoc}
 use Rattle.pv_tree.specs.PlainDocs.{plain_doc}
 use Rattle.pv_tree.specs.declared.nodes.Mark.{Mark}
 use Rattle.pv_commands.specs.Check.{TellsPossibility}
-use Rattle.pv_stages.specs.Judging.{judges_all, judges_none}
-use Rattle.pv_stages.specs.Possibility.{width_stage}
-use Rattle.pv_stages.specs.Returns.{TakesCourse}
-use Rattle.pv_stages.specs.Stage.{Behind, Responds, short_of_memory}
-use Rattle.pv_stages.specs.declared.response.Response.{Response}
-use Rattle.pv_stages.specs.declared.stop.Stop.{Stop}
-use Rattle.pv_stages.proofs.JudgedLists.{stops_within}
-use Rattle.pv_stages.proofs.Stages.{found_behind, stop_found, tells_found}
+use Rattle.pv_opening.specs.Judging.{judges_all, judges_none}
+use Rattle.pv_opening.specs.Possibility.{width_stage}
+use Rattle.pv_opening.specs.Returns.{TakesCourse}
+use Rattle.pv_opening.specs.Stage.{Behind, Responds, short_of_memory}
+use Rattle.pv_opening.specs.declared.response.Response.{Response}
+use Rattle.pv_opening.specs.declared.stop.Stop.{Stop}
+use Rattle.pv_opening.proofs.JudgedLists.{stops_within}
+use Rattle.pv_opening.proofs.Stages.{found_behind, stop_found, tells_found}
 use Rattle.pv_commands.proofs.check.tell.Goals as goal
 
 abbrev Checks : List ℕ → PlainDtd → PlainDoc Mark → Result Response Stop → Type 0

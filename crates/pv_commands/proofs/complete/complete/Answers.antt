@@ -3,11 +3,11 @@ use Rattle.std.proofs.lemmas.Grind.{common_steps}
 use Rattle.std.proofs.lemmas.Result.{err_from_is_err_and}
 use Rattle.pv_dtd.specs.PlainForms.{plain_dtd}
 use Rattle.pv_commands.specs.Complete.{IsCompleteCourse}
-use Rattle.pv_stages.specs.Documents.{document_stage}
-use Rattle.pv_stages.specs.Returns.{plain_opened}
-use Rattle.pv_stages.specs.Stage.{short_of_memory}
-use Rattle.pv_stages.specs.declared.stop.Stop.TheVariants.{NoMemory}
-use Rattle.pv_stages.proofs.Stages.{found_behind, stop_found}
+use Rattle.pv_opening.specs.Documents.{document_stage}
+use Rattle.pv_opening.specs.Returns.{plain_opened}
+use Rattle.pv_opening.specs.Stage.{short_of_memory}
+use Rattle.pv_opening.specs.declared.stop.Stop.TheVariants.{NoMemory}
+use Rattle.pv_opening.proofs.Stages.{found_behind, stop_found}
 use Rattle.pv_commands.proofs.complete.complete.Goals as goal
 
 pub tell-response-requires : goal.tell-response-requires

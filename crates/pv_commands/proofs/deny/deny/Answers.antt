@@ -3,8 +3,8 @@ use Rattle.std.proofs.lemmas.Result.{err_from_is_err_and}
 use Rattle.pv_denial.specs.declared.denials.Denial.{Denial}
 use Rattle.pv_commands.specs.DenialFiles.{denial_file_stage}
 use Rattle.pv_commands.specs.Deny.{IsDenyCourse, TellsJudgement}
-use Rattle.pv_stages.specs.Documents.{PlainOpened}
-use Rattle.pv_stages.specs.Response.{PlainResponse}
+use Rattle.pv_opening.specs.Documents.{PlainOpened}
+use Rattle.pv_opening.specs.Response.{PlainResponse}
 use Rattle.pv_commands.proofs.Certificates.{certificate_stopped, certificate_told, opening_stopped}
 use Rattle.pv_commands.proofs.deny.deny.Goals as goal
 

@@ -8,9 +8,9 @@ use Rattle.pv_tree.specs.Plain.{PlainDoc}
 use Rattle.pv_tree.specs.PlainDocs.{plain_doc}
 use Rattle.pv_tree.specs.declared.nodes.Mark.{Mark}
 use Rattle.pv_commands.specs.Deny.{TellsJudgement, is_denied, is_rejected, is_too_wide}
-use Rattle.pv_stages.specs.Response.{PlainResponse, with_line}
-use Rattle.pv_stages.specs.declared.status.Status.TheVariants.{Done, Limit, Negative}
-use Rattle.pv_stages.proofs.Stages.{stops_as}
+use Rattle.pv_opening.specs.Response.{PlainResponse, with_line}
+use Rattle.pv_opening.specs.declared.status.Status.TheVariants.{Done, Limit, Negative}
+use Rattle.pv_opening.proofs.Stages.{stops_as}
 use Rattle.pv_commands.proofs.deny.tell.Goals as goal
 
 -- the same, of the DTD that was read

@@ -3,10 +3,10 @@ use Rattle.pv_standoff.specs.Nested.{NestMeans}
 use Rattle.pv_standoff.specs.declared.errors.NestError.{NestError}
 use Rattle.pv_standoff.specs.declared.errors.NestError.TheVariants.{NoMemory}
 use Rattle.pv_standoff.specs.declared.ranges.Range.{Range}
-use Rattle.pv_stages.specs.Returns.{RefusesWith, StopsBy}
+use Rattle.pv_opening.specs.Returns.{RefusesWith, StopsBy}
 use Rattle.pv_commands.specs.Standoff.{IsNestRefusal, RefusesNesting, nesting_stage, no_document}
-use Rattle.pv_stages.specs.declared.stop.Stop.{Stop}
-use Rattle.pv_stages.proofs.Stages.{refusal_stops, stops_as}
+use Rattle.pv_opening.specs.declared.stop.Stop.{Stop}
+use Rattle.pv_opening.proofs.Stages.{refusal_stops, stops_as}
 use Rattle.pv_commands.proofs.standoff.nest_ranges.Goals as goal
 
 -- a stop with the response where no document stands for them

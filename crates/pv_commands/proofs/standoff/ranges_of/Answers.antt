@@ -2,10 +2,10 @@ use Rattle.std.proofs.Common.{◌≡◌, ◌⊎◌, inl, inr, ℕ, List, Ok, Err
 use Rattle.pv_standoff.specs.Lines.{RangesMean}
 use Rattle.pv_standoff.specs.declared.errors.RangesError.{RangesError}
 use Rattle.pv_standoff.specs.declared.errors.RangesError.TheVariants.{NoMemory}
-use Rattle.pv_stages.specs.Returns.{RefusesWith, StopsBy}
+use Rattle.pv_opening.specs.Returns.{RefusesWith, StopsBy}
 use Rattle.pv_commands.specs.Standoff.{IsRangesRefusal, RefusesRanges, no_ranges, ranges_stage}
-use Rattle.pv_stages.specs.declared.stop.Stop.{Stop}
-use Rattle.pv_stages.proofs.Stages.{refusal_stops, stops_as}
+use Rattle.pv_opening.specs.declared.stop.Stop.{Stop}
+use Rattle.pv_opening.proofs.Stages.{refusal_stops, stops_as}
 use Rattle.pv_commands.proofs.standoff.ranges_of.Goals as goal
 
 -- a stop with the response to the first line that is none

@@ -5,14 +5,14 @@ use Rattle.pv_dtd.specs.PlainForms.{plain_dtd}
 use Rattle.pv_tree.specs.Plain.{PlainDoc}
 use Rattle.pv_tree.specs.PlainDocs.{plain_doc}
 use Rattle.pv_tree.specs.declared.nodes.Mark.{Mark}
-use Rattle.pv_stages.specs.Course.{Course}
-use Rattle.pv_stages.specs.Judging.{CountsNoMore, judges_none, without_memory}
-use Rattle.pv_stages.specs.Possibility.{width_stage}
-use Rattle.pv_stages.specs.Stage.{beside, short_of_memory}
+use Rattle.pv_opening.specs.Course.{Course}
+use Rattle.pv_opening.specs.Judging.{CountsNoMore, judges_none, without_memory}
+use Rattle.pv_opening.specs.Possibility.{width_stage}
+use Rattle.pv_opening.specs.Stage.{beside, short_of_memory}
 use Rattle.pv_commands.specs.Standoff.{IsShownCourse, nested_lists, nesting_stage}
 use Rattle.pv_commands.proofs.Annotations.{nested_counts}
-use Rattle.pv_stages.proofs.JudgedLists.{stops_first}
-use Rattle.pv_stages.proofs.Stages.{found_behind, stop_found, stopped_beside}
+use Rattle.pv_opening.proofs.JudgedLists.{stops_first}
+use Rattle.pv_opening.proofs.Stages.{found_behind, stop_found, stopped_beside}
 use Rattle.pv_commands.proofs.standoff.tell.Goals as goal
 
 abbrev Shows : List ℕ → PlainDtd × PlainDoc Mark → Course → Type 0

@@ -2,10 +2,10 @@ use Rattle.std.proofs.Common.{◌≡◌, ◌⊎◌, inl, inr, ℕ, List, Ok, Err
 use Rattle.pv_chars.specs.Units.{TextMeans}
 use Rattle.pv_chars.specs.declared.errors.TextError.{TextError}
 use Rattle.pv_chars.specs.declared.errors.TextError.TheVariants.{NoMemory}
-use Rattle.pv_stages.specs.Returns.{RefusesWith, StopsBy}
+use Rattle.pv_opening.specs.Returns.{RefusesWith, StopsBy}
 use Rattle.pv_commands.specs.Standoff.{IsTextRefusal, RefusesText, no_text, text_stage}
-use Rattle.pv_stages.specs.declared.stop.Stop.{Stop}
-use Rattle.pv_stages.proofs.Stages.{refusal_stops, stops_as}
+use Rattle.pv_opening.specs.declared.stop.Stop.{Stop}
+use Rattle.pv_opening.proofs.Stages.{refusal_stops, stops_as}
 use Rattle.pv_commands.proofs.standoff.text_of.Goals as goal
 
 -- a stop with the response to the text's first fault

@@ -2,13 +2,13 @@ use Rattle.std.proofs.Common.{◌++◌, codes, refl, ap, ◌∙◌}
 use Rattle.pv_tree.specs.Marks.{blank_mark}
 use Rattle.pv_read.proofs.Agreement.{spelled_where_meant}
 use Rattle.pv_dtd.specs.PlainForms.{plain_dtd}
-use Rattle.pv_stages.specs.Documents.{RefusesDocument}
-use Rattle.pv_stages.specs.Response.{with_line}
+use Rattle.pv_opening.specs.Documents.{RefusesDocument}
+use Rattle.pv_opening.specs.Response.{with_line}
 use Rattle.pv_commands.specs.Validity.{TellsValidityOf}
-use Rattle.pv_stages.proofs.Stages.{refusal_stops}
+use Rattle.pv_opening.proofs.Stages.{refusal_stops}
 use Rattle.pv_words.specs.Paths.{path_text}
 use Rattle.pv_commands.specs.Valid.{is_valid, is_invalid}
-use Rattle.pv_stages.specs.declared.status.Status.TheVariants.{Negative}
+use Rattle.pv_opening.specs.declared.status.Status.TheVariants.{Negative}
 use Rattle.pv_commands.proofs.valid.tell.Goals as goal
 
 pub returns-in-Err : goal.returns-in-Err

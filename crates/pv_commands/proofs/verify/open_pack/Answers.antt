@@ -2,10 +2,10 @@ use Rattle.std.proofs.Common.{ℕ, List, Option, Vec, Global, codes}
 use Rattle.std.proofs.lemmas.Result.{err_from_is_err_and}
 use Rattle.pv_cert.specs.Meaning.{MAX_PACK_BYTES}
 use Rattle.pv_cert.specs.declared.packs.Pack.{Pack}
-use Rattle.pv_stages.specs.Opening.{fetch_stage}
+use Rattle.pv_opening.specs.Opening.{fetch_stage}
 use Rattle.pv_commands.specs.PackFiles.{pack_stage}
-use Rattle.pv_stages.specs.Stage.{Stage}
-use Rattle.pv_stages.proofs.Fetching.{behind_over, reading_counts, stopped_over}
+use Rattle.pv_opening.specs.Stage.{Stage}
+use Rattle.pv_opening.proofs.Fetching.{behind_over, reading_counts, stopped_over}
 use Rattle.pv_commands.proofs.verify.open_pack.Goals as goal
 
 abbrev fetches : Option (List ℕ) → Stage (List ℕ)

@@ -1,11 +1,11 @@
 use Rattle.std.proofs.Common.{◌≡◌, ◌++◌, ℕ, List, codes, decimal, refl}
 use Rattle.pv_cert.specs.Meaning.{PackMeans, is_fault, is_pack, is_past_limit}
 use Rattle.pv_commands.specs.PackFiles.{RefusesPack, no_pack, pack_stage, too_large}
-use Rattle.pv_stages.specs.Response.{with_line}
-use Rattle.pv_stages.specs.Returns.{RefusesWith, StopsBy}
-use Rattle.pv_stages.specs.declared.status.Status.TheVariants.{BadPack, Limit}
-use Rattle.pv_stages.specs.declared.stop.Stop.{Stop}
-use Rattle.pv_stages.proofs.Stages.{refusal_stops, stops_as}
+use Rattle.pv_opening.specs.Response.{with_line}
+use Rattle.pv_opening.specs.Returns.{RefusesWith, StopsBy}
+use Rattle.pv_opening.specs.declared.status.Status.TheVariants.{BadPack, Limit}
+use Rattle.pv_opening.specs.declared.stop.Stop.{Stop}
+use Rattle.pv_opening.proofs.Stages.{refusal_stops, stops_as}
 use Rattle.pv_commands.proofs.verify.pack_of.Goals as goal
 
 stops : (bytes : List ℕ) (stop : Stop) → RefusesWith (RefusesPack bytes) stop →

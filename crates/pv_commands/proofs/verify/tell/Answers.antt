@@ -2,10 +2,10 @@ use Rattle.std.proofs.Common.{◌≡◌, ◌++◌, ◌∙◌, ap, codes, decimal
 use Rattle.pv_dtd.specs.PlainForms.{plain_dtd}
 use Rattle.pv_words.specs.Paths.{path_text}
 use Rattle.pv_tree.specs.PlainDocs.{plain_doc}
-use Rattle.pv_stages.specs.Response.{with_line}
+use Rattle.pv_opening.specs.Response.{with_line}
 use Rattle.pv_commands.specs.Verify.{TellsOfPack, is_accepted, is_rejected, names_wide}
-use Rattle.pv_stages.specs.declared.status.Status.TheVariants.{Done, Limit, Negative}
-use Rattle.pv_stages.proofs.Stages.{stops_as}
+use Rattle.pv_opening.specs.declared.status.Status.TheVariants.{Done, Limit, Negative}
+use Rattle.pv_opening.proofs.Stages.{stops_as}
 use Rattle.pv_commands.proofs.verify.tell.Goals as goal
 
 pub returns-in_ok-with_number-in-Ok-Accepted : goal.returns-in_ok-with_number-in-Ok-Accepted

@@ -1,9 +1,9 @@
 use Rattle.std.proofs.Common.{◌∙◌, ℕ, List}
 use Rattle.std.proofs.lemmas.Result.{err_from_is_err_and}
 use Rattle.pv_cert.specs.declared.packs.Pack.{Pack}
-use Rattle.pv_stages.specs.Documents.{PlainOpened}
+use Rattle.pv_opening.specs.Documents.{PlainOpened}
 use Rattle.pv_commands.specs.PackFiles.{pack_file_stage}
-use Rattle.pv_stages.specs.Response.{PlainResponse}
+use Rattle.pv_opening.specs.Response.{PlainResponse}
 use Rattle.pv_commands.specs.Verify.{IsVerifyCourse, TellsOfPack}
 use Rattle.pv_commands.proofs.Certificates.{certificate_stopped, certificate_told, opening_stopped}
 use Rattle.pv_commands.proofs.verify.verify.Goals as goal

@@ -3,11 +3,11 @@ use Rattle.pv_missing.specs.Widths.{IsListForVerdict}
 use Rattle.pv_productive.specs.PlainForms.{dtd_of}
 use Rattle.pv_tree.specs.Lists.{lists_of}
 use Rattle.pv_tree.specs.PlainDocs.{plain_doc}
-use Rattle.pv_stages.specs.Response.{with_line}
+use Rattle.pv_opening.specs.Response.{with_line}
 use Rattle.pv_commands.specs.Why.{TellsWhy, has_too_many, is_denied}
-use Rattle.pv_stages.specs.declared.status.Status.TheVariants.{Done, Limit}
-use Rattle.pv_stages.proofs.OnePossibility.{none_first}
-use Rattle.pv_stages.proofs.Stages.{stops_as}
+use Rattle.pv_opening.specs.declared.status.Status.TheVariants.{Done, Limit}
+use Rattle.pv_opening.proofs.OnePossibility.{none_first}
+use Rattle.pv_opening.proofs.Stages.{stops_as}
 use Rattle.pv_commands.proofs.why.explain.Goals as goal
 
 pub returns-in_ok-write_denial-in-Ok : goal.returns-in_ok-write_denial-in-Ok

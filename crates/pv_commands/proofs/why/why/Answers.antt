@@ -2,15 +2,15 @@ use Rattle.std.proofs.Common.{◌∙◌, ap, refl, sym}
 use Rattle.std.proofs.lemmas.Result.{err_from_is_err_and}
 use Rattle.pv_dtd.specs.PlainForms.{plain_dtd}
 use Rattle.pv_productive.specs.PlainForms.{dtd_of}
-use Rattle.pv_stages.specs.Documents.{document_stage}
-use Rattle.pv_stages.specs.Judging.{CountsNoMore, judges_none, lists_judged, without_memory}
-use Rattle.pv_stages.specs.Possibility.{width_stage}
-use Rattle.pv_stages.specs.Returns.{plain_opened}
-use Rattle.pv_stages.specs.Stage.{beside, short_of_memory}
+use Rattle.pv_opening.specs.Documents.{document_stage}
+use Rattle.pv_opening.specs.Judging.{CountsNoMore, judges_none, lists_judged, without_memory}
+use Rattle.pv_opening.specs.Possibility.{width_stage}
+use Rattle.pv_opening.specs.Returns.{plain_opened}
+use Rattle.pv_opening.specs.Stage.{beside, short_of_memory}
 use Rattle.pv_commands.specs.Why.{IsWhyCourse}
 use Rattle.pv_commands.proofs.Counting.{judged_document}
-use Rattle.pv_stages.proofs.JudgedLists.{stops_first}
-use Rattle.pv_stages.proofs.Stages.{found_behind, stop_found}
+use Rattle.pv_opening.proofs.JudgedLists.{stops_first}
+use Rattle.pv_opening.proofs.Stages.{found_behind, stop_found}
 use Rattle.pv_commands.proofs.why.why.Goals as goal
 
 pub returns-in_err-dtd-clause-finds : goal.returns-in_err-dtd-clause-finds

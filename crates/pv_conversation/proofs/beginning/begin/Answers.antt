@@ -5,13 +5,13 @@ use Rattle.pv_dtd.specs.PlainForms.{plain_dtd}
 use Rattle.pv_session.specs.Sessions.{session_on}
 use Rattle.pv_tree.specs.Marks.{unmarked_doc}
 use Rattle.pv_tree.specs.PlainDocs.{plain_doc}
-use Rattle.pv_stages.specs.Judging.{judges_all, judges_none, without_memory}
-use Rattle.pv_stages.specs.Possibility.{AreAllNarrow, width_stage}
-use Rattle.pv_stages.specs.Returns.{StopsBy}
+use Rattle.pv_opening.specs.Judging.{judges_all, judges_none, without_memory}
+use Rattle.pv_opening.specs.Possibility.{AreAllNarrow, width_stage}
+use Rattle.pv_opening.specs.Returns.{StopsBy}
 use Rattle.pv_conversation.specs.Session.{beginning_stage}
 use Rattle.pv_conversation.proofs.Beginnings.{session_begins}
-use Rattle.pv_stages.proofs.JudgedLists.{stops_within}
-use Rattle.pv_stages.proofs.Stages.{stopped_first}
+use Rattle.pv_opening.proofs.JudgedLists.{stops_within}
+use Rattle.pv_opening.proofs.Stages.{stopped_first}
 use Rattle.pv_conversation.proofs.beginning.begin.Goals as goal
 
 pub returns-in_err-verdicts-clause-returns : goal.returns-in_err-verdicts-clause-returns

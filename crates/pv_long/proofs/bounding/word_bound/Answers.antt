@@ -4,7 +4,7 @@ use Rattle.pv_model.specs.PlainForms.{plain_token}
 use Rattle.pv_dtd.proofs.Proper.{proper}
 use Rattle.pv_productive.specs.PlainForms.{dtd_of}
 use Rattle.pv_missing.specs.PlainForms.{plain_of}
-use Rattle.pv_fronts.specs.Fronts.{front_value}
+use Rattle.pv_bounds.specs.Fronts.{front_value}
 use Rattle.pv_long.proofs.Adding.{bound_told}
 use Rattle.pv_long.proofs.bounding.word_bound.Goals as goal
 

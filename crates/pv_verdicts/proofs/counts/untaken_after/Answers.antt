@@ -1,5 +1,5 @@
 use Rattle.std.proofs.Common.{◌+◌, arith}
-use Rattle.pv_course.proofs.Changing.{number_after}
+use Rattle.pv_rematch.proofs.Changing.{number_after}
 use Rattle.pv_productive.specs.PlainForms.{dtd_of}
 use Rattle.pv_verdicts.specs.Counting.{IsTakenToken}
 use Rattle.pv_verdicts.proofs.Answering.{told_of}

@@ -7,7 +7,7 @@ use Rattle.pv_model.specs.PlainForms.{plain_model, plain_token}
 use Rattle.pv_productive.specs.PlainForms.{dtd_of}
 use Rattle.pv_rules.specs.Sites.{content_site}
 use Rattle.pv_verdicts.proofs.Answering.{possible_answer}
-use Rattle.pv_course.proofs.Counting.{all_of_none, none_of_all}
+use Rattle.pv_rematch.proofs.Counting.{all_of_none, none_of_all}
 use Rattle.pv_verdicts.proofs.deciding.verdict_by.Goals as goal
 
 pub returns-then-counts-gt0 : goal.returns-then-counts-gt0

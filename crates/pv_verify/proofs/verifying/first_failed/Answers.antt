@@ -3,8 +3,8 @@ use Rattle.pv_dtd.specs.PlainForms.{plain_dtd}
 use Rattle.pv_tree.specs.Lists.{lists_of}
 use Rattle.pv_tree.specs.PlainDocs.{plain_doc}
 use Rattle.pv_tree.specs.View.{view}
-use Rattle.pv_closed.specs.ClosedTables.{AreClosedTables}
-use Rattle.pv_kept.specs.Kept.{AreMarks, IsBodyText, KeepsDocument}
+use Rattle.pv_table_check.specs.ClosedTables.{AreClosedTables}
+use Rattle.pv_compare.specs.Kept.{AreMarks, IsBodyText, KeepsDocument}
 use Rattle.pv_verify.proofs.InOrder.{accepted, at-closure, at-kept, at-totals, at-validity, not-so}
 use Rattle.pv_verify.proofs.NoText.{wider-text}
 use Rattle.pv_verify.proofs.verifying.first_failed.Goals as goal

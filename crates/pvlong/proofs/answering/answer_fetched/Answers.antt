@@ -1,8 +1,8 @@
 use Rattle.std.proofs.lemmas.Result.{err_from_is_err_and}
 use Rattle.pv_dtd.specs.PlainForms.{plain_dtd}
-use Rattle.pv_stages.specs.Documents.{document_stage}
-use Rattle.pv_stages.specs.Returns.{plain_opened}
-use Rattle.pv_stages.proofs.Stages.{found_behind, stop_found, tells_found}
+use Rattle.pv_opening.specs.Documents.{document_stage}
+use Rattle.pv_opening.specs.Returns.{plain_opened}
+use Rattle.pv_opening.proofs.Stages.{found_behind, stop_found, tells_found}
 use Rattle.pvlong.specs.Answering.{IsToldOf}
 use Rattle.pvlong.specs.Telling.{TellsFor}
 use Rattle.pvlong.proofs.answering.answer_fetched.Goals as goal

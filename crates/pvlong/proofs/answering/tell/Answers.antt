@@ -3,7 +3,7 @@ use Rattle.pv_dtd.specs.Plain.{PlainDtd}
 use Rattle.pv_dtd.specs.PlainForms.{plain_dtd}
 use Rattle.pv_productive.specs.PlainForms.{dtd_of}
 use Rattle.pv_tree.specs.PlainDocs.{plain_doc}
-use Rattle.pv_stages.proofs.Stages.{stops_as}
+use Rattle.pv_opening.proofs.Stages.{stops_as}
 use Rattle.pvlong.specs.Telling.{TellsFor, TellsNothing}
 use Rattle.pvlong.proofs.ToldLines.{nothing_for}
 use Rattle.pvlong.proofs.answering.tell.Goals as goal

@@ -1,8 +1,8 @@
 use Rattle.std.proofs.Common.{◌≡◌, List, [], ◌∷◌, None, Some, codes, sym, ℕ}
 use Rattle.pv_io.specs.Files.{byte_lists}
-use Rattle.pv_stages.specs.Response.{PlainResponse, with_line}
-use Rattle.pv_stages.specs.declared.status.Status.TheVariants.{Usage}
-use Rattle.pv_stages.proofs.Stages.{tells_found}
+use Rattle.pv_opening.specs.Response.{PlainResponse, with_line}
+use Rattle.pv_opening.specs.declared.status.Status.TheVariants.{Usage}
+use Rattle.pv_opening.proofs.Stages.{tells_found}
 use Rattle.pvlong.specs.Requests.{plain_request, request_of}
 use Rattle.pvlong.proofs.Answers.{found_answers, none_found}
 use Rattle.pvlong.proofs.program.pvlong.Goals as goal

@@ -1,9 +1,9 @@
 use Rattle.std.proofs.Common.{◌≡◌, ◌++◌, codes}
 use Rattle.pv_words.specs.Paths.{path_text}
-use Rattle.pv_stages.specs.Response.{with_line}
-use Rattle.pv_stages.specs.Returns.{RefusesWith}
-use Rattle.pv_stages.specs.declared.status.Status.TheVariants.{Limit, Negative}
-use Rattle.pv_stages.proofs.Stages.{stops_as}
+use Rattle.pv_opening.specs.Response.{with_line}
+use Rattle.pv_opening.specs.Returns.{RefusesWith}
+use Rattle.pv_opening.specs.declared.status.Status.TheVariants.{Limit, Negative}
+use Rattle.pv_opening.proofs.Stages.{stops_as}
 use Rattle.pvlong.specs.Telling.{TellsNothing, is_impossible, is_too_wide}
 use Rattle.pvlong.proofs.telling.refuse_missing.Goals as goal
 

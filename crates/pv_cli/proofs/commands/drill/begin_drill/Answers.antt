@@ -4,17 +4,17 @@ use Rattle.pv_dtd.specs.PlainForms.{plain_dtd}
 use Rattle.pv_drill.specs.Drill.{DRILL_DTD, drill_text}
 use Rattle.pv_read.proofs.DocumentFacts.{few_nodes}
 use Rattle.pv_session.specs.Sessions.{PlainSession}
-use Rattle.pv_stages.specs.Judging.{judges_none, judging_stage, lists_judged, without_memory}
-use Rattle.pv_stages.specs.Possibility.{width_stage}
-use Rattle.pv_stages.specs.Stage.{beside}
-use Rattle.pv_stages.specs.Documents.{document_stage}
+use Rattle.pv_opening.specs.Judging.{judges_none, judging_stage, lists_judged, without_memory}
+use Rattle.pv_opening.specs.Possibility.{width_stage}
+use Rattle.pv_opening.specs.Stage.{beside}
+use Rattle.pv_opening.specs.Documents.{document_stage}
 use Rattle.pv_cli.specs.Drill.{DRILL_ROOT, reading_stage}
-use Rattle.pv_stages.specs.Opening.{dtd_stage}
-use Rattle.pv_stages.specs.Returns.{plain_opened}
+use Rattle.pv_opening.specs.Opening.{dtd_stage}
+use Rattle.pv_opening.specs.Returns.{plain_opened}
 use Rattle.pv_conversation.specs.Session.{guarding_stage}
 use Rattle.pv_cli.proofs.Counting.{opened_document}
-use Rattle.pv_stages.proofs.JudgedLists.{opening_first, opening_second}
-use Rattle.pv_stages.proofs.Stages.{returned_second, stopped_first, stopped_second}
+use Rattle.pv_opening.proofs.JudgedLists.{opening_first, opening_second}
+use Rattle.pv_opening.proofs.Stages.{returned_second, stopped_first, stopped_second}
 use Rattle.pv_cli.proofs.commands.drill.begin_drill.Goals as goal
 
 pub returns-in_err-dtd-clause-returns : goal.returns-in_err-dtd-clause-returns

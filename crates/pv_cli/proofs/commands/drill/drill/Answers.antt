@@ -1,15 +1,15 @@
 use Rattle.std.proofs.Common.{◌*◌, Err, length}
 use Rattle.std.proofs.lemmas.Result.{err_from_is_err_and}
 use Rattle.pv_cli.specs.Drill.{TellsCounts, drill_stage}
-use Rattle.pv_stages.specs.Stage.{Responds}
+use Rattle.pv_opening.specs.Stage.{Responds}
 use Rattle.pv_cli.specs.Checking.{CountsAtMost, judging_drill_stage}
 use Rattle.pv_drill.specs.Drill.{drill_lines}
-use Rattle.pv_stages.specs.Judging.{lists_judged}
-use Rattle.pv_stages.specs.Returns.{ending_of}
+use Rattle.pv_opening.specs.Judging.{lists_judged}
+use Rattle.pv_opening.specs.Returns.{ending_of}
 use Rattle.pv_cli.proofs.Counting.{drill_stopped}
-use Rattle.pv_stages.proofs.JudgedLists.{opened_goes}
+use Rattle.pv_opening.proofs.JudgedLists.{opened_goes}
 use Rattle.pv_cli.proofs.DrillStages.{asks_none}
-use Rattle.pv_stages.proofs.Stages.{found_behind, stop_found, tells_found}
+use Rattle.pv_opening.proofs.Stages.{found_behind, stop_found, tells_found}
 use Rattle.pv_cli.proofs.commands.drill.drill.Goals as goal
 
 pub returns-in_err-session-clause-finds : goal.returns-in_err-session-clause-finds

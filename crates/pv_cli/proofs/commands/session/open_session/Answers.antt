@@ -3,15 +3,15 @@ use Rattle.std.proofs.lemmas.Result.{err_from_is_err_and}
 use Rattle.pv_dtd.specs.PlainForms.{plain_dtd}
 use Rattle.pv_read.proofs.DocumentFacts.{few_nodes}
 use Rattle.pv_session.specs.Sessions.{PlainSession}
-use Rattle.pv_stages.specs.Judging.{lists_judged}
-use Rattle.pv_stages.specs.Possibility.{width_stage}
-use Rattle.pv_stages.specs.Stage.{beside}
-use Rattle.pv_stages.specs.Documents.{document_stage}
-use Rattle.pv_stages.specs.Returns.{plain_opened}
+use Rattle.pv_opening.specs.Judging.{lists_judged}
+use Rattle.pv_opening.specs.Possibility.{width_stage}
+use Rattle.pv_opening.specs.Stage.{beside}
+use Rattle.pv_opening.specs.Documents.{document_stage}
+use Rattle.pv_opening.specs.Returns.{plain_opened}
 use Rattle.pv_conversation.specs.Session.{guarding_stage}
 use Rattle.pv_cli.proofs.Counting.{opened_document}
-use Rattle.pv_stages.proofs.JudgedLists.{opening_first}
-use Rattle.pv_stages.proofs.Stages.{returned_second, stopped_first}
+use Rattle.pv_opening.proofs.JudgedLists.{opening_first}
+use Rattle.pv_opening.proofs.Stages.{returned_second, stopped_first}
 use Rattle.pv_cli.proofs.commands.session.open_session.Goals as goal
 
 pub begin-requires-clause-few : goal.begin-requires-clause-few

@@ -1,0 +1,95 @@
+//! Whether fronts are closed under the rules of columns.
+
+ghost use Rattle.std.specs.Prelude.{◌≡◌, ◌≤◌, ◌<◌, ℕ, IfOk, IsTrue, length, map};
+ghost use Rattle.pv_model.specs.PlainForms.{plain_token};
+ghost use Rattle.pv_productive.specs.PlainForms.{dtd_of};
+ghost use Rattle.pv_span.specs.Columns.{no_column};
+ghost use Rattle.pv_span.specs.FormForms.{plain_all, plain_form};
+ghost use Rattle.pv_span.specs.Forms.{form_at};
+ghost use Rattle.pv_bounds.specs.Bounds.{IsBelowSites};
+ghost use Rattle.pv_bounds.specs.Fronts.{cost_from, empty_cost, front_value};
+ghost use Rattle.pv_bounds.specs.HoldingForms.{ColumnHolds, FormCutsHold};
+
+use crate::claim::Claim;
+use crate::columns::places_hold;
+use crate::cuts::form_cuts_hold;
+use crate::empties::empties_hold;
+use crate::fronts::Fronts;
+use pv_chars::NoMemory;
+use pv_model::Token;
+use pv_span::laws::columns_derive_law;
+use pv_span::{ColumnLayout, Form};
+use std::alloc::Global;
+
+// Whether a column, in which this stands, costs no more than its rules lead to over the tokens from
+// all places.
+fn column_holds(
+    alloc: Global,
+    claim: &Claim<'_>,
+    form: &Form,
+    column: u32,
+) -> Result<bool, NoMemory>
+    ensures { IfOk result (λ holds. IsTrue holds → (i : ℕ) → i < claim.now.tokens →
+        ColumnHolds (map plain_token claim.now.word.now)
+        (empty_cost claim.now.fronts.now.empty.items) (cost_from claim.now.fronts.now)
+        column i (plain_form form.now) ×
+        FormCutsHold (map plain_token claim.now.word.now)
+        (empty_cost claim.now.fronts.now.empty.items) (cost_from claim.now.fronts.now)
+        column i (plain_form form.now)) }
+{
+    if !places_hold(claim, form, column) {
+        return Ok(false);
+    }
+    let hold = form_cuts_hold(alloc, claim, form, column)?;
+    Ok(hold)
+}
+
+// The same of all columns.
+fn columns_hold(alloc: Global, claim: &Claim<'_>, forms: &[Form]) -> Result<bool, NoMemory>
+    requires { length forms.now ≤ no_column }
+    ensures { IfOk result (λ hold. IsTrue hold → (c i : ℕ) → c < length forms.now →
+        i < claim.now.tokens → ColumnHolds (map plain_token claim.now.word.now)
+        (empty_cost claim.now.fronts.now.empty.items) (cost_from claim.now.fronts.now)
+        c i (form_at (plain_all forms.now) c) ×
+        FormCutsHold (map plain_token claim.now.word.now)
+        (empty_cost claim.now.fronts.now.empty.items) (cost_from claim.now.fronts.now)
+        c i (form_at (plain_all forms.now) c)) }
+{
+    for number in 0..forms.len() {
+        if !column_holds(alloc, claim, &forms[number], number as u32)? {
+            return Ok(false);
+        }
+    }
+    Ok(true)
+}
+
+/// Whether fronts hold for a word: where they do, no site derives anything over a span of the word
+/// at less than they tell.
+///
+/// They hold where no rule of a column leads to less than is read off them. Whoever makes them has
+/// to see to that; nothing else is asked of them.
+pub fn are_closed(
+    alloc: Global,
+    layout: &ColumnLayout<'_>,
+    word: &[Token],
+    fronts: &Fronts,
+) -> Result<bool, NoMemory>
+    ensures { IfOk result (λ closed. IsTrue closed → IsBelowSites (dtd_of layout.now.grammar.now)
+        (map plain_token word.now) (front_value layout.now fronts.now)) }
+{
+    columns_derive_law();
+    if word.len() > u32::MAX as usize {
+        return Ok(false);
+    }
+    let claim = Claim {
+        word,
+        tokens: word.len() as u32,
+        fronts,
+    };
+    let forms = layout.forms();
+    if !empties_hold(fronts, forms) {
+        return Ok(false);
+    }
+    let hold = columns_hold(alloc, &claim, forms)?;
+    Ok(hold)
+}

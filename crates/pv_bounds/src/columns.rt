@@ -1,0 +1,129 @@
+//! Whether columns cost no more than their rules lead to that cut no span.
+
+ghost use Rattle.std.specs.Prelude.{◌≡◌, ◌<◌, ℕ, IsTrue, Some, map, slice_get, suc};
+ghost use Rattle.pv_model.specs.Plain.{named};
+ghost use Rattle.pv_model.specs.PlainForms.{plain_token};
+ghost use Rattle.pv_span.specs.ColumnRules.{IsOneOf};
+ghost use Rattle.pv_span.specs.FormForms.{plain_form};
+ghost use Rattle.pv_span.specs.Forms.{of_star, of_two};
+ghost use Rattle.pv_bounds.specs.Fronts.{cost_from, empty_cost};
+ghost use Rattle.pv_bounds.specs.HoldingForms.{ColumnHolds, CostsNoMore, TextsHold};
+
+use crate::claim::Claim;
+use crate::covers::covers;
+use pv_model::{NameId, is_element_over, is_text_at};
+use pv_span::Form;
+
+// Whether a column costs no more than another over the same tokens, and so much.
+fn costs_no_more(claim: &Claim<'_>, column: u32, other: u32, extra: u32, place: u32) -> bool
+    ensures { IsTrue result → CostsNoMore (map plain_token claim.now.word.now)
+        (empty_cost claim.now.fronts.now.empty.items) (cost_from claim.now.fronts.now)
+        column place extra other }
+{
+    covers(
+        claim.fronts.at(column, place),
+        claim.fronts.at(other, place),
+        extra,
+    )
+}
+
+// Whether the column of an element costs nothing where the element is there.
+fn kept_holds(claim: &Claim<'_>, column: u32, id: NameId, place: u32) -> bool
+    requires { place < claim.now.tokens }
+    ensures { IsTrue result →
+        slice_get (map plain_token claim.now.word.now) place ≡ Some (named id.0) →
+        cost_from claim.now.fronts.now column place (suc place) ≡ 0 }
+{
+    !is_element_over(claim.word, id, place, place + 1)
+        || claim.fronts.cost(column, place, place + 1) == 0
+}
+
+// The same of each of some columns.
+fn members_hold(claim: &Claim<'_>, column: u32, members: &[u32], place: u32) -> bool
+    ensures { IsTrue result → (d : ℕ) → IsOneOf d members.now →
+        CostsNoMore (map plain_token claim.now.word.now)
+        (empty_cost claim.now.fronts.now.empty.items) (cost_from claim.now.fronts.now)
+        column place 0 d }
+{
+    for index in 0..members.len() {
+        if !costs_no_more(claim, column, members[index], 0, place) {
+            return false;
+        }
+    }
+    true
+}
+
+// Whether a column among which texts stand costs no more than itself behind a text.
+fn texts_hold(claim: &Claim<'_>, column: u32, place: u32) -> bool
+    requires { place < claim.now.tokens }
+    ensures { IsTrue result → TextsHold (map plain_token claim.now.word.now)
+        (empty_cost claim.now.fronts.now.empty.items) (cost_from claim.now.fronts.now)
+        column place }
+{
+    if !is_text_at(claim.word, place) {
+        return true;
+    }
+    let here = claim.fronts.at(column, place);
+    let behind = claim.fronts.at(column, place + 1);
+    claim.fronts.cost(column, place, place + 1) <= claim.fronts.empty_at(column)
+        && covers(here, behind, 0)
+}
+
+// A column with any number of another, and texts where they may stand there.
+fn star_holds(claim: &Claim<'_>, column: u32, one: u32, texts: bool, place: u32) -> bool
+    requires { place < claim.now.tokens }
+    ensures { IsTrue result → ColumnHolds (map plain_token claim.now.word.now)
+        (empty_cost claim.now.fronts.now.empty.items) (cost_from claim.now.fronts.now)
+        column place (of_star one texts) }
+{
+    (!texts || texts_hold(claim, column, place))
+        && costs_no_more(claim, column, one, claim.fronts.empty_at(column), place)
+}
+
+// A column with one, and another behind it.
+fn two_hold(claim: &Claim<'_>, column: u32, one: u32, two: u32, place: u32) -> bool
+    ensures { IsTrue result → ColumnHolds (map plain_token claim.now.word.now)
+        (empty_cost claim.now.fronts.now.empty.items) (cost_from claim.now.fronts.now)
+        column place (of_two one two) }
+{
+    costs_no_more(claim, column, one, claim.fronts.empty_at(two), place)
+        && costs_no_more(claim, column, two, claim.fronts.empty_at(one), place)
+}
+
+// A column, in which this stands.
+fn column_holds(claim: &Claim<'_>, form: &Form, column: u32, place: u32) -> bool
+    requires { place < claim.now.tokens }
+    ensures { IsTrue result → ColumnHolds (map plain_token claim.now.word.now)
+        (empty_cost claim.now.fronts.now.empty.items) (cost_from claim.now.fronts.now)
+        column place (plain_form form.now) }
+{
+    match form {
+        Form::Never => true,
+        Form::Element(id, content) => {
+            kept_holds(claim, column, *id, place)
+                && costs_no_more(claim, column, *content, 1, place)
+        }
+        Form::Nothing => true,
+        Form::OneOf(members) => members_hold(claim, column, members, place),
+        Form::Opt(one) => costs_no_more(claim, column, *one, 0, place),
+        Form::Star(one, texts) => star_holds(claim, column, *one, *texts, place),
+        Form::Plus(one) => costs_no_more(claim, column, *one, 0, place),
+        Form::Then(one, two) => two_hold(claim, column, *one, *two, place),
+    }
+}
+
+/// Whether a column, in which this stands, costs no more than its rules lead to that cut no span,
+/// over the tokens from all places.
+pub fn places_hold(claim: &Claim<'_>, form: &Form, column: u32) -> bool
+    ensures { IsTrue result → (i : ℕ) → i < claim.now.tokens →
+        ColumnHolds (map plain_token claim.now.word.now)
+        (empty_cost claim.now.fronts.now.empty.items) (cost_from claim.now.fronts.now)
+        column i (plain_form form.now) }
+{
+    for place in 0..claim.tokens {
+        if !column_holds(claim, form, column, place) {
+            return false;
+        }
+    }
+    true
+}

@@ -1,5 +1,0 @@
-use Rattle.pv_closed.proofs.LeastValues.{AreSoFar}
-use Rattle.pv_closed.proofs.least.put_others.Given as goal
-
-abbrev pub invariant-loop-entry : goal.invariant-loop-entry
-invariant-loop-entry l = AreSoFar l.entries l.entry-index l.found.items

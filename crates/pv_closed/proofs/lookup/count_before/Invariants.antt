@@ -1,9 +1,0 @@
-use Rattle.std.proofs.Common.{◌-◌}
-use Rattle.pv_closed.proofs.EntryOrder.{IsSplit}
-use Rattle.pv_closed.proofs.lookup.count_before.Given as goal
-
-abbrev pub invariant-halves : goal.invariant-halves
-invariant-halves l = IsSplit l.entries l.probe l.low l.high
-
-abbrev pub decreases-halves : goal.decreases-halves
-decreases-halves l = l.high - l.low

@@ -1,7 +1,0 @@
-use Rattle.std.proofs.Common.{ℕ, get_or, ◌<◌}
-use Rattle.pv_tables.specs.declared.tables.Entry.{Entry}
-use Rattle.pv_closed.specs.Sums.{IsNoLess}
-use Rattle.pv_closed.proofs.sums.laid_sums_hold.Given as goal
-
-abbrev pub invariant-loop-one : goal.invariant-loop-one
-invariant-loop-one l = (k : ℕ) (d : Entry) → k < l.one-index → IsNoLess l.entries l.pair (get_or l.firsts k d)

@@ -1,6 +1,0 @@
-use Rattle.std.proofs.Common.{◌≡◌, ◌+◌, take}
-use Rattle.pv_course.specs.Points.{span}
-use Rattle.pv_course.proofs.points.point_behind.Given as goal
-
-abbrev pub invariant-loop-number : goal.invariant-loop-number
-invariant-loop-number l = span (take l.number l.points) + l.left ≡ l.place

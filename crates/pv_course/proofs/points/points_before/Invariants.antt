@@ -1,6 +1,0 @@
-use Rattle.std.proofs.Common.{◌≡◌, ◌≤◌, take}
-use Rattle.pv_course.specs.Points.{span}
-use Rattle.pv_course.proofs.points.points_before.Given as goal
-
-abbrev pub invariant-loop-count : goal.invariant-loop-count
-invariant-loop-count l = (l.place ≡ span (take l.count l.points)) × (l.place ≤ l.from)

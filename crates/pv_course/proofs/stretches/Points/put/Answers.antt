@@ -1,7 +1,0 @@
-use Rattle.std.proofs.Common.{refl}
-use Rattle.pv_course.proofs.Turning.{put_points}
-use Rattle.pv_course.proofs.stretches.Points.put.Goals as goal
-
-pub returns-then-last-len : goal.returns-then-last-len
-returns-then-last-len c =
-    λ p w h. put_points p w c.args.self.now.items.items c.args.stretch _ h refl c.replace.ensures

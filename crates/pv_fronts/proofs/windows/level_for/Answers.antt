@@ -1,5 +1,0 @@
-use Rattle.pv_fronts.proofs.Told.{push_keeps}
-use Rattle.pv_fronts.proofs.windows.level_for.Goals as goal
-
-pub returns-clause-kept : goal.returns-clause-kept
-returns-clause-kept c = rw c.in_ok-push.ensures.items (push_keeps c.args.levels.now.items _)

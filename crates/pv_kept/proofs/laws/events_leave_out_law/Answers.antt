@@ -1,5 +1,0 @@
-use Rattle.pv_kept.proofs.EventsLeave.{events_leave_out}
-use Rattle.pv_kept.proofs.laws.events_leave_out_law.Goals as goal
-
-pub returns : goal.returns
-returns c = events_leave_out c.one_meaning_law.ensures.units

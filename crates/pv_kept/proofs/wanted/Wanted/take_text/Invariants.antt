@@ -1,7 +1,0 @@
-use Rattle.std.proofs.Common.{take, ◌++◌, ◌≡◌}
-use Rattle.pv_kept.specs.Wanting.{wanted_events}
-use Rattle.pv_kept.proofs.OneHedge.{texts}
-use Rattle.pv_kept.proofs.wanted.Wanted.take_text.Given as goal
-
-abbrev pub invariant-loop-byte : goal.invariant-loop-byte
-invariant-loop-byte l = wanted_events l.initial.self ≡ texts (take l.byte-index l.bytes) ++ wanted_events l.self
