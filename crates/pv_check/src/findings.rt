@@ -15,10 +15,10 @@ use pv_tree::{Path, Verdict};
 use std::alloc::Global;
 
 // The fewest tokens of a list that is long.
-const LONG: usize = 64;
+const LONG_LIST_TOKENS: usize = 64;
 
 // The most tokens of long lists that aren't valid which one thread judges.
-const MANY: usize = 65_536;
+const TOKENS_BY_ONE_THREAD: usize = 65_536;
 
 /// What is noted of lists where an element begins behind them.
 #[derive(Clone, Copy)]
@@ -54,7 +54,7 @@ impl Findings {
             first: None,
             possible: 0,
             lists: 0,
-            left: MANY,
+            left: TOKENS_BY_ONE_THREAD,
         }
     }
 
@@ -75,7 +75,7 @@ impl Findings {
         ensures { (g : PlainDtd) (root : List ℕ) (lists : List (Listed Mark)) →
             HasFound g root lists self.old → HasFound g root lists self.new }
     {
-        if tokens < LONG || matches!(judged, Some(Verdict::Valid)) {
+        if tokens < LONG_LIST_TOKENS || matches!(judged, Some(Verdict::Valid)) {
             return Ok(());
         }
         self.left = self.left.checked_sub(tokens).ok_or(ListError::LongLists)?;

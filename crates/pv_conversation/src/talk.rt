@@ -32,7 +32,7 @@ use std::thread::Threads;
 const MAX_SCRIPT_BYTES: usize = 268_435_456;
 
 /// The bytes that one `fill` is asked for.
-const PIECE: usize = 65_536;
+const READ_BYTES: usize = 65_536;
 
 /// How far a script was read and answered: the line that is being taken, its number, counted from
 /// 1, how many bytes the script may still have, and the replies that wait to be written.
@@ -299,7 +299,7 @@ pub fn converse<S: Source, K: Sink, L: Ledger>(
     let Ok(lines) = Lines::new(alloc) else {
         return Status::NoMemory;
     };
-    let Ok(mut piece) = zeros(alloc, PIECE) else {
+    let Ok(mut piece) = zeros(alloc, READ_BYTES) else {
         return Status::NoMemory;
     };
     let Ok(buffer) = ReplyBuffer::new(alloc) else {

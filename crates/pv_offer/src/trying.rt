@@ -23,7 +23,7 @@ use std::thread::Threads;
 pub(crate) type Tried = Result<bool, NoMemory>;
 
 // Names, at least, that are worth a thread.
-const PIECE: usize = 4;
+const NAMES_BY_ONE_THREAD: usize = 4;
 
 /// The edit that is asked of, with this name.
 pub(crate) fn edit_of(alloc: Global, ask: &Ask, name: &[u8]) -> Result<Edit, NoMemory>
@@ -99,7 +99,7 @@ pub(crate) fn try_names(
 {
     names
         .par_iter()
-        .with_min_len(PIECE)
+        .with_min_len(NAMES_BY_ONE_THREAD)
         .map(
             |name: &Bytes| -> Tried
                 ensures { TellsOf marked.entry.now ask.entry.now name.now result }

@@ -33,10 +33,10 @@ use std::thread::Threads;
 pub type Judged = Result<Vec<Verdict>, ReachError>;
 
 // The fewest pieces of work that are worth a thread.
-const PIECES: usize = 8;
+const JOBS_BY_ONE_THREAD: usize = 8;
 
 // The fewest that are worth more threads than one.
-const MANY: usize = 4;
+const JOBS_FOR_THREADS: usize = 4;
 
 // Judges a list behind those judged so far, when its number is told.
 fn judge_list<G: Gate>(
@@ -166,11 +166,11 @@ pub fn judge_jobs<G: Gate + Sync>(
     ensures { IfOk result (λ judged. AllZip (JudgesJob (dtd_of judge.now) root.now
         (G.entered gate.now)) jobs.now judged.items) }
 {
-    if jobs.len() < MANY {
+    if jobs.len() < JOBS_FOR_THREADS {
         return judge_in_turn(judge, root, jobs, gate);
     }
     jobs.par_iter()
-        .with_min_len(PIECES)
+        .with_min_len(JOBS_BY_ONE_THREAD)
         .map(
             |job: &Job<'_>| -> Judged
                 ensures { JudgesJob (dtd_of judge.entry.now) root.entry.now

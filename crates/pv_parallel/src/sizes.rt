@@ -8,7 +8,7 @@ ghost use Rattle.pv_parallel.specs.Sizes.{Measures, Tallies};
 use pv_tree::Node;
 
 // The most nodes of subtrees that are one piece of work.
-const PIECE: usize = 1024;
+const NODES_OF_A_JOB: usize = 1024;
 
 /// What is counted of subtrees.
 #[derive(Clone, Copy)]
@@ -76,7 +76,7 @@ pub fn small_front(nodes: &[Node]) -> Front
         Measures (lists_from path i (forest (take result.count nodes.now))) result }
 {
     let mut tally = Tally {
-        left: PIECE,
+        left: NODES_OF_A_JOB,
         lists: 0,
         longest: 0,
     };

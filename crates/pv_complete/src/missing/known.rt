@@ -23,13 +23,13 @@ const LOOKS: usize = 32;
 const NO_ENTRY: u32 = u32::MAX;
 
 /// The most bytes that entries without pieces take, with their words.
-const MOST_BYTES: usize = 16_000_000;
+const MAX_BYTES: usize = 16_000_000;
 
 /// The most bytes that entries with pieces take, with these and their words.
-const MOST_PIECE_BYTES: usize = 64_000_000;
+const MAX_PIECE_BYTES: usize = 64_000_000;
 
 /// The most entries of tables that are kept; each takes 20 bytes.
-const MOST_TABLE_ENTRIES: u32 = 4_194_304;
+const MAX_TABLE_ENTRIES: u32 = 4_194_304;
 
 /// The bytes that an entry takes beside its tokens, pieces and table: its own, as many in reserve,
 /// and what the allocator takes for its word.
@@ -206,21 +206,21 @@ impl KnownWeights {
     pub fn none(alloc: Global) -> KnownWeights
         ensures { (g : PlainDtd) → AreKnown g result }
     {
-        KnownWeights::keeping(alloc, false, 0, MOST_BYTES)
+        KnownWeights::keeping(alloc, false, 0, MAX_BYTES)
     }
 
     /// The same, and pieces are kept.
     pub fn with_pieces(alloc: Global) -> KnownWeights
         ensures { (g : PlainDtd) → AreKnown g result }
     {
-        KnownWeights::keeping(alloc, true, 0, MOST_PIECE_BYTES)
+        KnownWeights::keeping(alloc, true, 0, MAX_PIECE_BYTES)
     }
 
     /// The same, and pieces and tables are kept.
     pub fn with_tables(alloc: Global) -> KnownWeights
         ensures { (g : PlainDtd) → AreKnown g result }
     {
-        KnownWeights::keeping(alloc, true, MOST_TABLE_ENTRIES, MOST_PIECE_BYTES)
+        KnownWeights::keeping(alloc, true, MAX_TABLE_ENTRIES, MAX_PIECE_BYTES)
     }
 
     /// The entry of an owner and a word, where there is one.

@@ -13,7 +13,7 @@ use pv_span::Form;
 use std::alloc::Global;
 
 /// The most spans that are built from others for a list.
-const MOST_SPANS: usize = 67_108_864;
+const MAX_SPANS: usize = 67_108_864;
 
 /// The pieces of a list so far, and what more are wanted for, the next at the end.
 #[derive(Drop)]
@@ -191,7 +191,7 @@ pub fn build(
         wanted: Vec::new(alloc),
     };
     built.want(column, 0, tokens)?;
-    for _span in 0..MOST_SPANS {
+    for _span in 0..MAX_SPANS {
         let Some(wanted) = built.wanted.pop() else {
             return Ok(built.pieces);
         };

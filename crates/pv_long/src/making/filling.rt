@@ -15,21 +15,21 @@ use std::alloc::Global;
 pub const ITSELF: u32 = u32::MAX;
 
 /// The most reaches of the fronts of a list.
-const MOST_REACHES: usize = 33_554_432;
+const MAX_REACHES: usize = 33_554_432;
 
 /// How many reaches the fronts of a list may have before each front is made shorter.
 const SPACE: usize = 16_777_216;
 
 /// The most reaches of a front in a wide list, and in a narrow one.
-const FEW: usize = 6;
+const REACHES_IF_WIDE: usize = 6;
 
-const MANY: usize = 64;
+const REACHES_IF_NARROW: usize = 64;
 
 // The most reaches of a front, by how many fronts there are.
 fn most_of(fronts: usize) -> usize {
     (SPACE / usize::saturating_add(fronts, 1))
-        .max(FEW)
-        .min(MANY)
+        .max(REACHES_IF_WIDE)
+        .min(REACHES_IF_NARROW)
 }
 
 fn itself(cost: u32, end: u32) -> Reach {
@@ -154,7 +154,7 @@ pub fn fill(alloc: Global, plan: &Plan<'_>, word: &[Token]) -> Result<Fronts, Ma
     let mut filled = Filled::none(alloc, columns, number_of(word.len()))?;
     let most = most_of(usize::saturating_mul(word.len(), columns));
     let mut here = Here::new(alloc, columns, most)?;
-    let mut left = MOST_REACHES;
+    let mut left = MAX_REACHES;
     for place in (0..word.len()).rev() {
         here.place = number_of(place);
         let known = Known {
