@@ -28,7 +28,8 @@ use std::alloc::Global;
 /// The least number of elements whose insertion makes a document valid. The document stays as it
 /// is.
 ///
-/// The grammar is laid out once for all lists, and lists of one owner and one word are weighed once.
+/// The grammar is laid out once for all lists, and lists of one owner and one word are weighed
+/// once.
 pub fn need(alloc: Global, grammar: &Grammar, root: &[u8], doc: &Doc) -> Result<u64, NeedError>
     ensures needs { IfOk result (Needs (dtd_of grammar.now) root.now (plain_doc doc.now)) }
     ensures refused { IfErr result (HasCause (dtd_of grammar.now) root.now (plain_doc doc.now)) }

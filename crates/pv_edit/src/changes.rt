@@ -9,8 +9,8 @@ ghost use Rattle.pv_tree.specs.declared.nodes.Mark.{Mark};
 ghost use Rattle.pv_edit.specs.Brought.{BringsBare};
 ghost use Rattle.pv_edit.specs.Changes.{doc_after, root_after};
 ghost use Rattle.pv_edit.specs.Fitting.{CanChange, plain_task, plain_filling};
-ghost use Rattle.pv_edit.specs.Inverses.{IsKept, LeadsBack, inverse_of, doc_back};
-ghost use Rattle.pv_edit.specs.Reasons.{edit_outcome, gives, is_top, reason_of};
+ghost use Rattle.pv_edit.specs.Inverses.{IsKept, LeadsBack, doc_back};
+ghost use Rattle.pv_edit.specs.Reasons.{edit_outcome, is_top, reason_of};
 ghost use Rattle.pv_edit.specs.Preparations.{IsPreparation, IsTask};
 ghost use Rattle.pv_edit.specs.Refusals.{IsRefused};
 
@@ -69,26 +69,6 @@ pub fn prepare_back(alloc: Global, doc: &Doc, inverse: &Inverse) -> Result<Task,
         unmarked_doc made ≡ before) }
 {
     task_back(alloc, doc, inverse)
-}
-
-/// Makes an edit on a document, and gives what undoes it. After an error the document is as it was.
-///
-/// New elements have blank marks, and all other marks stay.
-pub fn apply(alloc: Global, doc: &mut Doc, edit: &Edit) -> Result<Inverse, EditError>
-    requires { nodes_in (plain_doc doc.old).root < MAX_NODES }
-    ensures made { OnOk result (edit_outcome blank_mark (plain_doc doc.old) edit.now
-        ≡ gives (plain_doc doc.new)) }
-    ensures inverse { IfOk result (λ inverse. inverse
-        ≡ inverse_of (plain_doc doc.old).root edit.now) }
-    ensures leads_back { IfOk result (λ inverse. LeadsBack inverse (plain_doc doc.new)
-        (unmarked_doc (plain_doc doc.old))) }
-    ensures refused { IfErr result (IsRefused
-        (edit_outcome blank_mark (plain_doc doc.old) edit.now)) }
-    ensures unchanged { OnErr result (plain_doc doc.new ≡ plain_doc doc.old) }
-{
-    let Preparation { task, inverse } = prepare(alloc, doc, edit)?;
-    make(alloc, doc, task)?;
-    Ok(inverse)
 }
 
 /// Takes an edit back: makes the document that an inverse leads to. After an error the document is

@@ -7,10 +7,10 @@ ghost use Rattle.pv_tree.specs.PlainDocs.{plain_doc};
 ghost use Rattle.pv_tree.specs.PlainForms.{plain, plain_all, forest};
 ghost use Rattle.pv_tree.specs.Marks.{blank_mark};
 ghost use Rattle.pv_edit.specs.Effects.{change_of};
-ghost use Rattle.pv_edit.specs.Reasons.{edit_outcome, goes_too_deep, is_one_element, is_root};
+ghost use Rattle.pv_edit.specs.Reasons.{goes_too_deep, is_one_element, is_root};
 ghost use Rattle.pv_edit.specs.Reasons.{is_top};
 ghost use Rattle.pv_edit.specs.Reasons.{kids_at, lacks_list, reason_of};
-ghost use Rattle.pv_edit.specs.Refusals.{IsGiven, IsRefusal, IsRefused};
+ghost use Rattle.pv_edit.specs.Refusals.{IsRefusal};
 ghost use Rattle.pv_edit.specs.declared.edits.Edit.TheVariants as edit;
 ghost use Rattle.pv_edit.specs.declared.reasons.EditError.TheVariants.{Shape};
 
@@ -26,16 +26,6 @@ use crate::runs::{
 };
 use pv_tree::{Doc, Node, Path};
 use std::alloc::Global;
-
-/// Whether an edit can be made on a document: `Ok` exactly where it gives one, and else its first
-/// reason.
-pub fn shape(alloc: Global, doc: &Doc, edit: &Edit) -> Result<(), EditError>
-    ensures { MatchResult result (λ _. IsGiven
-        (edit_outcome blank_mark (plain_doc doc.now) edit.now))
-        (IsRefused (edit_outcome blank_mark (plain_doc doc.now) edit.now)) }
-{
-    first_reason(alloc, doc, edit)
-}
 
 /// The first reason to refuse an edit.
 pub(crate) fn first_reason(alloc: Global, doc: &Doc, edit: &Edit) -> Result<(), EditError>

@@ -1,13 +1,13 @@
 //! The check of a whole document.
 
-ghost use Rattle.std.specs.Prelude.{◌≡◌, ◌≤◌, ◌+◌, IfOk, OnOk, length};
+ghost use Rattle.std.specs.Prelude.{◌≡◌, ◌+◌, IfOk};
 ghost use Rattle.std.specs.List.{AllByRecursion};
 ghost use Rattle.pv_productive.specs.PlainForms.{dtd_of};
 ghost use Rattle.pv_tree.specs.Lists.{lists_of};
 ghost use Rattle.pv_tree.specs.PlainDocs.{plain_doc};
 ghost use Rattle.pv_missing.specs.Verdicts.{HaveVerdicts};
 ghost use Rattle.pv_missing.specs.Widths.{IsListForVerdict};
-ghost use Rattle.pv_fresh.specs.Answers.{CountsFewLists, CountsLists, FindsCause, FindsNarrow};
+ghost use Rattle.pv_fresh.specs.Answers.{FindsCause, FindsNarrow};
 ghost use Rattle.pv_fresh.specs.Answers.{FindsPossible, FindsVerdicts};
 ghost use Rattle.pv_fresh.specs.Walks.{verdicts_of};
 
@@ -77,28 +77,4 @@ pub fn count_lists<L: Ledger>(count: u64, steps: &mut Steps<L>)
     for _list in 0..count {
         steps.tick();
     }
-}
-
-/// The verdicts of all lists of a document, in document order, and the path of the first Impossible
-/// one. There is none exactly where the document is potentially valid.
-///
-/// The widths of all lists come first, and take no memory but for a path. Then the rules of the
-/// grammar are laid out, once for all lists. Where there are no verdicts, no list is counted.
-pub fn check_doc<L: Ledger>(
-    alloc: Global,
-    grammar: &Grammar,
-    root: &[u8],
-    doc: &Doc,
-    steps: &mut Steps<L>,
-) -> Result<Verdicts, FreshError>
-    ensures verdicts { FindsVerdicts (dtd_of grammar.now) root.now (plain_doc doc.now) result }
-    ensures possible { FindsPossible (dtd_of grammar.now) root.now (plain_doc doc.now) result }
-    ensures narrow { FindsNarrow (dtd_of grammar.now) (plain_doc doc.now) result }
-    ensures refused { FindsCause (dtd_of grammar.now) (plain_doc doc.now) result }
-    ensures steps { CountsLists (plain_doc doc.now) steps.old steps.new result }
-    ensures few_steps { CountsFewLists (plain_doc doc.now) steps.old steps.new }
-{
-    let verdicts = find_verdicts(alloc, grammar, root, doc)?;
-    count_lists(verdicts.len(), steps);
-    Ok(verdicts)
 }

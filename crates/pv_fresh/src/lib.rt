@@ -2,18 +2,20 @@
 //!
 //! `check_doc` looks at the widths of all lists, and then finds each list's verdict, in document
 //! order (`HaveVerdicts` of pv_missing), in one step for each. A document is potentially valid
-//! exactly where none of them is Impossible; `possible_verdicts` gives its verdicts then, and counts
-//! nothing. `first_too_wide` looks at the widths alone.
+//! exactly where none of them is Impossible; `possible_verdicts` gives its verdicts then, and
+//! counts nothing. `first_too_wide` looks at the widths alone.
 #![tactic(auto)]
 
 mod check;
 mod errors;
+mod fixed;
 mod judging;
 mod possible;
 mod walk;
 mod widths;
 
-pub use check::{check_doc, count_lists};
+pub use check::count_lists;
 pub use errors::{FreshError, PossibleError};
+pub use fixed::check_doc;
 pub use possible::possible_verdicts;
 pub use widths::first_too_wide;

@@ -18,6 +18,7 @@
 
 mod columns;
 mod errors;
+mod fixed;
 mod free_content;
 mod graph;
 mod judge;
@@ -30,9 +31,10 @@ mod verdict;
 mod words;
 
 pub use errors::ReachError;
+pub use fixed::{furthest, list_verdict};
 pub use free_content::FreeContent;
 pub use judge::Judge;
 pub use plan::Plan;
-pub use reaches::{Reaches, furthest, furthest_by};
-pub use verdict::{judge_kids, judge_word, list_verdict, word_verdict};
+pub use reaches::{Reaches, furthest_by};
+pub use verdict::{judge_kids, judge_word, word_verdict};
 pub use words::{content_derives, possible};

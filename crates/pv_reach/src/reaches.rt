@@ -109,7 +109,7 @@ fn no_reaches(alloc: Global, grammar: &Grammar, word: &[Token]) -> Reaches
 }
 
 /// By the plan of a grammar, or by one that is made for this word.
-fn furthest_over(
+pub(crate) fn furthest_over(
     alloc: Global,
     grammar: &Grammar,
     plan: Option<&Plan>,
@@ -139,22 +139,8 @@ fn furthest_over(
 }
 
 /// For each site and each place of a word of productive names the furthest place to which the site
-/// has a derivation.
-///
-/// `TooWide` is asked first, and takes no memory. The table takes four bytes for each column and
-/// each place of the word, and as much for the members of sequences.
-pub fn furthest(alloc: Global, grammar: &Grammar, word: &[Token]) -> Result<Reaches, ReachError>
-    requires { AreProductiveTokens (dtd_of grammar.now) (map plain_token word.now) }
-    ensures reaches { IfOk result (λ reaches.
-        AreReaches (dtd_of grammar.now) (map plain_token word.now) reaches) }
-    ensures fits { IfOk result (λ _. FitsVerdict (dtd_of grammar.now) (length word.now)) }
-    ensures wide { IfErr result (λ e. e ≡ too_wide →
-        ¬ FitsVerdict (dtd_of grammar.now) (length word.now)) }
-{
-    furthest_over(alloc, grammar, None, word)
-}
-
-/// The same by the plan of a grammar, where its rules are laid out.
+/// has a derivation, as `furthest` finds them, by the plan of a grammar where its rules are laid
+/// out.
 pub fn furthest_by(judge: &Judge<'_>, word: &[Token]) -> Result<Reaches, ReachError>
     requires { AreProductiveTokens (dtd_of judge.now) (map plain_token word.now) }
     ensures reaches { IfOk result (λ reaches.

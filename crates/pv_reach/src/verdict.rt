@@ -24,7 +24,6 @@ ghost use Rattle.pv_reach.specs.declared.errors.ReachError.TheVariants.{TooWide 
 
 use crate::errors::ReachError;
 use crate::judge::Judge;
-use crate::plan::Plan;
 use crate::words::{content_derives, is_element};
 use pv_chars::NoMemory;
 use pv_missing::{Of, are_productive, is_narrow};
@@ -32,7 +31,6 @@ use pv_model::{ContentModel, LaidModel, NameId, Token};
 use pv_productive::Grammar;
 use pv_steps::Steps;
 use pv_tree::{Node, Verdict, word};
-use std::alloc::Global;
 use std::sync::ledger::Ledger;
 
 /// The verdict of the document node's list by its word.
@@ -197,33 +195,4 @@ pub fn word_verdict<L: Ledger>(
 {
     steps.tick();
     judge_word(judge, owner, word, is_bare)
-}
-
-/// The verdict of a list: `owner` is `None` where the DTD doesn't have the name of the element that
-/// owns it, or, for the document node, the root's name.
-///
-/// `TooWide` is asked before the verdict. A list that is valid by itself, whose owner and names are
-/// productive, takes no table. The call lays out a plan of the grammar; who asks for many verdicts
-/// lays it out once, and asks `judge_kids`. The document node's list is its root alone; of other
-/// kids with this owner nothing is said.
-pub fn list_verdict<L: Ledger>(
-    alloc: Global,
-    grammar: &Grammar,
-    owner: Option<Of>,
-    kids: &[Node],
-    steps: &mut Steps<L>,
-) -> Result<Verdict, ReachError>
-    ensures verdict { IfOk result (λ verdict. (root : List ℕ) (list : Listed Mark) →
-        list.kids ≡ forest kids.now → IsOwner (dtd_of grammar.now) root list owner →
-        HoldsOne list.owner list.kids → IsVerdict (dtd_of grammar.now) root list verdict) }
-    ensures fits { IfOk result (λ _. FitsVerdict (dtd_of grammar.now)
-        (length (word_of (dtd_of grammar.now) (forest kids.now)))) }
-    ensures wide { IfErr result (λ e. e ≡ too_wide → ¬ FitsVerdict (dtd_of grammar.now)
-        (length (word_of (dtd_of grammar.now) (forest kids.now)))) }
-    ensures steps { steps.new ≡ steps.old + 1 }
-{
-    steps.tick();
-    let plan = Plan::of(alloc, grammar)?;
-    let judge = Judge::new(alloc, grammar, &plan);
-    judge_kids(&judge, owner, kids)
 }

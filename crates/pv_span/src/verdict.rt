@@ -1,6 +1,6 @@
 //! The verdict of a list, by a chart of its live word.
 
-ghost use Rattle.std.specs.Prelude.{◌≡◌, ◌↔◌, ◌+◌, ◌<◌, ◌^◌, ℕ, IfErr, IfOk, IsTrue, List, Some};
+ghost use Rattle.std.specs.Prelude.{◌≡◌, ◌↔◌, ◌<◌, ◌^◌, IfOk, IsTrue, Some};
 ghost use Rattle.std.specs.Prelude.{length, map};
 ghost use Rattle.std.specs.Option.{option_copied, option_map};
 ghost use Rattle.pv_model.specs.Plain.{empty};
@@ -9,31 +9,20 @@ ghost use Rattle.pv_dtd.specs.Plain.{model_of};
 ghost use Rattle.pv_dtd.specs.Productive.{IsProductive};
 ghost use Rattle.pv_rules.specs.Sites.{content_site};
 ghost use Rattle.pv_productive.specs.PlainForms.{dtd_of};
-ghost use Rattle.pv_tree.specs.Lists.{Listed};
-ghost use Rattle.pv_tree.specs.PlainForms.{forest};
-ghost use Rattle.pv_tree.specs.Words.{word_of};
-ghost use Rattle.pv_tree.specs.declared.nodes.Mark.{Mark};
 ghost use Rattle.pv_missing.specs.LiveWords.{IsLiveWord};
 ghost use Rattle.pv_missing.specs.PlainForms.{plain_of};
-ghost use Rattle.pv_missing.specs.Verdicts.{IsVerdict};
 ghost use Rattle.pv_missing.specs.Widths.{FitsWeights};
-ghost use Rattle.pv_missing.specs.WordVerdicts.{HoldsOne, IsValidAt, IsVerdictByWord, MayHaveKids};
-ghost use Rattle.pv_missing.specs.Owners.{IsOwner};
-ghost use Rattle.pv_span.specs.declared.errors.SpanError.TheVariants.{TooWide as too_wide};
+ghost use Rattle.pv_missing.specs.WordVerdicts.{IsValidAt, IsVerdictByWord, MayHaveKids};
 
-use crate::errors::SpanError;
 use crate::layout::lay_out;
 use crate::membership::derives;
 use crate::owners::{ListOwner, is_known_owner};
-use crate::weighing::is_narrow;
 use pv_chars::NoMemory;
-use pv_missing::{Of, live_word};
+use pv_missing::Of;
 use pv_model::{ContentModel, LaidModel, NameId, Token};
 use pv_productive::Grammar;
-use pv_steps::Steps;
-use pv_tree::{Node, Verdict, word};
+use pv_tree::Verdict;
 use std::alloc::Global;
-use std::sync::ledger::Ledger;
 
 /// The content model of a name, where it is declared.
 fn model_in(grammar: &Grammar, id: NameId) -> Option<&LaidModel>
@@ -121,7 +110,7 @@ fn is_valid(
 
 /// The verdict of a list by its owner, its word with its live word, and whether it has no kids of
 /// any kind.
-fn judge(
+pub(crate) fn judge(
     alloc: Global,
     grammar: &Grammar,
     of: Of,
@@ -154,45 +143,4 @@ fn judge(
     } else {
         Ok(Verdict::Possible)
     }
-}
-
-/// The verdict of a list: `owner` is `None` where the DTD doesn't have the name of the element that
-/// owns it, or, for the document node, the root's name.
-///
-/// `TooWide` is asked before the verdict. The document node's list is its root alone; of other kids
-/// with this owner nothing is said.
-pub fn list_verdict<L: Ledger>(
-    alloc: Global,
-    grammar: &Grammar,
-    owner: Option<Of>,
-    kids: &[Node],
-    steps: &mut Steps<L>,
-) -> Result<Verdict, SpanError>
-    ensures verdict { IfOk result (λ verdict. (root : List ℕ) (list : Listed Mark) →
-        list.kids ≡ forest kids.now → IsOwner (dtd_of grammar.now) root list owner →
-        HoldsOne list.owner list.kids → IsVerdict (dtd_of grammar.now) root list verdict) }
-    ensures fits { IfOk result (λ _. FitsWeights (dtd_of grammar.now)
-        (length (word_of (dtd_of grammar.now) (forest kids.now)))) }
-    ensures wide { IfErr result (λ e. e ≡ too_wide → ¬ FitsWeights (dtd_of grammar.now)
-        (length (word_of (dtd_of grammar.now) (forest kids.now)))) }
-    ensures steps { steps.new ≡ steps.old + 1 }
-{
-    steps.tick();
-    let tokens = word(alloc, grammar.dtd(), kids)?;
-    if !is_narrow(grammar, tokens.as_slice().len()) {
-        return Err(SpanError::TooWide);
-    }
-    let Some(of) = owner else {
-        return Ok(Verdict::Impossible);
-    };
-    let live = live_word(alloc, grammar, kids)?;
-    let verdict = judge(
-        alloc,
-        grammar,
-        of,
-        tokens.as_slice(),
-        live.as_slice(),
-        kids.is_empty(),
-    )?;
-    Ok(verdict)
 }

@@ -13,7 +13,7 @@ ghost use Rattle.pv_span.specs.declared.errors.SpanError.TheVariants.{TooWide as
 use crate::charts::Chart;
 use crate::errors::SpanError;
 use crate::fill::chart_of;
-use crate::layout::{ColumnLayout, lay_out};
+use crate::layout::ColumnLayout;
 use crate::sites::SiteColumns;
 use pv_chars::NoMemory;
 use pv_missing::is_narrow_for_weights;
@@ -25,8 +25,8 @@ use std::alloc::Global;
 /// The weights of all sites over all spans of a word.
 #[derive(Debug, Drop)]
 pub struct Spans<'a> {
-    chart: Chart,
-    sites: SiteColumns<'a>,
+    pub(crate) chart: Chart,
+    pub(crate) sites: SiteColumns<'a>,
 }
 
 impl Spans<'_> {
@@ -100,29 +100,4 @@ pub fn weights_by<'a>(
     }
     let spans = spans_by(alloc, layout, word)?;
     Ok(spans)
-}
-
-/// The same, where the grammar isn't laid out: it is, for this word alone.
-pub fn weights(
-    alloc: Global,
-    grammar: &Grammar,
-    word: &[Token],
-) -> Result<Spans<'static>, SpanError>
-    requires productive { AreProductiveTokens (dtd_of grammar.now) (map plain_token word.now) }
-    ensures weights { IfOk result (λ spans. AreWeights (dtd_of grammar.now)
-        (map plain_token word.now) spans) }
-    ensures fits { IfOk result (λ _. FitsWeights (dtd_of grammar.now) (length word.now)) }
-    ensures wide { IfErr result (λ e. e ≡ too_wide →
-        ¬ FitsWeights (dtd_of grammar.now) (length word.now)) }
-{
-    if !is_narrow(grammar, word.len()) {
-        return Err(SpanError::TooWide);
-    }
-    let layout = lay_out(alloc, grammar)?;
-    let names = layout.grammar.dtd().names();
-    let chart = chart_of(alloc, &layout.forms, &layout.mentions, names, word)?;
-    Ok(Spans {
-        chart,
-        sites: SiteColumns::Own(layout.sites),
-    })
 }

@@ -12,11 +12,13 @@
 
 mod answers;
 mod errors;
+mod fixed;
 pub mod laws;
 mod totals;
 mod verifying;
 
 pub use answers::{Answer, Why};
 pub use errors::VerifyError;
+pub use fixed::verify;
 pub use totals::totals_agree;
-pub use verifying::{verify, verify_read};
+pub use verifying::verify_read;

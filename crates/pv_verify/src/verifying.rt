@@ -3,14 +3,12 @@
 ghost use Rattle.std.specs.Prelude.{◌↔◌, IfErr, IfOk, IsTrue, MatchOption};
 ghost use Rattle.pv_dtd.specs.Hedge.{IsValid};
 ghost use Rattle.pv_dtd.specs.PlainForms.{plain_dtd};
-ghost use Rattle.pv_tree.specs.Marks.{blank_mark};
 ghost use Rattle.pv_tree.specs.Plain.{PlainDoc};
 ghost use Rattle.pv_tree.specs.PlainDocs.{plain_doc};
 ghost use Rattle.pv_tree.specs.View.{view};
 ghost use Rattle.pv_tree.specs.declared.nodes.Mark.{Mark};
-ghost use Rattle.pv_read.specs.Meaning.{DocumentMeans, is_document};
-ghost use Rattle.pv_compare.specs.Kept.{AreMarks, IsBodyText};
-ghost use Rattle.pv_verify.specs.Answers.{IsAnswer, RefusesRead, RefusesToVerify};
+ghost use Rattle.pv_compare.specs.Kept.{IsBodyText};
+ghost use Rattle.pv_verify.specs.Answers.{IsAnswer, RefusesRead};
 ghost use Rattle.pv_verify.specs.Tests.{PassesAllTests, IsRejected};
 ghost use Rattle.pv_verify.specs.Reading.{IsMeant, IsReadBeside, IsSomeBodyText};
 
@@ -25,8 +23,8 @@ use pv_dtd::Dtd;
 use pv_dtd::laws::proper_dtd_law;
 use pv_flat::valid_events;
 use pv_missing::laws::proper::proper_doc_law;
+use pv_read::DocError;
 use pv_read::laws::{one_meaning_law, wider_limits_law};
-use pv_read::{DocError, read_doc};
 use pv_table_check::{first_wide_table, tables_closed};
 use pv_tree::{Doc, Mark};
 use std::alloc::Global;
@@ -130,26 +128,4 @@ pub fn verify_read(
         None => Ok(Answer::Accepted(pack.total)),
         Some(why) => Ok(Answer::Rejected(why)),
     }
-}
-
-/// Verifies a pack against the document that the bytes are, where the root's name is this one: it
-/// is accepted where it passes all tests, and then its body is a least completion, whoever made it;
-/// else the first test that it fails is told.
-///
-/// The document is read first, and then a table of a list past the width for weights is looked for.
-pub fn verify(
-    alloc: Global,
-    dtd: &Dtd,
-    root: &[u8],
-    doc: &[u8],
-    pack: &Pack,
-) -> Result<Answer, VerifyError>
-    ensures answers { IfOk result (λ answer. (d : PlainDoc Mark) ×
-        DocumentMeans blank_mark root.now doc.now (is_document d) ×
-        IsAnswer (plain_dtd dtd.now) root.now d pack.now answer) }
-    ensures refused { IfErr result (λ error.
-        RefusesToVerify (plain_dtd dtd.now) root.now doc.now pack.now error) }
-{
-    let document = read_doc(alloc, doc, root)?;
-    verify_read(alloc, dtd, root, &document, pack)
 }

@@ -1,7 +1,7 @@
 use Rattle.std.proofs.Common.{refl}
 use Rattle.pv_span.specs.declared.sites.SiteColumns.TheVariants.{Own}
 use Rattle.pv_span.proofs.WordWeights.{chart_weighs}
-use Rattle.pv_span.proofs.weighing.weights.Goals as goal
+use Rattle.pv_span.proofs.fixed.weights.Goals as goal
 
 pub returns-clause-weights : goal.returns-clause-weights
 returns-clause-weights c =

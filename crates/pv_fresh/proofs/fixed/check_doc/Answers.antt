@@ -3,7 +3,7 @@ use Rattle.pv_productive.specs.PlainForms.{dtd_of}
 use Rattle.pv_tree.specs.Lists.{lists_of}
 use Rattle.pv_tree.specs.PlainDocs.{plain_doc}
 use Rattle.pv_fresh.proofs.Walking.{as_many}
-use Rattle.pv_fresh.proofs.check.check_doc.Goals as goal
+use Rattle.pv_fresh.proofs.fixed.check_doc.Goals as goal
 
 pub returns-clause-steps : goal.returns-clause-steps
 returns-clause-steps g c =

@@ -5,7 +5,7 @@ use Rattle.pv_edit.specs.Changes.{doc_after}
 use Rattle.pv_edit.specs.Effects.{change_of}
 use Rattle.pv_edit.specs.Reasons.{reason_of}
 use Rattle.pv_edit.proofs.Refusing.{answered}
-use Rattle.pv_edit.proofs.shapes.shape.Goals as goal
+use Rattle.pv_edit.proofs.fixed.shape.Goals as goal
 
 pub returns : goal.returns
 returns c =

@@ -4,7 +4,7 @@ use Rattle.pv_dtd.proofs.Proper.{proper}
 use Rattle.pv_productive.specs.PlainForms.{dtd_of}
 use Rattle.pv_missing.specs.PlainForms.{plain_of}
 use Rattle.pv_span.proofs.KnownSites.{possible_site}
-use Rattle.pv_span.proofs.membership.member.Goals as goal
+use Rattle.pv_span.proofs.fixed.member.Goals as goal
 
 pub returns-then-not-is_known_owner-clause-possible : goal.returns-then-not-is_known_owner-clause-possible
 returns-then-not-is_known_owner-clause-possible g c = (

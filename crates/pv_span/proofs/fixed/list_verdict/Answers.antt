@@ -10,7 +10,7 @@ use Rattle.pv_missing.specs.Widths.{FitsWeights}
 use Rattle.pv_missing.specs.WordVerdicts.{has_no_trees}
 use Rattle.pv_missing.proofs.LiveFacts.{live_follows}
 use Rattle.pv_missing.proofs.Judging.{bare_kids, list_judged}
-use Rattle.pv_span.proofs.verdict.list_verdict.Goals as goal
+use Rattle.pv_span.proofs.fixed.list_verdict.Goals as goal
 
 pub judge-requires-clause-fits : goal.judge-requires-clause-fits
 judge-requires-clause-fits g c =
