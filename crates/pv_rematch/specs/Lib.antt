@@ -1,6 +1,6 @@
 pub mod Changes
 pub mod Counts
-pub mod Courses
+pub mod WordMatches
 pub mod Points
 pub mod States
 pub mod Stretches

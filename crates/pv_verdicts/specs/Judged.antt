@@ -1,7 +1,7 @@
 -- What is kept of a list's word, and what a change of the word makes of it.
 use Rattle.std.specs.Prelude.{IfSome, List, None, Option, Some, ℕ, ◌≡◌}
 use Rattle.pv_model.specs.Plain.{PlainModel, PlainToken}
-use Rattle.pv_rematch.specs.Courses.{IsCourse, IsTurn}
+use Rattle.pv_rematch.specs.WordMatches.{IsWordMatch, IsTurn}
 use Rattle.pv_dtd.specs.Plain.{PlainDtd, declared, model_of}
 use Rattle.pv_rules.specs.Sites.{PlainSite, content_site, name_site, part_site, rest_site}
 use Rattle.pv_verdicts.specs.Counting.{AreCounts}
@@ -11,12 +11,12 @@ use Rattle.pv_verdicts.specs.declared.judged.KeptTurn.{KeptTurn}
 use Rattle.pv_verdicts.specs.declared.judged.Turned.{Turned}
 
 -- Kept of the word of an element of this name: how many of its tokens keep it from being possible,
--- and its course under the name's content model.
+-- and its match under the name's content model.
 pub record IsKeptOf (g : PlainDtd) (x : ℕ) (w : List PlainToken) (kept : Kept) : Type 0 where
   pub counts : AreCounts g x w kept.counts
   pub model : PlainModel
   pub is_model : model_of g x ≡ Some model
-  pub course : IsCourse (declared g) model w kept.course
+  pub word_match : IsWordMatch (declared g) model w kept.word_match
 
 -- something is kept of the words of elements alone
 abbrev pub IsKeptAt : PlainDtd → Option PlainSite → List PlainToken → Kept → Type 0
@@ -30,14 +30,14 @@ IsKeptAt g (Some (rest_site q)) w kept = ⊥
 abbrev pub IsJudged : PlainDtd → Option PlainSite → List PlainToken → Judged → Type 0
 IsJudged g owner w judged = IfSome judged.kept (IsKeptAt g owner w)
 
--- the counts of the word of an element of this name, and the turn that makes of the course that was
--- kept the course of the word
+-- the counts of the word of an element of this name, and the turn that makes of the match that was
+-- kept the match of the word
 pub record IsTurnOf (g : PlainDtd) (x : ℕ) (w : List PlainToken) (kept : Kept) (turn : KeptTurn)
     : Type 0 where
   pub counts : AreCounts g x w turn.counts
   pub model : PlainModel
   pub is_model : model_of g x ≡ Some model
-  pub course : IsTurn (declared g) model w kept.course turn.turn
+  pub word_match : IsTurn (declared g) model w kept.word_match turn.turn
 
 abbrev pub IsTurnAt : PlainDtd → Option PlainSite → List PlainToken → Kept → KeptTurn → Type 0
 IsTurnAt g None w kept turn = ⊥

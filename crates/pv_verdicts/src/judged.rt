@@ -2,7 +2,7 @@
 //! change.
 
 ghost use Rattle.std.specs.Prelude.{◌≡◌, List, IfOk, IfSome, Option, map};
-ghost use Rattle.pv_rematch.specs.Courses.{IsCourse};
+ghost use Rattle.pv_rematch.specs.WordMatches.{IsWordMatch};
 ghost use Rattle.pv_dtd.specs.Plain.{PlainDtd};
 ghost use Rattle.pv_model.specs.Plain.{PlainToken};
 ghost use Rattle.pv_model.specs.PlainForms.{plain_model, plain_token};
@@ -16,7 +16,7 @@ use pv_chars::NoMemory;
 use pv_missing::{Of, is_narrow};
 use pv_model::{LaidModel, Token};
 use pv_reach::{Judge, ReachError, word_verdict};
-use pv_rematch::{Course, Turn, WordChange};
+use pv_rematch::{Turn, WordChange, WordMatch};
 use pv_steps::Steps;
 use pv_tree::Verdict;
 use std::alloc::Global;
@@ -26,7 +26,7 @@ use std::sync::ledger::Ledger;
 #[derive(Debug, Drop)]
 pub struct Kept {
     counts: Counts,
-    course: Course,
+    word_match: WordMatch,
 }
 
 /// What a change of the word makes of it.
@@ -49,17 +49,17 @@ pub struct Turned {
     kept: Option<KeptTurn>,
 }
 
-/// The course of a word under a content model.
-fn course_of(
+/// The match of a word under a content model.
+fn match_of(
     alloc: Global,
     model: &LaidModel,
     declared: u32,
     word: &[Token],
-) -> Result<Course, NoMemory>
+) -> Result<WordMatch, NoMemory>
     ensures { IfOk result
-        (IsCourse declared (plain_model model.now) (map plain_token word.now)) }
+        (IsWordMatch declared (plain_model model.now) (map plain_token word.now)) }
 {
-    Course::of(alloc, model, declared, word).map_err(|_| NoMemory)
+    WordMatch::of(alloc, model, declared, word).map_err(|_| NoMemory)
 }
 
 /// What is kept after a change, of what was kept and what the change makes of it, where there are
@@ -94,10 +94,10 @@ impl Kept {
             (IsKeptOf (dtd_of judge.now) content.now.id.0 (map plain_token word.now)) }
     {
         let declared = judge.grammar().dtd().count();
-        let course = course_of(judge.alloc(), content.model, declared, word)?;
+        let word_match = match_of(judge.alloc(), content.model, declared, word)?;
         Ok(Kept {
             counts: Counts::of(judge, content.id, word),
-            course,
+            word_match,
         })
     }
 
@@ -117,7 +117,7 @@ impl Kept {
     {
         let declared = judge.grammar().dtd().count();
         let turn = self
-            .course
+            .word_match
             .turn(judge.alloc(), content.model, declared, change)
             .map_err(|_| NoMemory)?;
         Ok(KeptTurn {
@@ -162,11 +162,11 @@ impl Kept {
         ensures { (g : PlainDtd) (x : ℕ) (w : List PlainToken) → IsTurnOf g x w self turn →
             IsKeptOf g x w result }
     {
-        let mut course = self.course;
-        course.make(turn.turn);
+        let mut word_match = self.word_match;
+        word_match.make(turn.turn);
         Kept {
             counts: turn.counts,
-            course,
+            word_match,
         }
     }
 }

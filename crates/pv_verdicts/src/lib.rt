@@ -3,7 +3,7 @@
 //!
 //! Of the word of an element's list, three things tell its verdict (`specs/Judged.antt`): how many
 //! of its tokens aren't productive, without which it is Impossible; whether the content model
-//! allows it, for which its course is kept; and, where the content is free, how many of its tokens
+//! allows it, for which its match is kept; and, where the content is free, how many of its tokens
 //! that doesn't take (`specs/Counting.antt`). All of them are told by difference of the tokens that
 //! are gone and of those that came. Only where the content isn't free and the model doesn't allow
 //! the word, a table is filled. `Judged::verdict_after` finds a verdict, as `word_verdict` of

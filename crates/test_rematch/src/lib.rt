@@ -1,5 +1,5 @@
-//! Tests of courses: words at random that change at random, each against the match of the whole
-//! word, and the walk over a particle's positions that they stand on.
+//! Tests of matches that are kept: words at random that change at random, each against the match of
+//! the whole word, and the walk over a particle's positions that they stand on.
 #![tactic(auto)]
 
 #[cfg(test)]

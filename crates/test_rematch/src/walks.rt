@@ -1,10 +1,10 @@
-//! Courses of words that change, each against the match of the whole word.
+//! Matches of words that change, each against the match of the whole word.
 
 use crate::changes::{Change, changed, random_change};
 use crate::models::{BOARDS, Board, model_of, push_tokens, with_model};
 use crate::random::Random;
 use pv_model::{LaidModel, Token};
-use pv_rematch::{Course, Turn, WordChange};
+use pv_rematch::{Turn, WordChange, WordMatch};
 use std::alloc::Global;
 use std::test::Fail;
 
@@ -34,11 +34,11 @@ struct Found {
     gone: Vec<Token>,
 }
 
-// The turn of a change tells of the word after; the course still tells of the word.
+// The turn of a change tells of the word after; the match still tells of the word.
 fn find(
     alloc: Global,
     model: &LaidModel,
-    course: &Course,
+    word_match: &WordMatch,
     word: &[Token],
     change: &Change,
 ) -> Result<Found, Fail> {
@@ -53,9 +53,9 @@ fn find(
         gone: &gone,
         came,
     };
-    let turn = course.turn(alloc, model, DECLARED, &word_change)?;
+    let turn = word_match.turn(alloc, model, DECLARED, &word_change)?;
     expect_allowed(alloc, model, &after, turn.is_allowed())?;
-    expect_allowed(alloc, model, word, course.is_allowed())?;
+    expect_allowed(alloc, model, word, word_match.is_allowed())?;
     Ok(Found { turn, after, gone })
 }
 
@@ -67,28 +67,28 @@ fn play(
     model: &LaidModel,
     mut word: Vec<Token>,
 ) -> Result<(), Fail> {
-    let mut course = Course::of(alloc, model, DECLARED, &word)?;
-    expect_allowed(alloc, model, &word, course.is_allowed())?;
+    let mut word_match = WordMatch::of(alloc, model, DECLARED, &word)?;
+    expect_allowed(alloc, model, &word, word_match.is_allowed())?;
     for _ in 0..ROUNDS {
         let change = random_change(alloc, random, board, word.len())?;
-        let found = find(alloc, model, &course, &word, &change)?;
+        let found = find(alloc, model, &word_match, &word, &change)?;
         let kind = random.below(4);
         if kind == 0 {
             continue;
         }
-        course.make(found.turn);
+        word_match.make(found.turn);
         word = found.after;
-        expect_allowed(alloc, model, &word, course.is_allowed())?;
+        expect_allowed(alloc, model, &word, word_match.is_allowed())?;
         if kind == 1 {
             let back = Change {
                 from: change.from,
                 gone: change.came.len(),
                 came: found.gone,
             };
-            let found = find(alloc, model, &course, &word, &back)?;
-            course.make(found.turn);
+            let found = find(alloc, model, &word_match, &word, &back)?;
+            word_match.make(found.turn);
             word = found.after;
-            expect_allowed(alloc, model, &word, course.is_allowed())?;
+            expect_allowed(alloc, model, &word, word_match.is_allowed())?;
         }
     }
     Ok(())
@@ -133,7 +133,7 @@ fn many_at_the_front(rt: HostRuntime) -> Result<(), Fail> {
     let dtd = with_model(alloc, "(c?, (a | b)*)")?;
     let model = model_of(&dtd)?;
     let mut word: Vec<Token> = Vec::new(alloc);
-    let mut course = Course::of(alloc, model, DECLARED, &word)?;
+    let mut word_match = WordMatch::of(alloc, model, DECLARED, &word)?;
     for number in 0..1500 {
         let mut came = Vec::new(alloc);
         push_tokens(&mut came, if number == 700 { "c" } else { "b" })?;
@@ -142,11 +142,11 @@ fn many_at_the_front(rt: HostRuntime) -> Result<(), Fail> {
             gone: 0,
             came,
         };
-        let found = find(alloc, model, &course, &word, &change)?;
+        let found = find(alloc, model, &word_match, &word, &change)?;
         if found.turn.is_allowed() != (number < 701) {
             return Err(Fail::new("allowed though `c` isn't first, or not though it is"));
         }
-        course.make(found.turn);
+        word_match.make(found.turn);
         word = found.after;
     }
     Ok(())

@@ -40,7 +40,7 @@ fn tokens(alloc: Global, random: &mut Random, names: u32) -> Result<Vec<Token>, 
 /// How often a word changes.
 const CHANGES: u32 = 24;
 
-/// So many tokens a word has at first: more than stand before the first point of a course.
+/// So many tokens a word has at first: more than stand before the first point of a match.
 const TOKENS: u32 = 100;
 
 /// A word of so many tokens.

@@ -6,5 +6,5 @@ returns c = λ g x w turn. record {
   counts = turn.counts;
   model = turn.model;
   is_model = turn.is_model;
-  course = c.make.ensures (declared g) turn.model w turn.course;
+  word_match = c.make.ensures (declared g) turn.model w turn.word_match;
 }

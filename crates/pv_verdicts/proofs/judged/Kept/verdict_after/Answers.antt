@@ -16,4 +16,4 @@ verdict_by-requires-clause-allowed c =
     let P : PlainModel → Type 0 =
     λ v. IsTrue c.is_allowed-is_allowed.result ↔ Allows (declared g) v w in
     subst P e (c.is_allowed-is_allowed.ensures (declared g) turn.model w
-    c.args.self.now.course turn.course)
+    c.args.self.now.word_match turn.word_match)

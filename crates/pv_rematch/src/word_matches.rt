@@ -1,12 +1,12 @@
-//! Courses of words, and their turns.
+//! Matches of words, and their turns.
 
 ghost use Rattle.std.specs.Prelude.{◌≡◌, ◌↔◌, ℕ, List, IsTrue, IfOk, map};
 ghost use Rattle.pv_model.specs.Models.{Allows};
 ghost use Rattle.pv_model.specs.Plain.{PlainModel, PlainToken};
 ghost use Rattle.pv_model.specs.PlainForms.{plain_model, plain_token};
 ghost use Rattle.pv_rematch.specs.Changes.{word_before};
-ghost use Rattle.pv_rematch.specs.Courses.{IsCourse, IsTurn, KeepsWord, MakesWord};
-ghost use Rattle.pv_rematch.specs.declared.courses.Course.{Course};
+ghost use Rattle.pv_rematch.specs.WordMatches.{IsWordMatch, IsTurn, KeepsWord, MakesWord};
+ghost use Rattle.pv_rematch.specs.declared.word_matches.WordMatch.{WordMatch};
 
 use crate::changes::WordChange;
 use crate::counts::{count_after, refused_count};
@@ -25,7 +25,7 @@ pub enum Kept {
 
 /// A word of a list under the content model of its owner, matched and kept.
 #[derive(Debug, Drop)]
-pub struct Course {
+pub struct WordMatch {
     kept: Kept,
 }
 
@@ -38,14 +38,14 @@ pub enum Made {
     Part(Stretch),
 }
 
-/// What a change of the word makes of its course.
+/// What a change of the word makes of its match.
 #[derive(Debug, Drop)]
 pub struct Turn {
     made: Made,
 }
 
-impl Course {
-    /// The course of a word under a model, where the names below `declared` are declared. Each
+impl WordMatch {
+    /// The match of a word under a model, where the names below `declared` are declared. Each
     /// token is matched once. It takes memory for a point at each sixteenth to sixty-fourth token,
     /// with a byte for each name and each repetition of the particle.
     pub fn of(
@@ -53,23 +53,23 @@ impl Course {
         model: &LaidModel,
         declared: u32,
         word: &[Token],
-    ) -> Result<Course, NoMemory>
+    ) -> Result<WordMatch, NoMemory>
         ensures { IfOk result
-            (IsCourse declared (plain_model model.now) (map plain_token word.now)) }
+            (IsWordMatch declared (plain_model model.now) (map plain_token word.now)) }
     {
         let kept = kept_of(alloc, model, declared, word)?;
-        Ok(Course { kept })
+        Ok(WordMatch { kept })
     }
 
     /// Whether the model allows the word.
     pub fn is_allowed(&self) -> bool
         ensures { (declared : ℕ) (m : PlainModel) (w : List PlainToken) →
-            IsCourse declared m w self.now → (IsTrue result ↔ Allows declared m w) }
+            IsWordMatch declared m w self.now → (IsTrue result ↔ Allows declared m w) }
     {
         self.kept.is_allowed()
     }
 
-    /// What becomes of the course where the word changes. The course stays as it is.
+    /// What becomes of the match where the word changes. The match stays as it is.
     ///
     /// Under a content particle the word is matched from the last point before the change up to the
     /// first one behind it where the same is reached as before; if there is none, or if no allowed
@@ -82,7 +82,7 @@ impl Course {
         change: &WordChange<'_>,
     ) -> Result<Turn, NoMemory>
         ensures { IfOk result (λ turn.
-            IsCourse declared (plain_model model.now)
+            IsWordMatch declared (plain_model model.now)
             (map plain_token (word_before change.now)) self.now →
             IsTurn declared (plain_model model.now)
             (map plain_token change.now.word.now) self.now turn) }
@@ -109,11 +109,11 @@ impl Course {
         }
     }
 
-    /// Makes a turn that `turn` found for this course. Where there is no memory for new points it
+    /// Makes a turn that `turn` found for this match. Where there is no memory for new points it
     /// keeps those before the change alone, and later turns take longer.
     pub fn make(&mut self, turn: Turn)
         ensures { (declared : ℕ) (m : PlainModel) (w : List PlainToken) →
-            IsTurn declared m w self.old turn → IsCourse declared m w self.new }
+            IsTurn declared m w self.old turn → IsWordMatch declared m w self.new }
     {
         match turn.made {
             Made::Whole(kept) => self.kept = kept,
@@ -128,8 +128,8 @@ impl Course {
 impl Turn {
     /// Whether the model allows the word after the change.
     pub fn is_allowed(&self) -> bool
-        ensures { (declared : ℕ) (m : PlainModel) (w : List PlainToken) (course : Course) →
-            IsTurn declared m w course self.now → (IsTrue result ↔ Allows declared m w) }
+        ensures { (declared : ℕ) (m : PlainModel) (w : List PlainToken) (word_match : WordMatch) →
+            IsTurn declared m w word_match self.now → (IsTrue result ↔ Allows declared m w) }
     {
         match &self.made {
             Made::Whole(kept) => kept.is_allowed(),

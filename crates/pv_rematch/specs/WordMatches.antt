@@ -3,12 +3,12 @@ use Rattle.std.specs.Prelude.{◌≡◌, ℕ, List}
 use Rattle.pv_model.specs.Plain.{PlainPart, PlainModel, children, PlainToken}
 use Rattle.pv_rematch.specs.Counts.{AreWithout, IsAllowedAlone, JudgesAlone}
 use Rattle.pv_rematch.specs.Stretches.{AreOf, ReplacesPoints}
-use Rattle.pv_rematch.specs.declared.courses.Course.{Course}
-use Rattle.pv_rematch.specs.declared.courses.Kept.{Kept}
-use Rattle.pv_rematch.specs.declared.courses.Kept.TheVariants as kept
-use Rattle.pv_rematch.specs.declared.courses.Turn.{Turn}
-use Rattle.pv_rematch.specs.declared.courses.Made.{Made}
-use Rattle.pv_rematch.specs.declared.courses.Made.TheVariants as made
+use Rattle.pv_rematch.specs.declared.word_matches.WordMatch.{WordMatch}
+use Rattle.pv_rematch.specs.declared.word_matches.Kept.{Kept}
+use Rattle.pv_rematch.specs.declared.word_matches.Kept.TheVariants as kept
+use Rattle.pv_rematch.specs.declared.word_matches.Turn.{Turn}
+use Rattle.pv_rematch.specs.declared.word_matches.Made.{Made}
+use Rattle.pv_rematch.specs.declared.word_matches.Made.TheVariants as made
 use Rattle.pv_rematch.specs.declared.stretches.Points.{Points}
 
 -- of a model that judges each token alone, the number of those that it doesn't allow; of a
@@ -18,7 +18,7 @@ KeepsWord declared m w (kept.Count n) = JudgesAlone m × AreWithout (IsAllowedAl
 KeepsWord declared m w (kept.Points ps) = (p : PlainPart) × (m ≡ children p) × AreOf p w ps
 
 -- this is kept of the word under the model, where so many names are declared
-pub record IsCourse (declared : ℕ) (m : PlainModel) (w : List PlainToken) (c : Course) : Type 0
+pub record IsWordMatch (declared : ℕ) (m : PlainModel) (w : List PlainToken) (c : WordMatch) : Type 0
   where
     pub is : KeepsWord declared m w c.kept
 
@@ -29,7 +29,7 @@ MakesWord declared m w k (made.Part s) =
     (p : PlainPart) × (ps : Points) × (m ≡ children p) × (k ≡ kept.Points ps) ×
     ReplacesPoints p w ps.items.items s
 
--- the turn makes of this course one of the word after a change
-pub record IsTurn (declared : ℕ) (m : PlainModel) (w : List PlainToken) (c : Course) (t : Turn) :
+-- the turn makes of this match one of the word after a change
+pub record IsTurn (declared : ℕ) (m : PlainModel) (w : List PlainToken) (c : WordMatch) (t : Turn) :
     Type 0 where
   pub is : MakesWord declared m w c.kept t.made

@@ -3,7 +3,7 @@ use Rattle.pv_model.specs.Plain.{PlainPart, children}
 use Rattle.pv_model.specs.PlainForms.{plain_model, plain_part, plain_token}
 use Rattle.pv_rematch.specs.Changes.{word_before}
 use Rattle.pv_rematch.specs.Stretches.{AreOf}
-use Rattle.pv_rematch.proofs.courses.Course.turn.Goals as goal
+use Rattle.pv_rematch.proofs.word_matches.WordMatch.turn.Goals as goal
 
 pub returns-in_ok-count-in-Count-default : goal.returns-in_ok-count-in-Count-default
 returns-in_ok-count-in-Count-default c = λ h.
