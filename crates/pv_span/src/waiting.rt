@@ -1,13 +1,13 @@
 //! Columns whose values fell, which wait until those that mention them are lowered.
 
-use crate::fallen::Fallen;
+use crate::radix_heap::RadixHeap;
 use pv_chars::NoMemory;
 use std::alloc::Global;
 
 /// The columns that wait, in the order of their values, with a flag for each column.
 #[derive(Debug, Drop)]
 pub struct Waiting {
-    fallen: Fallen,
+    fallen: RadixHeap,
     flags: Vec<bool>,
 }
 
@@ -26,7 +26,7 @@ impl Waiting {
         ensures { IfOk result (λ waiting. length waiting.flags.items ≡ columns) }
     {
         Ok(Waiting {
-            fallen: Fallen::new(alloc)?,
+            fallen: RadixHeap::new(alloc)?,
             flags: vec![in alloc; false; columns]?,
         })
     }
