@@ -121,7 +121,7 @@ module _ (known : LineLaws) (j m : ℕ) (most : j + suc m ≤ 20000) where
       At (state (suc j) m) after × (now ≡ drill_counts (suc j))
   section_counted s after now h r = by_third s after now (suc j % 3 == 0) refl h r
 
--- replies to lines, and to those behind them
+-- replies to lines, and to those after them
 counts_split : (s : PlainSession) (before : Counts) (lines more : List (List ℕ)) (after : PlainSession) (now : Counts) → CountsReplies s before (lines ++ more) after now →
     (middle : PlainSession) × (counts : Counts) × CountsReplies s before lines middle counts × CountsReplies middle counts more after now
 counts_split s before [] more after now r = (s, before, (refl, refl), r)

@@ -32,7 +32,7 @@ DrillsBegin = (n : ℕ) → IsDrillSize n → (session : PlainSession) ×
     (drill_stage n).Opens session 0
 
 -- Whoever answers the lines of a drill, in the session that its document begins, gets these counts,
--- and each third section is open behind them.
+-- and each third section is open after them.
 abbrev pub CountsByFormula : Type 0
 CountsByFormula = (n fetches : ℕ) (session after : PlainSession) (counts : Counts)
     (open_lists : ℕ) → IsDrillSize n →

@@ -97,7 +97,7 @@ section_spelled k most = (
   ap (λ r. codes "<sec>t" ++ r) (sym (ends_by (decimal k) (codes "</") (codes "sec") (codes ">"))),
 )
 
--- the texts of so many sections behind section number k
+-- the texts of so many sections after section number k
 abbrev ahead_text : ℕ → ℕ → List ℕ
 ahead_text k zero = []
 ahead_text k (suc m) = section_text (suc k) ++ ahead_text (suc k) m

@@ -151,7 +151,7 @@ record Declarations : Type 0 where
 abbrev ended : Declarations
 ended = record { items = []; text = codes "\n"; spelled = refl }
 
--- one more declaration in front, behind this white space
+-- one more declaration in front, after this white space
 abbrev declared_first : (space x spec : List ℕ) (model : NamedModel) → list_all is_space space ≡ true → IsName x → SpellsModel model spec → Declarations → Declarations
 declared_first space x spec model blank named is more = record {
   items = element x model ∷ more.items;

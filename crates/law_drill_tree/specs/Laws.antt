@@ -40,7 +40,7 @@ BrCannotStand = (front back : List Section) (k : ℕ) →
     IsPotentiallyValid sections_dtd (codes "doc")
     (view (root_tree (with_around (codes "br") front k back))) → ⊥
 
--- The text of the section behind so many others and the head can be put into an element.
+-- The text of the section after so many others and the head can be put into an element.
 abbrev pub TextsCanBeWrapped : Type 0
 TextsCanBeWrapped = (name : List ℕ) (front back : List Section) (k : ℕ) → IsTrue (is_name name) →
     edit_outcome tt (drill_doc (trees front ++ bare_section k ∷ trees back))

@@ -60,7 +60,7 @@ marked_doc ts = record {
 abbrev pub with_around : List ℕ → List Section → ℕ → List Section → List (Tree Unit)
 with_around name front k back = trees front ++ section_around name k ∷ trees back
 
--- so many sections behind section number k, as they were
+-- so many sections after section number k, as they were
 abbrev pub ahead : ℕ → ℕ → List Section
 ahead k zero = []
 ahead k (suc m) = bare (suc k) ∷ ahead (suc k) m

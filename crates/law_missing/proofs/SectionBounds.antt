@@ -46,7 +46,7 @@ doc_bound n y w ne p k least = let c = doc_case n y w ne (opened sections_dtd 0 
 first_number : (y z : ℕ) (w w' : List PlainToken) → named y ∷ w ≡ named z ∷ w' → y ≡ z
 first_number y z w w' e = cc
 
--- secs with an em, or with a title behind a paragraph
+-- secs with an em, or with a title after a paragraph
 not_p : (y z : ℕ) → IsParagraphOrList y → y ≡ z → (z ≡ 4 → ⊥) → (z ≡ 7 → ⊥) → ⊥
 not_p y z (inl f) i a b = a (sym i ∙ f)
 not_p y z (inr f) i a b = b (sym i ∙ f)
@@ -149,7 +149,7 @@ no_late_head n p =
     let z = q.1.0 in omega (arith, z))) in
     omega (arith, l)
 
--- the text behind a head, in secs
+-- the text after a head, in secs
 no_first_text : (w : List PlainToken) (ws : List ℕ) → map named ws ≡ text ∷ w → ⊥
 no_first_text w [] e = cc
 no_first_text w (y ∷ ws) e = cc

@@ -54,7 +54,7 @@ LiveWords =
 abbrev pub HelloRow : Type 0
 HelloRow = NeedsWith sections_dtd (codes "doc") hello (verdict.Valid ∷ verdict.Possible ∷ []) 2
 
--- a text behind a head misses a sec and a title or p in it
+-- a text after a head misses a sec and a title or p in it
 abbrev pub HeadTextRow : Type 0
 HeadTextRow = NeedsWith sections_dtd (codes "doc") head_then_text
     (verdict.Valid ∷ verdict.Possible ∷ verdict.Valid ∷ []) 2

@@ -19,7 +19,7 @@ pub fn text_alone_law()
     ensures { HelloRow }
 {}
 
-/// `<doc><head>He</head>llo</doc>` misses a sec and a title or p round the text behind the head.
+/// `<doc><head>He</head>llo</doc>` misses a sec and a title or p round the text after the head.
 pub fn text_behind_head_law()
     ensures { HeadTextRow }
 {}

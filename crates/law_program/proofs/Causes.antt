@@ -179,7 +179,7 @@ told_by_input P course out (responded s is ends) at =
 told_by_input P course out (out_of_memory ends) at =
     let here = ap (λ (c : Course). c.ending) ends in cc
 
--- a run over a stage ends at a fault of the shelf only where the stage does or what comes behind
+-- a run over a stage ends at a fault of the shelf only where the stage does or what comes after
 -- it, and at one of the input only where that does
 behind_shelf : {X : Type 0} (stage : Stage X) (Goes : X → Course → Type 0) (course : Course) →
     ((k : ℕ) → stage.Faults k → ⊥) →

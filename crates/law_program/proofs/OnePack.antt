@@ -62,7 +62,7 @@ first_before e es x a (k, lt, h) =
 behind : (e : Entry) (es : List Entry) → AllPairs Precedes (e ∷ es) → AllPairs Precedes es
 behind e es a i j d lt below = a (suc i) (suc j) d (omega arith) (omega arith)
 
--- what stands behind an entry isn't that entry
+-- what stands after an entry isn't that entry
 not_again : (e x : Entry) (es : List Entry) → AllPairs Precedes (e ∷ es) → Contains es x → e ≡ x → ⊥
 not_again e x es a m same =
     let p = first_before e es x a m in

@@ -234,7 +234,7 @@ responds_by P course r (responded s is ends) at =
     subst P (ending_is course.ending s r (ap (λ (c : Course). c.ending) ends) at) is
 responds_by P course r (out_of_memory ends) at = let here = ap (λ (c : Course). c.ending) ends in cc
 
--- a run over a stage whose refusals have a cause, and behind which responses have one
+-- a run over a stage whose refusals have a cause, and after which responses have one
 pub behind_by : {X : Type 0} (stage : Stage X) (Goes : X → Course → Type 0)
     (P : PlainResponse → Type 0) (course : Course) (r : PlainResponse) →
     ((s : PlainResponse) (k : ℕ) → stage.Refuses s k → P s) →

@@ -6,12 +6,12 @@ use Rattle.std.proofs.lemmas.List.Elements.{Contains-push}
 use Rattle.pv_bounds.specs.Windows.{AreFalling, TellsEnd}
 use Rattle.pv_bounds.specs.declared.windows.Stretch.{Stretch}
 
--- the first of the records begin behind a place
+-- the first of the records begin after a place
 abbrev pub BeginBehind : List Stretch → ℕ → ℕ → Type 0
 BeginBehind rs place n = (m : ℕ) (d : Stretch) → m < n → place < (get_or rs m d).place
 
 module _ (rs : List Stretch) (falls : AreFalling rs) (place : ℕ) where
-  -- all up to one that begins behind the place do
+  -- all up to one that begins after the place do
   pub behind_more : (middle : ℕ) (r : Stretch) → middle < length rs → place < (get_or rs middle r).place → BeginBehind rs place (middle + 1)
   behind_more middle r lt p m d l =
       let f = (falls m middle d (omega arith) lt).0 in

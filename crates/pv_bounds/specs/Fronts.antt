@@ -30,11 +30,11 @@ reaches_of (Some row) c = reaches_in row c
 abbrev pub reaches_at : List Row → ℕ → ℕ → List Reach
 reaches_at rows c i = reaches_of (slice_get rows i) c
 
--- the cost of a reach where it ends at place j or behind it, cut
+-- the cost of a reach where it ends at place j or after it, cut
 abbrev pub cost_up_to : ℕ → Reach → ℕ
 cost_up_to j r = if nat_le j r.end then min heaviest r.cost else heaviest
 
--- the least cost of a reach that ends at place j or behind it, cut
+-- the least cost of a reach that ends at place j or after it, cut
 abbrev pub least_to : ℕ → List Reach → ℕ
 least_to j [] = heaviest
 least_to j (r ∷ rs) = min (cost_up_to j r) (least_to j rs)

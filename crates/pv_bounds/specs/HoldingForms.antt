@@ -28,7 +28,7 @@ module _ (w : List PlainToken) (E : ℕ → ℕ) (L : ℕ → ℕ → ℕ → �
   abbrev pub CutsHold : ℕ → ℕ → Type 0
   CutsHold d e = (k j : ℕ) → i < k → k < length w → L c i j ≤ L d i k + L e k j
 
-  -- it costs no more than itself behind a text
+  -- it costs no more than itself after a text
   abbrev pub TextsHold : Type 0
   TextsHold = slice_get w i ≡ Some text →
       (L c i (suc i) ≤ E c) × ((j : ℕ) → L c i j ≤ L c (suc i) j)

@@ -1,4 +1,4 @@
--- Windows: what a column reaches from the places of a word behind one, by as few records as tell it.
+-- Windows: what a column reaches from the places of a word after one, by as few records as tell it.
 use Rattle.std.specs.Prelude.{List, length, slice_index_or, ℕ, ◌<◌, ◌≤◌}
 use Rattle.std.specs.List.{All, Contains}
 use Rattle.pv_bounds.specs.Fronts.{reaches_at}
@@ -13,7 +13,7 @@ AreFalling rs = (a b : ℕ) (d : Stretch) → a ≤ b → b < length rs →
     ((slice_index_or rs b d).place ≤ (slice_index_or rs a d).place) ×
     ((slice_index_or rs b d).end ≤ (slice_index_or rs a d).end)
 
--- one of the records begins at place k or before it, and ends at this end or behind it
+-- one of the records begins at place k or before it, and ends at this end or after it
 abbrev pub TellsEnd : List Stretch → ℕ → ℕ → Type 0
 TellsEnd rs k end = (x : Stretch) × Contains rs x × (x.place ≤ k) × (end ≤ x.end)
 

@@ -53,7 +53,7 @@ fn members_hold(claim: &Claim<'_>, column: u32, members: &[u32], place: u32) -> 
     true
 }
 
-// Whether a column among which texts stand costs no more than itself behind a text.
+// Whether a column among which texts stand costs no more than itself after a text.
 fn texts_hold(claim: &Claim<'_>, column: u32, place: u32) -> bool
     requires { place < claim.now.tokens }
     ensures { IsTrue result → TextsHold (map plain_token claim.now.word.now)
@@ -80,7 +80,7 @@ fn star_holds(claim: &Claim<'_>, column: u32, one: u32, texts: bool, place: u32)
         && costs_no_more(claim, column, one, claim.fronts.empty_at(column), place)
 }
 
-// A column with one, and another behind it.
+// A column with one, and another after it.
 fn two_hold(claim: &Claim<'_>, column: u32, one: u32, two: u32, place: u32) -> bool
     ensures { IsTrue result → ColumnHolds (map plain_token claim.now.word.now)
         (empty_cost claim.now.fronts.now.empty.items) (cost_from claim.now.fronts.now)

@@ -5,7 +5,7 @@ ghost use Rattle.pv_bounds.specs.Fronts.{least_to};
 
 use crate::fronts::{Reach, least_to};
 
-/// Whether one of the reaches ends at a place or behind it, at no more than a cost and so much.
+/// Whether one of the reaches ends at a place or after it, at no more than a cost and so much.
 #[inline(always)]
 pub fn is_within(ones: &[Reach], end: u32, extra: u32, cost: u32) -> bool
     ensures { IsTrue result ↔ (least_to end ones.now ≤ extra + cost) }

@@ -1,4 +1,4 @@
-//! Whether columns cost no more than one column and another behind it.
+//! Whether columns cost no more than one column and another after it.
 
 ghost use Rattle.std.specs.Prelude.{◌≡◌, ◌≤◌, ◌+◌, ◌<◌, ℕ, IfOk, IsTrue, length, map, suc};
 ghost use Rattle.pv_model.specs.PlainForms.{plain_token};
@@ -26,7 +26,7 @@ struct Ones<'a> {
 }
 
 // Whether a column, whose reaches these are, costs no more than a reach at the same place, and
-// behind it a second column as one level tells of it.
+// after it a second column as one level tells of it.
 fn level_holds(ones: &Ones<'_>, first: Reach, level: &Level) -> bool
     requires { AreFalling level.now.records.items }
     ensures { IsTrue result → (k e : ℕ) → k ≤ first.end →
@@ -58,7 +58,7 @@ fn levels_hold(ones: &Ones<'_>, first: Reach, levels: &[Level]) -> bool
 }
 
 // Whether a column costs no more over the tokens from a place than a first one, and a second one
-// behind it, of which these levels tell at all places behind this one.
+// after it, of which these levels tell at all places after this one.
 fn cuts_at(claim: &Claim<'_>, column: u32, first: u32, levels: &[Level], place: u32) -> bool
     requires { AllFalling levels.now }
     ensures { IsTrue result → (e : ℕ) → IsWindow claim.now.fronts.now.rows.items e (suc place)
@@ -81,7 +81,7 @@ fn cuts_at(claim: &Claim<'_>, column: u32, first: u32, levels: &[Level], place: 
     true
 }
 
-// Whether a column costs no more than a first one, and a second one behind it that has tokens too,
+// Whether a column costs no more than a first one, and a second one after it that has tokens too,
 // over the tokens from all places, the last place first.
 fn cuts_hold(
     alloc: Global,

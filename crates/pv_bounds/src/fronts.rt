@@ -38,7 +38,7 @@ pub struct Fronts {
 }
 
 impl Reach {
-    /// The cost of a reach where it ends at a place or behind it, and else 1,000,001.
+    /// The cost of a reach where it ends at a place or after it, and else 1,000,001.
     #[inline(always)]
     fn cost_up_to(&self, place: u32) -> u32
         ensures { result ≡ cost_up_to place self.now }
@@ -51,7 +51,7 @@ impl Reach {
     }
 }
 
-/// The least cost of a reach that ends at a place or behind it, or 1,000,001 where none does.
+/// The least cost of a reach that ends at a place or after it, or 1,000,001 where none does.
 pub fn least_to(reaches: &[Reach], place: u32) -> u32
     ensures { result ≡ least_to place reaches.now }
 {

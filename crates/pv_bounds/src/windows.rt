@@ -1,4 +1,4 @@
-//! Windows: what a column reaches from the places behind one, by as few records as tell it.
+//! Windows: what a column reaches from the places after one, by as few records as tell it.
 
 ghost use Rattle.std.specs.Prelude.{◌≡◌, ◌≤◌, ◌<◌, ◌-◌, ℕ, IfOk, IsTrue, MatchOption};
 ghost use Rattle.std.specs.Prelude.{length, slice_index_or};
@@ -11,7 +11,7 @@ use crate::fronts::Reach;
 use pv_chars::NoMemory;
 use std::alloc::Global;
 
-/// Reaches that begin at a place or behind it end at a place or before it.
+/// Reaches that begin at a place or after it end at a place or before it.
 #[derive(Clone, Copy, Debug)]
 pub struct Stretch {
     pub place: u32,
@@ -25,7 +25,7 @@ pub struct Level {
     pub records: Vec<Stretch>,
 }
 
-// How many of the records, the first ones, begin behind a place.
+// How many of the records, the first ones, begin after a place.
 fn beginning_behind(records: &[Stretch], place: u32) -> usize
     requires { AreFalling records.now }
     ensures within { result ≤ length records.now }
@@ -83,7 +83,7 @@ pub fn end_by(records: &[Stretch], place: u32) -> bool
     records.is_empty() || records[0].end <= place
 }
 
-// How many of the records, the first ones, end behind a place.
+// How many of the records, the first ones, end after a place.
 fn ending_behind(records: &[Stretch], end: u32) -> usize
     ensures within { result ≤ length records.now }
     ensures last { (d : Stretch) → 0 < result →

@@ -52,7 +52,7 @@ module _ (g : PlainDtd) (root : List ℕ) (vs : List Verdict) where
       IsJudged g root owner kids v
   judged owner kids v j n = record { judged = j; narrow = n }
 
-  -- what is left of the verdicts behind a tree
+  -- what is left of the verdicts after a tree
   abbrev Behind : List (Listed Mark) → ℕ → Type 0
   Behind more at = AreVerdicts g root more (drop at vs)
 

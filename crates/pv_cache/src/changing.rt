@@ -169,7 +169,7 @@ impl WellMarked {
     /// document is left.
     ///
     /// The changed lists get the stamp; their number is given. The tokens are kept, which are those
-    /// of the list after the change, and a long word of it is remembered behind the grammar.
+    /// of the list after the change, and a long word of it is remembered beside the grammar.
     pub(crate) fn make_judged(
         &mut self,
         task: Task,

@@ -88,7 +88,7 @@ impl WellMarked {
         Some(Again { from, gone, came })
     }
 
-    /// Remembers the word of the list whose tokens are kept, which has this owner, behind the
+    /// Remembers the word of the list whose tokens are kept, which has this owner, after the
     /// grammar.
     pub(crate) fn remember_kept(&mut self, owner: Option<Of>, again: Option<Again>)
         ensures marked { plain_marked self.new ≡ plain_marked self.old }

@@ -22,7 +22,7 @@ fn nth_verdict(verdicts: &Verdicts, number: u64) -> Verdict
     }
 }
 
-// Marks the lists of a subtree by the verdicts from this number on, and gives the number behind
+// Marks the lists of a subtree by the verdicts from this number on, and gives the number after
 // them.
 #[cycle(lay)]
 fn lay_node(node: &mut Node, verdicts: &Verdicts, number: u64) -> u64

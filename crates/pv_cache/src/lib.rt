@@ -11,7 +11,7 @@
 //! again, at the changed lists and above them. The changed lists get the stamp of the move, and
 //! all others keep theirs (`IsEdited`, `IsReverted` in specs/Moves.antt). The tokens of the list
 //! that was changed last are kept, so that the next edit in it looks up the names alone of what
-//! comes; and behind the grammar a long word that was judged last is remembered, so that the next
+//! comes; and beside the grammar a long word that was judged last is remembered, so that the next
 //! one is judged by where it differs.
 #![tactic(auto)]
 

@@ -39,7 +39,7 @@ pub(crate) struct Mend {
     pub stamp: u64,
 }
 
-/// Where a change puts other kids into a list: behind the first `from` and before the last `behind`
+/// Where a change puts other kids into a list: after the first `from` and before the last `behind`
 /// of its kids, which stay. Of those that give way `gone` was told.
 #[derive(Clone, Copy, Debug)]
 pub(crate) struct Exchange {

@@ -82,7 +82,7 @@ fn is_before(last: &LastWord, word: &[Token], again: Again) -> bool {
     last.count() == left.saturating_add(again.gone)
 }
 
-// What is kept behind the last word, of a list with the same owner. Where that is the word of this
+// What is kept after the last word, of a list with the same owner. Where that is the word of this
 // very list before the change, as its length tells, the change is made in it, and no more is gone
 // over.
 fn behind(

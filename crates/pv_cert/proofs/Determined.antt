@@ -45,7 +45,7 @@ entry-kind (name_site n) x = refl
 entry-kind (part_site n) x = refl
 entry-kind (rest_site n) x = refl
 
--- the words of an entry behind its kind
+-- the words of an entry after its kind
 abbrev behind_kind : Entry → List ℕ
 behind_kind e = decimal (site_number (plain_site e.site)) ++ (32 ∷ span_text e)
 
@@ -59,7 +59,7 @@ kind-told (entry_line e) x =
     ap kind_by (feed-behind (words (entry_words e)) x ∙ append_assoc (kind_word (plain_site e.site)) (32 ∷ behind_kind e) (10 ∷ x)) ∙ entry-kind (plain_site e.site) (behind_kind e ++ (10 ∷ x))
 kind-told end_line x = refl
 
--- one line, and what stands behind it
+-- one line, and what stands after it
 pub record SameLine (l m : PackLine) (x y : List ℕ) : Type 0 where
   pub lines : l ≡ m
   pub rests : x ≡ y

@@ -50,7 +50,7 @@ one-value bytes from to value rest i j v more one other =
 
 -- ---- a whole entry
 
--- what stands behind the number of an entry
+-- what stands after the number of an entry
 abbrev behind_number : Entry → List ℕ → List ℕ
 behind_number e rest = decimal e.from ++ (32 ∷ (decimal e.to ++ (32 ∷ (decimal e.value ++ (10 ∷ rest)))))
 
@@ -122,7 +122,7 @@ value-past letter n behind more from to value after number span past e rest b =
     let one = one-value more from to value after e.from e.to e.value rest span (rw same.rests p.span) in
     omega (arith, one, past, p.value)
 
--- what stands behind is shorter
+-- what stands after is shorter
 pub behind-shorter : (bytes : List ℕ) (e : Entry) (rest : List ℕ) → Begins bytes (entry_line e) rest → length rest < length bytes
 behind-shorter bytes e rest b =
     let all : bytes ≡ words (entry_words e) ++ (10 ∷ rest) = b.whole ∙ append_assoc (words (entry_words e)) (10 ∷ []) rest in

@@ -27,11 +27,11 @@ one-span-and-value bytes from to value i j v one other =
     let second = one-number-before (decimal to ++ (32 ∷ decimal value)) to j (decimal value) (decimal v) record { within = one.is_to; whole = refl } record { within = other.is_to; whole = first.rests } in
     record { froms = first.numbers; tos = second.numbers; values = same-decimal value v one.is_value other.is_value second.rests }
 
--- what stands behind the number of an entry
+-- what stands after the number of an entry
 abbrev pub span_text : Entry → List ℕ
 span_text e = words (decimal e.from ∷ decimal e.to ∷ decimal e.value ∷ [])
 
--- the letter of an entry's kind, and what stands behind it
+-- the letter of an entry's kind, and what stands after it
 pub record HasLetter (line : List ℕ) (e : Entry) : Type 0 where
   pub letter : ℕ
   pub is_kind : IsKind letter e.site

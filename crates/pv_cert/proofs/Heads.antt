@@ -66,7 +66,7 @@ head-stands bytes rest k ms more b after s t begins =
     stand-more None bytes (version_line ∷ total_line k ∷ map mark_line ms) more (body_line b) after (marks-stand bytes rest k ms more s t)
     record { may_follow = (behind-marks k ms).forth (body_line b) tt; begins = begins }
 
--- the head and what stands behind it
+-- the head and what stands after it
 head-last : (k : ℕ) (ms b : List ℕ) → last_line None (head_lines k ms b) ≡ Some (body_line b)
 head-last k ms b = last-append (Some (total_line k)) (map mark_line ms) (body_line b ∷ [])
 

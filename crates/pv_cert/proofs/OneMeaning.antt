@@ -13,7 +13,7 @@ use Rattle.pv_cert.proofs.Determined.{same-line}
 use Rattle.pv_cert.proofs.Stands.{entries-append, entries-of-marks, last-append}
 use Rattle.pv_cert.proofs.TableLines.{entries-in-lines}
 
--- some lines are others, with more behind them
+-- some lines are others, with more after them
 record Continues (xs ys : List PackLine) : Type 0 where
   pub more : List PackLine
   pub is : xs ≡ ys ++ more
@@ -21,7 +21,7 @@ record Continues (xs ys : List PackLine) : Type 0 where
 behind-first : (before : Option PackLine) (bytes : List ℕ) (y : PackLine) (ys : List PackLine) (more : List ℕ) → Stand before bytes (y ∷ ys) more → bytes ≡ line_text y ++ (lines_text ys ++ more)
 behind-first before bytes y ys more t = t.whole ∙ append_assoc (line_text y) (lines_text ys) more
 
--- where no line stands behind some lines, other lines at the front are the first of them
+-- where no line stands after some lines, other lines at the front are the first of them
 longest : (before : Option PackLine) (bytes : List ℕ) (xs : List PackLine) (rest : List ℕ) (ys : List PackLine) (more : List ℕ) → length bytes ≤ MAX_PACK_BYTES →
     Stand before bytes xs rest → StandsNone (last_line before xs) rest → Stand before bytes ys more → Continues xs ys
 longest before bytes xs rest [] more few s none t = record { more = xs; is = refl }
@@ -36,7 +36,7 @@ longest before bytes (x ∷ xs) rest (y ∷ ys) more few s none t =
     record { are_lines = s.are_lines.2; whole = refl } none record { are_lines = rw same.lines t.are_lines.2; whole = same.rests } in
     record { more = below.more; is = λ i. same.lines i ∷ below.is i }
 
--- as many lines as stand at the front, and what stands behind them
+-- as many lines as stand at the front, and what stands after them
 record IsRun (bytes : List ℕ) (lines : List PackLine) (rest : List ℕ) : Type 0 where
   pub stand : Stand None bytes lines rest
   pub none : StandsNone (last_line None lines) rest
@@ -84,7 +84,7 @@ pack-run bytes pack t few = record {
 fault-run : (bytes : List ℕ) (k : ℕ) (f : IsFaulty bytes k) → IsRun bytes f.lines f.rest
 fault-run bytes k f = record { stand = f.stand; none = f.none; within = f.within }
 
--- marks, and the body behind them, by their lines
+-- marks, and the body after them, by their lines
 record SameHeads (ms ns : List ℕ) (b c : List ℕ) (x y : List PackLine) : Type 0 where
   pub marks : ms ≡ ns
   pub bodies : b ≡ c
@@ -100,7 +100,7 @@ same-heads (m ∷ ms) (n ∷ ns) b c x y e =
     let below = same-heads ms ns b c x y others in
     record { marks = λ i. first i ∷ below.marks i; bodies = below.bodies; rests = below.rests }
 
--- the entries of a table, and the tables behind it, by their lines
+-- the entries of a table, and the tables after it, by their lines
 record SameEntries (es fs : List Entry) (ts us : List Table) : Type 0 where
   pub entries : es ≡ fs
   pub rests : table_lines ts ≡ table_lines us

@@ -1,4 +1,4 @@
--- Lines behind lines.
+-- Lines after lines.
 use Rattle.std.proofs.Common.{◌≡◌, ℕ, ◌+◌, List, [], ◌∷◌, ◌++◌, map, length, refl, sym, ap, ◌∙◌, append_assoc, append-nil, arith, Option, Some, None}
 use Rattle.std.proofs.lemmas.List.{map-append}
 use Rattle.pv_tables.specs.declared.tables.Entry.{Entry}
@@ -57,7 +57,7 @@ pub stand-more : (before : Option PackLine) (bytes : List ℕ) (xs : List PackLi
     Stand before bytes (xs ++ line ∷ []) more
 stand-more before bytes xs rest line more s t = stand-append before bytes xs rest (line ∷ []) more s (stand-one (last_line before xs) rest line more t)
 
--- behind this line, these may stand: a mark or the body
+-- after this line, these may stand: a mark or the body
 pub record IsMarkPlace (before : Option PackLine) : Type 0 where
   pub back : (line : PackLine) → MayFollow before line → IsMarkOrBody line
   pub forth : (line : PackLine) → IsMarkOrBody line → MayFollow before line
@@ -72,7 +72,7 @@ behind-marks-by before (m ∷ ms) p = behind-marks-by (Some (mark_line m)) ms re
 pub behind-marks : (k : ℕ) (ms : List ℕ) → IsMarkPlace (last_line (Some (total_line k)) (map mark_line ms))
 behind-marks k ms = behind-marks-by (Some (total_line k)) ms (behind-total k)
 
--- a mark more is read behind a total
+-- a mark more is read after a total
 pub marks-more : (bytes : List ℕ) (ms : List ℕ) (rest : List ℕ) (m : ℕ) (more : List ℕ) → ((k : ℕ) → Stand (Some (total_line k)) bytes (map mark_line ms) rest) → Begins rest (mark_line m) more →
     (k : ℕ) → Stand (Some (total_line k)) bytes (map mark_line (ms ++ m ∷ [])) more
 marks-more bytes ms rest m more s b k =

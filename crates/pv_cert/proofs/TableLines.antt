@@ -1,4 +1,4 @@
--- Tables behind a body.
+-- Tables after a body.
 use Rattle.std.proofs.Common.{◌≡◌, ◌≤◌, ◌<◌, ℕ, ◌+◌, List, [], ◌∷◌, ◌++◌, map, length, refl, sym, ap, ◌∙◌, append_assoc, append-nil, arith, Option, Some, None, MatchOption}
 use Rattle.std.proofs.lemmas.List.{length-append, length-map, map-append}
 use Rattle.pv_tables.specs.Tables.{entries_in, most_entries}
@@ -13,7 +13,7 @@ use Rattle.pv_cert.specs.declared.errors.PackError.{PackError}
 use Rattle.pv_cert.specs.declared.errors.PackError.TheVariants.{Limit, NoMemory, Syntax}
 use Rattle.pv_cert.proofs.Stands.{entries-append, entries-of, last-append, stand-append, stand-more, stand-none}
 
--- behind this line may stand the head of a table, the end, and some entries
+-- after this line may stand the head of a table, the end, and some entries
 pub record IsTablePlace (before : Option PackLine) : Type 0 where
   pub back : (line : PackLine) → MayFollow before line → IsOfTables (λ e. MayFollow before (entry_line e)) line
   pub head : (path : List ℕ) → MayFollow before (list_line path)
@@ -47,7 +47,7 @@ no-line-of-tables before rest p l e n (list_line path) more s = l path more s.be
 no-line-of-tables before rest p l e n (entry_line f) more s = e f more s
 no-line-of-tables before rest p l e n end_line more s = n more s.begins
 
--- an entry may stand behind the line before it
+-- an entry may stand after the line before it
 pub may-follow : (path : List ℕ) (last : Option Entry) (e : Entry) → Follows last e → MayFollow (line_before path last) (entry_line e)
 may-follow path None e f = tt
 may-follow path (Some d) e f = f
@@ -83,7 +83,7 @@ entries-full bytes es last rest e more most h s full = record { es = es; e = e; 
 pub entries-taken : (bytes : List ℕ) (es : List Entry) (last : Option Entry) (rest : List ℕ) → HaveRead bytes es last rest → ((path : List ℕ) → StandsNoEntry (line_before path last) rest) → TakesEntries bytes es rest
 entries-taken bytes es last rest h none = record { stand = h.stand; none = λ path. rw (h.is_last path) (none path) }
 
--- the tables read so far behind a body
+-- the tables read so far after a body
 pub record TablesRead (bytes : List ℕ) (ts : List Table) (rest : List ℕ) : Type 0 where
   pub stand : (b : List ℕ) → Stand (Some (body_line b)) bytes (table_lines ts) rest
   pub none : (b : List ℕ) → StandsNoEntry (last_line (Some (body_line b)) (table_lines ts)) rest
@@ -110,7 +110,7 @@ pub entries-in-more : (ts : List Table) (t : Table) → entries_in (ts ++ t ∷ 
 entries-in-more [] t = omega arith
 entries-in-more (u ∷ ts) t = omega (arith, entries-in-more ts t)
 
--- the head of a table, and what stands behind it
+-- the head of a table, and what stands after it
 head-stands : (b : List ℕ) (bytes : List ℕ) (ts : List Table) (rest : List ℕ) (path : List ℕ) (after : List ℕ) → TablesRead bytes ts rest → Begins rest (list_line path) after →
     Stand (Some (body_line b)) bytes (table_lines ts ++ list_line path ∷ []) after
 head-stands b bytes ts rest path after h l =
@@ -119,7 +119,7 @@ head-stands b bytes ts rest path after h l =
 head-last : (b : List ℕ) (ts : List Table) (path : List ℕ) → last_line (Some (body_line b)) (table_lines ts ++ list_line path ∷ []) ≡ Some (list_line path)
 head-last b ts path = last-append (Some (body_line b)) (table_lines ts) (list_line path ∷ [])
 
--- lines that stand behind the head of a table stand behind the body with it
+-- lines that stand after the head of a table stand after the body with it
 behind-head : (b : List ℕ) (bytes : List ℕ) (ts : List Table) (rest : List ℕ) (path : List ℕ) (after : List ℕ) (ls : List PackLine) (more : List ℕ) → TablesRead bytes ts rest → Begins rest (list_line path) after →
     Stand (Some (list_line path)) after ls more → Stand (Some (body_line b)) bytes (table_lines ts ++ list_line path ∷ ls) more
 behind-head b bytes ts rest path after ls more h l s =
@@ -193,7 +193,7 @@ no-end first bytes ts rest k h l e few is b = record {
 pub table-number : (ts : List Table) (t : Table) → length (table_lines (ts ++ t ∷ [])) ≡ length (table_lines ts) + (1 + length t.entries)
 table-number ts t = omega (arith, ap length (lines-more ts t), length-append (table_lines ts) (lines_of_table t), length-map t.entries entry_line)
 
--- the entries behind the head of a table are refused, and so what stands behind the body
+-- the entries after the head of a table are refused, and so what stands after the body
 pub entries-refused : (first : ℕ) (bytes : List ℕ) (ts : List Table) (rest : List ℕ) (path : List ℕ) (after : List ℕ) (most : ℕ) (error : PackError) → TablesRead bytes ts rest → Begins rest (list_line path) after →
     most + entries_in ts ≡ most_entries → RefusesEntries after most error → RefusesTables first bytes error
 entries-refused first bytes ts rest path after most (Syntax k) h l all r = absurd r

@@ -8,7 +8,7 @@ use Rattle.pv_tables.specs.declared.tables.Entry.{Entry}
 use Rattle.pv_cert.specs.Lines.{IsEntryInRange, IsInRange, PackLine, entry_words}
 use Rattle.pv_cert.specs.Lines.{kind_word, line_text}
 
--- This line stands at the front, with this behind it, and its numbers are in range.
+-- This line stands at the front, with this after it, and its numbers are in range.
 pub record Begins (bytes : List ℕ) (line : PackLine) (rest : List ℕ) : Type 0 where
   pub in_range : IsInRange line
   pub whole : bytes ≡ line_text line ++ rest
@@ -29,7 +29,7 @@ pub record AreSpanAndValue (bytes : List ℕ) (from to value : ℕ) : Type 0 whe
   pub whole : bytes ≡ words (decimal from ∷ decimal to ∷ decimal value ∷ [])
 
 -- A span and a value stand at the front, three numbers with blanks between, then a LF, and this
--- behind it.
+-- after it.
 pub record IsSpanThen (bytes : List ℕ) (from to value : ℕ) (rest : List ℕ) : Type 0 where
   pub is_from : from ≤ MAX_NUMBER
   pub is_to : to ≤ MAX_NUMBER

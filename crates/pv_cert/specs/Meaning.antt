@@ -26,19 +26,19 @@ entries_among (list_line path ∷ lines) = entries_among lines
 entries_among (entry_line e ∷ lines) = suc (entries_among lines)
 entries_among (end_line ∷ lines) = entries_among lines
 
--- These lines, which may stand behind this one, stand at the front, and this behind them.
+-- These lines, which may stand after this one, stand at the front, and this after them.
 pub record Stand (before : Option PackLine) (bytes : List ℕ) (lines : List PackLine)
     (rest : List ℕ) : Type 0 where
   pub are_lines : AreLines before lines
   pub whole : bytes ≡ lines_text lines ++ rest
 
--- The line stands at the front, with this behind it, and may stand behind this one.
+-- The line stands at the front, with this after it, and may stand after this one.
 pub record Stands (before : Option PackLine) (bytes : List ℕ) (line : PackLine) (rest : List ℕ)
     : Type 0 where
   pub may_follow : MayFollow before line
   pub begins : Begins bytes line rest
 
--- no line stands at the front that may stand behind this one
+-- no line stands at the front that may stand after this one
 abbrev pub StandsNone : Option PackLine → List ℕ → Type 0
 StandsNone before bytes = (line : PackLine) (rest : List ℕ) → Stands before bytes line rest → ⊥
 
@@ -65,7 +65,7 @@ pub record HasTooMany (bytes : List ℕ) : Type 0 where
   pub stand : Stand None bytes (lines ++ entry_line e ∷ []) rest
   pub full : entries_among lines ≡ most_entries
 
--- a pack; a fault behind so many whole lines; or past a limit
+-- a pack; a fault after so many whole lines; or past a limit
 pub data Outcome : Type 0 where
   is_pack : (pack : Pack) → Outcome
   is_fault : (k : ℕ) → Outcome

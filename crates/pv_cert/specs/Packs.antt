@@ -44,7 +44,7 @@ IsOfTables MayStand (list_line path) = Unit {0}
 IsOfTables MayStand (entry_line e) = MayStand e
 IsOfTables MayStand end_line = Unit {0}
 
--- The line may stand behind this one, or at the start of a pack where there is none: the version,
+-- The line may stand after this one, or at the start of a pack where there is none: the version,
 -- the total, any number of marks, the body, then tables, and the end. The entries of a table
 -- ascend strictly by kind, number and span.
 abbrev pub MayFollow : Option PackLine → PackLine → Type 0
@@ -57,13 +57,13 @@ MayFollow (Some (list_line path)) line = IsOfTables (λ e. Unit {0}) line
 MayFollow (Some (entry_line e)) line = IsOfTables (Precedes e) line
 MayFollow (Some end_line) line = ⊥
 
--- each line is in range and may stand behind the one before it, the first one behind this
+-- each line is in range and may stand after the one before it, the first one after this
 abbrev pub AreLines : Option PackLine → List PackLine → Type 0
 AreLines before [] = Unit {0}
 AreLines before (line ∷ lines) =
     MayFollow before line × IsInRange line × AreLines (Some line) lines
 
--- the last of some lines behind this one
+-- the last of some lines after this one
 abbrev pub last_line : Option PackLine → List PackLine → Option PackLine
 last_line before [] = before
 last_line before (line ∷ lines) = last_line (Some line) lines

@@ -1,4 +1,4 @@
--- The parts of a pack, one behind the other, and what is at fault in them.
+-- The parts of a pack, one after the other, and what is at fault in them.
 use Rattle.std.specs.Prelude.{◌≡◌, ◌≤◌, ◌+◌, ◌-◌, ℕ, List, [], ◌∷◌, ◌++◌, drop, length, map}
 use Rattle.std.specs.Prelude.{None, Option, Some, take}
 use Rattle.pv_tables.specs.Tables.{Precedes, entries_in, most_entries}
@@ -14,7 +14,7 @@ use Rattle.pv_cert.specs.declared.packs.Pack.{Pack}
 use Rattle.pv_cert.specs.declared.errors.PackError.{PackError}
 use Rattle.pv_cert.specs.declared.errors.PackError.TheVariants.{Limit, NoMemory, Syntax}
 
--- no entry stands at the front that may stand behind this line
+-- no entry stands at the front that may stand after this line
 abbrev pub StandsNoEntry : Option PackLine → List ℕ → Type 0
 StandsNoEntry before bytes =
     (e : Entry) (rest : List ℕ) → Stands before bytes (entry_line e) rest → ⊥
@@ -24,18 +24,18 @@ abbrev pub line_before : List ℕ → Option Entry → Option PackLine
 line_before path None = Some (list_line path)
 line_before path (Some e) = Some (entry_line e)
 
--- the entry may stand behind the last one of its table, or at its head
+-- the entry may stand after the last one of its table, or at its head
 abbrev pub Follows : Option Entry → Entry → Type 0
 Follows None e = Unit {0}
 Follows (Some last) e = Precedes last e
 
--- As many entries as stand at the front behind the head of a table are these.
+-- As many entries as stand at the front after the head of a table are these.
 pub record TakesEntries (bytes : List ℕ) (es : List Entry) (rest : List ℕ) : Type 0 where
   pub stand : (path : List ℕ) → Stand (Some (list_line path)) bytes (map entry_line es) rest
   pub none : (path : List ℕ) →
       StandsNoEntry (last_line (Some (list_line path)) (map entry_line es)) rest
 
--- One entry more than so many stands at the front behind the head of a table.
+-- One entry more than so many stands at the front after the head of a table.
 pub record HasEntryBeyond (bytes : List ℕ) (most : ℕ) : Type 0 where
   pub es : List Entry
   pub e : Entry
@@ -44,13 +44,13 @@ pub record HasEntryBeyond (bytes : List ℕ) (most : ℕ) : Type 0 where
       Stand (Some (list_line path)) bytes (map entry_line es ++ entry_line e ∷ []) rest
   pub full : length es ≡ most
 
--- what the error tells of the entries behind the head of a table, which may be so many
+-- what the error tells of the entries after the head of a table, which may be so many
 abbrev pub RefusesEntries : List ℕ → ℕ → PackError → Type 0
 RefusesEntries bytes most (Syntax k) = ⊥
 RefusesEntries bytes most Limit = HasEntryBeyond bytes most
 RefusesEntries bytes most NoMemory = Unit {0}
 
--- Behind this line, where so many stand before it, the fault is behind so many.
+-- After this line, where so many stand before it, the fault is after so many.
 pub record IsFaultyBehind (before : Option PackLine) (first : ℕ) (bytes : List ℕ) (k : ℕ)
     : Type 0 where
   pub lines : List PackLine
@@ -69,13 +69,13 @@ pub record HasTooManyBehind (before : Option PackLine) (bytes : List ℕ) : Type
   pub stand : Stand before bytes (lines ++ entry_line e ∷ []) rest
   pub full : entries_among lines ≡ most_entries
 
--- The tables and the end of the pack stand behind a body, and nothing behind them.
+-- The tables and the end of the pack stand after a body, and nothing after them.
 pub record EndsWithTables (bytes : List ℕ) (ts : List Table) : Type 0 where
   pub stand : (before : List ℕ) →
       Stand (Some (body_line before)) bytes (table_lines ts ++ end_line ∷ []) []
   pub few : entries_in ts ≤ most_entries
 
--- what the error tells of what stands behind a body, behind so many lines
+-- what the error tells of what stands after a body, after so many lines
 abbrev pub RefusesTables : ℕ → List ℕ → PackError → Type 0
 RefusesTables first bytes (Syntax k) = (before : List ℕ) →
     IsFaultyBehind (Some (body_line before)) first bytes k
@@ -83,7 +83,7 @@ RefusesTables first bytes Limit = (before : List ℕ) →
     HasTooManyBehind (Some (body_line before)) bytes
 RefusesTables first bytes NoMemory = Unit {0}
 
--- As many marks as stand at the front behind a total are these.
+-- As many marks as stand at the front after a total are these.
 pub record TakesMarks (bytes : List ℕ) (ms : List ℕ) (rest : List ℕ) : Type 0 where
   pub stand : (k : ℕ) → Stand (Some (total_line k)) bytes (map mark_line ms) rest
   pub none : BeginsNone mark_line rest

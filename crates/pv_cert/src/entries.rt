@@ -13,7 +13,7 @@ use pv_rules::{MAX_MISSING, Site};
 use pv_tables::Entry;
 use pv_words::{last_number, next_number};
 
-// Where a span begins and ends, and a value, before a LF, and what stands behind that.
+// Where a span begins and ends, and a value, before a LF, and what stands after that.
 fn span_and_value(bytes: &[u8]) -> Option<(u32, u32, u32, &[u8])>
     ensures { MatchOption result
         ((from to value : ℕ) (rest : List ℕ) → IsSpanThen bytes.now from to value rest → ⊥)
@@ -39,7 +39,7 @@ pub fn site_of(letter: u8, number: u32) -> Option<Site>
     }
 }
 
-/// The letter before a blank at the front, and what stands behind the blank.
+/// The letter before a blank at the front, and what stands after the blank.
 pub fn letter_at(line: &[u8]) -> Option<(u8, &[u8])>
     ensures { MatchOption result
         ((letter : ℕ) (rest : List ℕ) → line.now ≢ letter ∷ 32 ∷ rest)
@@ -51,7 +51,7 @@ pub fn letter_at(line: &[u8]) -> Option<(u8, &[u8])>
     }
 }
 
-/// The entry at the front, and what stands behind it.
+/// The entry at the front, and what stands after it.
 pub fn entry_at(bytes: &[u8]) -> Option<(Entry, &[u8])>
     ensures entry { MatchOption result (BeginsNone entry_line bytes.now)
         (λ r. Begins bytes.now (entry_line r.0) r.1.now) }

@@ -1,6 +1,6 @@
 //! Packs as text: a least completion, with the tables that show it to be least.
 //!
-//! A pack text is lines, each of which may stand behind the one before it (`specs/Lines.antt`,
+//! A pack text is lines, each of which may stand after the one before it (`specs/Lines.antt`,
 //! `specs/Packs.antt`). `write_pack` writes the text of a pack. `take_pack` gives the pack that
 //! bytes are the text of, or the first line at fault, or tells that a limit is passed: what bytes
 //! mean (`PackMeans`, `specs/Meaning.antt`), which is one thing only, as `laws` says. What its

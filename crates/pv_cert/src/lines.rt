@@ -13,7 +13,7 @@ use pv_tree::Path;
 use pv_words::{line_of, number_line_at, written_path};
 use std::alloc::Global;
 
-/// What stands behind the version at the front.
+/// What stands after the version at the front.
 pub fn version_at(bytes: &[u8]) -> Option<&[u8]>
     ensures { MatchOption result (BeginsNot version_line bytes.now)
         (λ r. Begins bytes.now version_line r.now) }
@@ -21,7 +21,7 @@ pub fn version_at(bytes: &[u8]) -> Option<&[u8]>
     after_bytes(b"pvpack 1\n", bytes)
 }
 
-/// The total at the front, and what stands behind it.
+/// The total at the front, and what stands after it.
 pub fn total_at(bytes: &[u8]) -> Option<(u32, &[u8])>
     ensures { MatchOption result (BeginsNone total_line bytes.now)
         (λ r. Begins bytes.now (total_line r.0) r.1.now) }
@@ -29,7 +29,7 @@ pub fn total_at(bytes: &[u8]) -> Option<(u32, &[u8])>
     number_line_at(b"total ", MAX_MISSING, bytes)
 }
 
-/// The mark at the front, and what stands behind it.
+/// The mark at the front, and what stands after it.
 pub fn mark_at(bytes: &[u8]) -> Option<(u32, &[u8])>
     ensures mark { MatchOption result (BeginsNone mark_line bytes.now)
         (λ r. Begins bytes.now (mark_line r.0) r.1.now) }
@@ -38,7 +38,7 @@ pub fn mark_at(bytes: &[u8]) -> Option<(u32, &[u8])>
     number_line_at(b"mark ", u32::MAX, bytes)
 }
 
-/// The body at the front, and what stands behind it.
+/// The body at the front, and what stands after it.
 pub fn body_at(bytes: &[u8]) -> Option<(&[u8], &[u8])>
     requires { length bytes.now ≤ MAX_BYTES }
     ensures { MatchOption result (BeginsNone body_line bytes.now)
@@ -54,7 +54,7 @@ pub fn body_at(bytes: &[u8]) -> Option<(&[u8], &[u8])>
     Some((body, after))
 }
 
-/// The path of the table that begins at the front, and what stands behind that line.
+/// The path of the table that begins at the front, and what stands after that line.
 pub fn list_at(alloc: Global, bytes: &[u8]) -> Result<Option<(Path, &[u8])>, NoMemory>
     ensures list { IfOk result (λ found. MatchOption found (BeginsNone list_line bytes.now)
         (λ r. Begins bytes.now (list_line r.0) r.1.now)) }
@@ -69,7 +69,7 @@ pub fn list_at(alloc: Global, bytes: &[u8]) -> Result<Option<(Path, &[u8])>, NoM
     }
 }
 
-/// What stands behind the end at the front.
+/// What stands after the end at the front.
 pub fn end_at(bytes: &[u8]) -> Option<&[u8]>
     ensures { MatchOption result (BeginsNot end_line bytes.now)
         (λ r. Begins bytes.now end_line r.now) }

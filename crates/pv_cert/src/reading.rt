@@ -15,7 +15,7 @@ use pv_chars::{List, NoMemory};
 use pv_tables::Table;
 use std::alloc::Global;
 
-// The marks at the front, and what stands behind them.
+// The marks at the front, and what stands after them.
 fn read_marks(alloc: Global, bytes: &[u8]) -> Result<(Vec<u32>, &[u8]), NoMemory>
     ensures read { IfOk result (λ r. TakesMarks bytes.now r.0.items r.1.now) }
     ensures within { IfOk result (λ r. length r.1.now + length r.0.items ≤ length bytes.now) }
@@ -29,7 +29,7 @@ fn read_marks(alloc: Global, bytes: &[u8]) -> Result<(Vec<u32>, &[u8]), NoMemory
     Ok((marks, rest))
 }
 
-// The total behind the version, and what stands behind it.
+// The total after the version, and what stands after it.
 fn read_total(bytes: &[u8]) -> Result<(u32, &[u8]), PackError>
     ensures read { IfOk result (λ r.
         Stand None bytes.now (version_line ∷ total_line r.0 ∷ []) r.1.now) }
@@ -45,7 +45,7 @@ fn read_total(bytes: &[u8]) -> Result<(u32, &[u8]), PackError>
     Ok((total, rest))
 }
 
-// A pack up to its body, and what stands behind that.
+// A pack up to its body, and what stands after that.
 #[derive(Drop)]
 struct Head<'a> {
     total: u32,

@@ -15,7 +15,7 @@ use pv_chars::List;
 use pv_tables::{Entry, MAX_ENTRIES, Table, precedes};
 use std::alloc::Global;
 
-// Whether an entry may stand behind the last one of its table, or at its head.
+// Whether an entry may stand after the last one of its table, or at its head.
 fn follows(last: Option<Entry>, next: &Entry) -> bool
     ensures { IsTrue result ↔ Follows last next.now }
 {
@@ -25,7 +25,7 @@ fn follows(last: Option<Entry>, next: &Entry) -> bool
     }
 }
 
-// The entry at the front that may stand behind the last one of a table, and what stands behind it.
+// The entry at the front that may stand after the last one of a table, and what stands after it.
 fn next_entry(last: Option<Entry>, bytes: &[u8]) -> Option<(Entry, &[u8])>
     ensures entry { (path : List ℕ) → MatchOption result
         (StandsNoEntry (line_before path last) bytes.now)
@@ -39,7 +39,7 @@ fn next_entry(last: Option<Entry>, bytes: &[u8]) -> Option<(Entry, &[u8])>
     Some((next, rest))
 }
 
-// The entries at the front, at most so many, behind the head of a table, and what stands behind
+// The entries at the front, at most so many, after the head of a table, and what stands after
 // them.
 fn read_entries(alloc: Global, bytes: &[u8], most: usize) -> Result<(Vec<Entry>, &[u8]), PackError>
     ensures read { IfOk result (λ r. TakesEntries bytes.now r.0.items r.1.now) }
@@ -61,7 +61,7 @@ fn read_entries(alloc: Global, bytes: &[u8], most: usize) -> Result<(Vec<Entry>,
     Ok((entries, rest))
 }
 
-/// The tables behind the body of a pack, up to its end, where so many lines stand before them.
+/// The tables after the body of a pack, up to its end, where so many lines stand before them.
 pub fn read_tables(alloc: Global, bytes: &[u8], first: u64) -> Result<Vec<Table>, PackError>
     requires { first + length bytes.now < 2 ^ 64 }
     ensures read { IfOk result (λ tables. EndsWithTables bytes.now tables.items) }

@@ -23,7 +23,7 @@ no_space_by p none b false false false false e f g h white = cc
 pub no_space : (p : ℕ → Bool) → HasNoSpace p → (b : ℕ) → is_space b ≡ true → p b ≡ false
 no_space p none b white = no_space_by p none b (b == 32) (b == 9) (b == 13) (b == 10) refl refl refl refl white
 
--- what begins no text doesn't begin it behind space either
+-- what begins no text doesn't begin it after space either
 pub begins_behind : (p : ℕ → Bool) → HasNoSpace p → (space rest : List ℕ) → IsOptionalSpace space → begins p rest ≡ false → begins p (space ++ rest) ≡ false
 begins_behind p none [] rest s e = e
 begins_behind p none (b ∷ bs) rest s e = no_space p none b (and_parts (is_space b) (list_all is_space bs) s).0

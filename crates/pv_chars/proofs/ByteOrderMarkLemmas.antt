@@ -1,4 +1,4 @@
--- The byte order mark of a text: it has one, or none, and what stands behind it is one only.
+-- The byte order mark of a text: it has one, or none, and what stands after it is one only.
 use Rattle.std.proofs.Common.{◌≡◌, ℕ, List, [], Option, Some, None, refl, sym, ap, ◌∙◌}
 use Rattle.pv_chars.specs.Scan.{after_bytes}
 use Rattle.pv_chars.specs.ByteOrderMark.{BYTE_ORDER_MARK, TakesByteOrderMark, marked, unmarked, IsBehindByteOrderMark}
@@ -31,6 +31,6 @@ behind bytes None is = (
   ),
 )
 
--- something stands behind it
+-- something stands after it
 pub some_behind : (bytes : List ℕ) → (rest : List ℕ) × IsBehindByteOrderMark bytes rest
 some_behind bytes = behind bytes (after_bytes BYTE_ORDER_MARK bytes) refl

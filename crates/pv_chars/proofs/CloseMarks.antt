@@ -90,7 +90,7 @@ pub units_some : (units : List (List ℕ)) → AllUnits units → units ≢ [] �
 units_some [] all some none = some refl
 units_some (u ∷ us) all some none = let own = unit_bytes u all.0 in let e = ap (λ l. l ++ joined us) (sym own.whole) ∙ none in absurd cc
 
--- `]` stands behind bytes of which none is one
+-- `]` stands after bytes of which none is one
 behind : (front rest before more : List ℕ) → has_no_bracket front ≡ true → front ++ rest ≡ before ++ (93 ∷ more) → (left : List ℕ) × (rest ≡ left ++ (93 ∷ more))
 behind [] rest before more none e = (before, e)
 behind (b ∷ bs) rest [] more none e =
@@ -154,7 +154,7 @@ begins_bytes (a ∷ b ∷ c ∷ units) e =
     let inner = and_parts (bytes_eq a (codes "]")) (bytes_eq b (codes "]")) outer.0 in
     (joined units, rw ((bytes_eq-Decides a (codes "]")).0 inner.0, (bytes_eq-Decides b (codes "]")).0 inner.1, (bytes_eq-Decides c (codes ">")).0 outer.1) refl)
 
--- units that hold it do so at the front, or behind the first
+-- units that hold it do so at the front, or after the first
 held_from : (u : List ℕ) (us : List (List ℕ)) (begins : Bool) → begins_close_mark (u ∷ us) ≡ begins → (begins || holds_close_mark us) ≡ true → (holds_close_mark us ≡ true → ContainsBytes (joined us) (codes "]]>")) → ContainsBytes (u ++ joined us) (codes "]]>")
 held_from u us true is e below = let found = begins_bytes (u ∷ us) is in record { before = []; after = found.0; whole = found.1 }
 held_from u us false is e below =

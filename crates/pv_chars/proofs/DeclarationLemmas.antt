@@ -37,7 +37,7 @@ one_encoding bytes rest more a b = same_part_of (codes "encoding") bytes IsEncNa
 pub one_standalone : IsOnly IsStandaloneDecl
 one_standalone bytes rest more a b = same_part_of (codes "standalone") bytes IsYesOrNo (λ none. cc) refl rest more a b
 
--- ---- the first byte behind white space tells which part comes next
+-- ---- the first byte after white space tells which part comes next
 first_of : List ℕ → Option ℕ
 first_of [] = None
 first_of (b ∷ bs) = Some b
@@ -72,7 +72,7 @@ optional_passes : (IsItem : List ℕ → Type 0) (bytes item rest : List ℕ) �
 optional_passes IsItem bytes item rest e (inl none) absent = let same : rest ≡ bytes = sym (e ∙ ap (λ l. l ++ rest) none) in inr (subst (BeginsNone IsItem) same absent, same)
 optional_passes IsItem bytes item rest e (inr is) absent = inl record { item = item; is_item = is; whole = e }
 
--- what comes next behind one
+-- what comes next after one
 optional_next : (x : ℕ) (word bytes item rest : List ℕ) (IsValue : List ℕ → Type 0) → is_space x ≡ false → bytes ≡ item ++ rest → IsOptional (IsPartOf (x ∷ word) IsValue) item → (next bytes ≡ Some x) ⊎ (next bytes ≡ next rest)
 optional_next x word bytes item rest IsValue black e (inl none) = inr (ap next (e ∙ ap (λ l. l ++ rest) none))
 optional_next x word bytes item rest IsValue black e (inr is) = inl (part_next x word bytes rest IsValue black record { item = item; is_item = is; whole = e })

@@ -1,4 +1,4 @@
--- Where a delimiter stands, by places and by what is before it and behind it.
+-- Where a delimiter stands, by places and by what is before it and after it.
 use Rattle.std.proofs.Common.{◌≡◌, ℕ, ◌+◌, ◌<◌, ◌≤◌, ⊎_elim, List, ◌++◌, length, take, drop, get_or, refl, sym, ap, ◌∙◌, arith, length-append}
 use Rattle.std.proofs.lemmas.List.{take_at, drop_at, take-append-drop, drop-drop, get_or_append_left, get_or-append-add, length-take}
 use Rattle.std.proofs.lemmas.Bool.{cases_lt}
@@ -34,7 +34,7 @@ ends_where delimiter bytes k occurs none = record {
       omega (arith, length-take k bytes);
 }
 
--- before and behind are determined
+-- before and after are determined
 pub same_end : (delimiter bytes before after other more : List ℕ) → EndsAt delimiter bytes before after → EndsAt delimiter bytes other more → (before ≡ other) × (after ≡ more)
 same_end delimiter bytes before after other more a b =
     let less = a.first other more b.whole in

@@ -1,4 +1,4 @@
--- A delimiter behind a text that doesn't hold it stands there for the first time, if it can't begin inside the text and end behind it.
+-- A delimiter after a text that doesn't hold it stands there for the first time, if it can't begin inside the text and end after it.
 use Rattle.std.proofs.Common.{◌≡◌, ℕ, ◌+◌, ◌<◌, ◌≤◌, ⊎_elim, List, [], ◌∷◌, ◌++◌, length, refl, sym, ap, ◌∙◌, arith, length-append}
 use Rattle.std.proofs.lemmas.Bool.{cases_lt}
 use Rattle.pv_chars.specs.Fronts.{ContainsBytes, EndsAt}
@@ -23,7 +23,7 @@ overlap (x ∷ xs) t (y ∷ ys) zs e less =
 abbrev pub HasNoBorder : List ℕ → Type 0
 HasNoBorder part = (m n o : List ℕ) → part ≡ m ++ n → part ≡ n ++ o → 0 < length m → 0 < length n → ⊥
 
--- The delimiter begins inside the text and ends behind it.
+-- The delimiter begins inside the text and ends after it.
 pub record Straddles (part text : List ℕ) : Type 0 where
   pub before : List ℕ
   pub inside : List ℕ

@@ -17,7 +17,7 @@ use Rattle.pv_chars.proofs.Delimited.{same_end}
 use Rattle.pv_chars.proofs.Delimiting.{ends_behind, by_no_border, two_have_no_border}
 use Rattle.pv_chars.proofs.MarkupLemmas.{behind, none_before_end}
 
--- ---- what stands behind a target
+-- ---- what stands after a target
 pub spaced_by : (b : ℕ) (text : List ℕ) → is_space b ≡ true → IsChars text → IsSpacedChars (b ∷ text)
 spaced_by b text white chars = record { space = b ∷ []; text = text; is_space = record { some = λ none. cc; space = and_from (is_space b) true white refl }; are_chars = chars; whole = refl }
 

@@ -8,7 +8,7 @@ use Rattle.pv_chars.specs.Markup.{IsComment, IsCdata}
 use Rattle.pv_chars.proofs.Delimited.{same_end}
 use Rattle.pv_chars.proofs.Delimiting.{Straddles, ends_behind, by_no_border, three_have_no_border}
 
--- what stands behind one front is one only
+-- what stands after one front is one only
 pub behind : (front a b : List ℕ) → front ++ a ≡ front ++ b → a ≡ b
 behind front a b e = sym (drop_at front a (length front) refl) ∙ ap (drop (length front)) e ∙ drop_at front b (length front) refl
 

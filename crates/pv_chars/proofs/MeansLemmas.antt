@@ -311,7 +311,7 @@ module _ (bytes rest : List ℕ) (all n : ℕ) (is : IsCut bytes all) (behind : 
     pub back_view : units_in items ≡ drop n (units_in bytes)
     back_view = ap units_in same ∙ behind_view
 
--- ---- a byte that is a unit whatever stands behind it
+-- ---- a byte that is a unit whatever stands after it
 pub lone_unit : (bytes rest : List ℕ) (b : ℕ) → bytes ≡ b ∷ rest → is_lone b ≡ true → BeginsSomeUnit bytes rest
 lone_unit bytes rest b e is =
     let parts = and_parts (is_simple b) (not (b == 93)) is in

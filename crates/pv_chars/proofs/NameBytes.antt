@@ -125,7 +125,7 @@ no_name_char rest ends c more pass whole = by (encode c) refl (char_bytes c pass
         let no : is_name_byte b ≡ false = rw front at ends in
         cc
 
--- what stands behind all characters that pass
+-- what stands after all characters that pass
 behind_by : (test : ℕ → Bool) → PassScalars test → (bytes : List ℕ) (more : List ℕ → List ℕ) (o : Option (ℕ × List ℕ)) → char_at bytes ≡ o → ((c : ℕ) (rest : List ℕ) → length rest < length bytes → TakesChars test rest (more rest)) → TakesChars test bytes (behind_char test more bytes o)
 behind_by test scalars bytes more None is below = record { front = []; are_all = none_in_nothing test; whole = refl; ends = ends_at_none test bytes scalars (λ c rest b. let some = char_at-encode c rest b.scalar in let at = ap char_at b.whole in cc) }
 behind_by test scalars bytes more (Some x) is below = passes (test x.0) refl

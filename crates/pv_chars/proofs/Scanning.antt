@@ -21,7 +21,7 @@ after_step : (b : ℕ) (bs : List ℕ) (white : Bool) → drop (space_length bs)
 after_step b bs true below = rw add-one below
 after_step b bs false below = refl
 
--- what stands behind as many bytes as are white space
+-- what stands after as many bytes as are white space
 pub drop_space : (bytes : List ℕ) → drop (space_length bytes) bytes ≡ after_space bytes
 drop_space [] = refl
 drop_space (b ∷ bs) = after_step b bs (is_space b) (drop_space bs)
@@ -75,7 +75,7 @@ space_front (b ∷ bs) = front_step b bs (is_space b) refl (space_front bs)
 pub space_ends : (bytes : List ℕ) → begins is_space (drop (space_length bytes) bytes) ≡ false
 space_ends bytes = rw (drop_space bytes) (after_space_takes bytes).ends
 
--- a white byte, and what stands after the white space behind it
+-- a white byte, and what stands after the white space after it
 pub blank_where : (bytes more rest : List ℕ) (b : ℕ) → bytes ≡ b ∷ more → is_space b ≡ true → TakesSpace more rest → TakesBlank bytes rest
 blank_where bytes more rest b e white taken = record { space = b ∷ taken.space; some = record { some = λ none. cc; space = rw white taken.optional }; whole = e ∙ ap (λ l. b ∷ l) taken.whole; ends = taken.ends }
 

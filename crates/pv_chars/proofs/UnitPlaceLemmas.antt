@@ -1,4 +1,4 @@
--- Where units begin: behind a run without `&` as many as bytes of it continue no character, and behind a reference one.
+-- Where units begin: after a run without `&` as many as bytes of it continue no character, and after a reference one.
 use Rattle.std.proofs.Common.{◌≡◌, ◌≢◌, ℕ, zero, suc, ◌+◌, ◌-◌, ◌<◌, ◌≤◌, ◌⊎◌, inl, inr, List, [], ◌∷◌, ◌++◌, Bool, true, false, ◌==◌, not, length, take, drop, refl, sym, ap, ◌∙◌, arith, add-one, append_assoc, length-append}
 use Rattle.std.proofs.lemmas.Bool.{and_parts, and_from, not-true, ne_eqb}
 use Rattle.std.proofs.lemmas.List.{append-nil, take-append-drop, drop-drop, length-take, length-drop}
@@ -72,7 +72,7 @@ pub front_all : (bytes : List ℕ) → (ContainsBytes bytes (38 ∷ []) → ⊥)
 front_all bytes none = record { rest = []; whole = sym (append-nil bytes); has_no_ampersand = nowhere_lacks 38 bytes none; ends = inl refl }
 
 -- ---- a reference
--- the units behind the reference that bytes are in
+-- the units after the reference that bytes are in
 abbrev pub behind_open : List ℕ → List (List ℕ)
 behind_open bytes = (cut_units true bytes).1
 

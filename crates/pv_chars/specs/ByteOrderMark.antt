@@ -5,13 +5,13 @@ use Rattle.std.specs.Prelude.{◌≡◌, ℕ, List, [], ◌∷◌, ◌++◌}
 abbrev pub BYTE_ORDER_MARK : List ℕ
 BYTE_ORDER_MARK = 239 ∷ 187 ∷ 191 ∷ []
 
--- The byte order mark of a text, or nothing where it has none, and what stands behind it.
+-- The byte order mark of a text, or nothing where it has none, and what stands after it.
 pub data TakesByteOrderMark (bytes : List ℕ) : (mark rest : List ℕ) → Type 0 where
   marked : {rest : List ℕ} → bytes ≡ BYTE_ORDER_MARK ++ rest →
       TakesByteOrderMark bytes BYTE_ORDER_MARK rest
   unmarked : ((rest : List ℕ) → bytes ≡ BYTE_ORDER_MARK ++ rest → ⊥) →
       TakesByteOrderMark bytes [] bytes
 
--- what stands behind the byte order mark of a text, where it has one
+-- what stands after the byte order mark of a text, where it has one
 abbrev pub IsBehindByteOrderMark : List ℕ → List ℕ → Type 0
 IsBehindByteOrderMark bytes rest = (mark : List ℕ) × TakesByteOrderMark bytes mark rest

@@ -15,7 +15,7 @@ abbrev pub behind_char : (ℕ → Bool) → (List ℕ → List ℕ) → List ℕ
 behind_char test more bytes None = bytes
 behind_char test more bytes (Some c) = if test c.0 then more c.1 else bytes
 
--- what stands behind the characters at the front that pass the test, in at most so many steps
+-- what stands after the characters at the front that pass the test, in at most so many steps
 unfoldable pub behind_all : (ℕ → Bool) → ℕ → List ℕ → List ℕ
 behind_all test zero bytes = bytes
 behind_all test (suc steps) bytes = behind_char test (behind_all test steps) bytes (char_at bytes)
@@ -48,7 +48,7 @@ unfoldable pub up_to : List ℕ → List ℕ → Option (List ℕ × List ℕ)
 up_to delimiter [] = None
 up_to delimiter (b ∷ bs) = up_to_by b (up_to delimiter bs) (after_bytes delimiter (b ∷ bs))
 
--- what stands behind the comment in front
+-- what stands after the comment in front
 unfoldable pub comment_at : List ℕ → Option (List ℕ)
 comment_at bytes = do
   inside ← after_bytes (codes "<!--") bytes
@@ -63,7 +63,7 @@ may_follow_target (b ∷ bs) = is_space b && is_chars bs
 abbrev pub is_xml : List ℕ → Bool
 is_xml target = bytes_eq (map to_ascii_lowercase target) (codes "xml")
 
--- what stands behind the processing instruction in front
+-- what stands after the processing instruction in front
 unfoldable pub instruction_at : List ℕ → Option (List ℕ)
 instruction_at bytes = do
   start ← after_bytes (codes "<?") bytes
@@ -112,7 +112,7 @@ abbrev pub ended_at : List ℕ → List ℕ → Option (List ℕ)
 ended_at start end =
     if nat_eq (length end) (length start) then None else after_bytes (codes "?>") (after_space end)
 
--- what stands behind the text declaration in front
+-- what stands after the text declaration in front
 unfoldable pub text_declaration_at : List ℕ → Option (List ℕ)
 text_declaration_at bytes = do
   start ← after_bytes (codes "<?xml") bytes

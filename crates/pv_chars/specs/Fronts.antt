@@ -17,7 +17,7 @@ pub record ContainsBytes (bytes part : List ℕ) : Type 0 where
   pub after : List ℕ
   pub whole : bytes ≡ before ++ (part ++ after)
 
--- A delimiter stands in the bytes, for the first time behind these, and this stands after it.
+-- A delimiter stands in the bytes, for the first time after these, and this stands after it.
 pub record EndsAt (delimiter bytes before after : List ℕ) : Type 0 where
   pub whole : bytes ≡ before ++ (delimiter ++ after)
   pub first : (other more : List ℕ) → bytes ≡ other ++ (delimiter ++ more) →

@@ -6,7 +6,7 @@ use Rattle.pv_chars.specs.Characters.{is_char}
 use Rattle.pv_chars.specs.Names.{IsName}
 use Rattle.pv_chars.specs.Fronts.{BeginsNone}
 
--- the number that these digits write in this base behind one
+-- the number that these digits write in this base after one
 abbrev pub number_behind : ℕ → ℕ → List ℕ → ℕ
 number_behind base n [] = n
 number_behind base n (d ∷ ds) = number_behind base (n * base + digit_value d) ds
@@ -15,7 +15,7 @@ number_behind base n (d ∷ ds) = number_behind base (n * base + digit_value d) 
 abbrev pub number : ℕ → List ℕ → ℕ
 number base digits = number_behind base 0 digits
 
--- A reference by digits in this base behind this front: one or more, with any number of leading
+-- A reference by digits in this base after this front: one or more, with any number of leading
 -- zeros, that write the code point of a Char.
 pub record IsCharRefIn (base : ℕ) (front bytes : List ℕ) : Type 0 where
   pub digits : List ℕ

@@ -71,11 +71,11 @@ HasUnitFault (Entity k) at rest = (k ≡ at) × BeginsOtherEntity rest
 HasUnitFault (CloseMark k) at rest = ⊥
 HasUnitFault NoMemory at rest = ⊥
 
--- a unit stands at the front, and this behind it
+-- a unit stands at the front, and this after it
 abbrev pub BeginsAnyUnit : List ℕ → List ℕ → Type 0
 BeginsAnyUnit bytes rest = Begins IsUnit bytes rest
 
--- A unit stands at the front, and this behind it.
+-- A unit stands at the front, and this after it.
 pub record BeginsUnit (bytes unit rest : List ℕ) : Type 0 where
   pub is_unit : IsUnit unit
   pub whole : bytes ≡ unit ++ rest
@@ -114,7 +114,7 @@ abbrev pub unit_opens : ℕ → List ℕ × List (List ℕ) → List ℕ × List
 unit_opens b r = ([], (b ∷ r.0) ∷ r.1)
 
 -- What the bytes of a text add to the unit before them, which may be an open reference, and the
--- units behind it: a reference goes on to its `;`, and a character as long as bytes continue it.
+-- units after it: a reference goes on to its `;`, and a character as long as bytes continue it.
 abbrev pub cut_units : Bool → List ℕ → List ℕ × List (List ℕ)
 cut_units in_reference [] = ([], [])
 cut_units true (b ∷ bs) = goes_on b (cut_units (not (b == 59)) bs)
@@ -146,6 +146,6 @@ pub record MeansUnits (bytes : List ℕ) (count : ℕ) : Type 0 where
 abbrev pub is_simple : ℕ → Bool
 is_simple b = is_literal b && nat_lt b 128 && not (b == 62)
 
--- the same, and it doesn't begin `]]>`: it is a unit whatever stands behind it
+-- the same, and it doesn't begin `]]>`: it is a unit whatever stands after it
 abbrev pub is_lone : ℕ → Bool
 is_lone b = is_simple b && not (b == 93)

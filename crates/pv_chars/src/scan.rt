@@ -66,7 +66,7 @@ pub fn after_bytes<'a>(front: &[u8], bytes: &'a [u8]) -> Option<&'a [u8]>
     bytes.strip_prefix(front)
 }
 
-/// What stands behind the byte order mark, where there is one.
+/// What stands after the byte order mark, where there is one.
 pub fn after_byte_order_mark(bytes: &[u8]) -> &[u8]
     ensures behind { IsBehindByteOrderMark bytes.now result.now }
     ensures within { length result.now ≤ length bytes.now }

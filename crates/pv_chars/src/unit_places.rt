@@ -8,7 +8,7 @@ ghost use Rattle.pv_chars.specs.UnitPlaces.{openings, EndsBeforeAmpersand};
 use crate::delimiters::up_to_byte;
 use crate::utf8::continues;
 
-/// What stands behind so many units of a text that has `all`.
+/// What stands after so many units of a text that has `all`.
 pub(crate) fn behind_units(bytes: &[u8], all: usize, count: usize) -> &[u8]
     requires units { IsCut bytes.now all }
     requires within { count ≤ all }
@@ -23,7 +23,7 @@ pub(crate) fn behind_units(bytes: &[u8], all: usize, count: usize) -> &[u8]
     walk(bytes, count)
 }
 
-// What stands behind so many units, found from the left.
+// What stands after so many units, found from the left.
 fn walk(bytes: &[u8], count: usize) -> &[u8]
     ensures { result.now ≡ joined (drop count (units_in bytes.now)) }
 {
@@ -37,8 +37,8 @@ fn walk(bytes: &[u8], count: usize) -> &[u8]
     after_character(rest)
 }
 
-// How many units begin in some bytes at the front, at most so many, and what stands behind them: a
-// run without references, which isn't longer than that, and the reference behind it.
+// How many units begin in some bytes at the front, at most so many, and what stands after them: a
+// run without references, which isn't longer than that, and the reference after it.
 fn after_run(bytes: &[u8], most: usize) -> (usize, &[u8])
     requires some { bytes.now ≢ [] }
     requires one { 0 < most }
@@ -66,7 +66,7 @@ fn before_ampersand(bytes: &[u8]) -> &[u8]
     }
 }
 
-// What stands behind the reference at the front. It is short, and mostly not worth a search.
+// What stands after the reference at the front. It is short, and mostly not worth a search.
 fn after_reference(bytes: &[u8]) -> &[u8]
     requires { BeginsAmpersand bytes.now }
     ensures passed { drop 1 (units_in bytes.now) ≡ units_in result.now }
@@ -96,7 +96,7 @@ fn openings(bytes: &[u8]) -> usize
     count
 }
 
-// What stands behind the bytes at the front that continue a character.
+// What stands after the bytes at the front that continue a character.
 fn after_character(bytes: &[u8]) -> &[u8]
     ensures { result.now ≡ joined (units_in bytes.now) }
 {

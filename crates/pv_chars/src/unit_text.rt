@@ -85,7 +85,7 @@ fn after_other_unit(bytes: &[u8], at: usize) -> Result<&[u8], TextError>
     after_any_unit(bytes, at)
 }
 
-// A byte that is a unit whatever stands behind it.
+// A byte that is a unit whatever stands after it.
 fn is_lone(b: u8) -> bool
     ensures { result ≡ is_lone b }
 {

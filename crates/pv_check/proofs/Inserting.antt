@@ -35,7 +35,7 @@ module _ (g : PlainDtd) (root : List ℕ) (xs ys : List (Listed Mark)) (x : List
   many : length (xs ++ x ∷ ys) ≡ suc (length (xs ++ ys))
   many = let a = length-append xs (x ∷ ys) in let b = length-append xs ys in omega arith
 
-  -- it stands behind one that is too wide or impossible
+  -- it stands after one that is too wide or impossible
   pub kept_behind : TellsWhether (IsNarrowAndLive g root) xs true → TellsFirst (IsListForVerdict g) (xs ++ x ∷ ys) new.wide
       → new.first ≡ old.first → new.possible ≡ old.possible → new.lists ≡ old.lists + 1 → HasFound g root (xs ++ x ∷ ys) new
   kept_behind behind wide first_is possible_is count_is =

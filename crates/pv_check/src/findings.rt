@@ -20,7 +20,7 @@ const LONG_LIST_TOKENS: usize = 64;
 // The most tokens of long lists that aren't valid which one thread judges.
 const TOKENS_BY_ONE_THREAD: usize = 65_536;
 
-/// What is noted of lists where an element begins behind them.
+/// What is noted of lists where an element begins after them.
 #[derive(Clone, Copy)]
 pub struct Noted {
     /// Whether one is too wide.

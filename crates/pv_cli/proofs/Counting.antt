@@ -72,7 +72,7 @@ verb_stopped Why root files n stop checked stops =
     stops_first (fetching_stage files) (λ both. judging_stage root both.0 both.1) lists_judged
     CountsNoMore n stop checked checked stops refl
 
--- what it counts behind its files is what it counts with them
+-- what it counts after its files is what it counts with them
 pub verb_counts : (verb : Verb) (root : List ℕ) (files : Files) (fetched : PlainDtd × List ℕ)
     (n : ℕ) (rest : Course) (before after : ℕ) → (fetching_stage files).Opens fetched n →
     CountsVerb verb (judging_stage root fetched.0 fetched.1) rest before after →

@@ -151,7 +151,7 @@ opens means told dtd root name files g doc are d e =
       refl,
     )
 
--- behind the opened files
+-- after the opened files
 behind_files : ReadsOne →
     (root : List ℕ) (x y : PlainOpened) (course : Course) (r : PlainResponse) → AreSameOpened x y →
     AreAllNarrow y.dtd y.doc → course.ending ≡ responds r →

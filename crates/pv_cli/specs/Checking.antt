@@ -17,7 +17,7 @@ abbrev pub judging_files_stage : List ℕ → Files → Stage (PlainOpened × Un
 judging_files_stage root files =
     followed_by (fetching_stage files) (λ both. judging_stage root both.0 both.1)
 
--- What each verb counts behind such a stage: `check` and `why` no more than the document's lists,
+-- What each verb counts after such a stage: `check` and `why` no more than the document's lists,
 -- `session` those that its lines judge. Any other verb counts nothing.
 abbrev pub CountsVerb : Verb → Stage (PlainOpened × Unit {0}) → Course → ℕ → ℕ → Type 0
 CountsVerb Check judging course before after =

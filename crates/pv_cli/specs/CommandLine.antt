@@ -47,14 +47,14 @@ abbrev pub drill_size : List ℕ → Option ℕ
 drill_size word = option_and_then (λ n. if nat_le 1 n && nat_le n 20000 then Some n else None)
     (number_spelled word)
 
--- a command with one word behind it
+-- a command with one word after it
 abbrev pub with_one_word : List ℕ → List ℕ → Option PlainCommandLine
 with_one_word command word =
     if bytes_eq command (codes "dtd") then Some (on_dtd word)
     else if bytes_eq command (codes "drill") then option_map drill (drill_size word)
     else None
 
--- a command with a root and three files behind it
+-- a command with a root and three files after it
 abbrev pub with_three_files : List ℕ → List ℕ → List ℕ → List ℕ → List ℕ → Option PlainCommandLine
 with_three_files command dtd root doc file =
     if bytes_eq command (codes "standoff") then Some (on_ranges dtd root doc file)

@@ -17,7 +17,7 @@ use Rattle.pv_cli.specs.declared.checker.Checker.TheVariants.{Deny, Verify}
 use Rattle.pv_cli.specs.declared.verb.Verb.{Verb}
 use Rattle.pv_cli.specs.declared.verb.Verb.TheVariants.{Valid, Check, Session, Complete, Why}
 
--- what each verb does behind the opened files
+-- what each verb does after the opened files
 abbrev pub VerbTells : Verb → List ℕ → PlainOpened → Course → Type 0
 VerbTells Valid root opened = IsValidCourse root opened
 VerbTells Check root opened = IsCheckCourse root opened

@@ -35,12 +35,12 @@ counts_with c None = record {
   checked = c.checked;
 }
 
--- the reply to a line, counted, and the session behind it
+-- the reply to a line, counted, and the session after it
 abbrev pub CountsLine : PlainSession → Counts → List ℕ → PlainSession → Counts → Type 0
 CountsLine session before line after now =
     (told : Reply) × RepliesTo session line told after × (now ≡ counts_with before (done_of told))
 
--- the replies to these lines, one after the other, counted, and the session behind them
+-- the replies to these lines, one after the other, counted, and the session after them
 abbrev pub CountsReplies : PlainSession → Counts → List (List ℕ) → PlainSession → Counts → Type 0
 CountsReplies session before [] after counts = (after ≡ session) × (counts ≡ before)
 CountsReplies session before (line ∷ lines) after counts =
@@ -54,7 +54,7 @@ counts_text n c open_lists =
     ++ decimal c.refused ++ codes " open " ++ decimal open_lists ++ codes " checked " ++
     decimal c.checked
 
--- the lines of the drill were answered, and so many lists are Possible behind them
+-- the lines of the drill were answered, and so many lists are Possible after them
 pub record TellsCounts (n : ℕ) (session : PlainSession) (r : PlainResponse) : Type 0 where
   pub after : PlainSession
   pub counts : Counts

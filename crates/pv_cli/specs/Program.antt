@@ -30,7 +30,7 @@ IsDefined (Some (drill n)) files course = IsDrillCourse n course
 
 -- How many lists a command line judges over its files on such a course, as the counter counts them:
 -- each list of its document once, where they are judged, and what the lines of a session or a drill
--- judge behind that. What only tells how many elements are missing counts nothing.
+-- judge after that. What only tells how many elements are missing counts nothing.
 abbrev pub ChecksLists : Option PlainCommandLine → Files → Course → ℕ → ℕ → Type 0
 ChecksLists None files course before after = CountsNoMore before after
 ChecksLists (Some (on_dtd dtd)) files course before after = CountsNoMore before after

@@ -1,4 +1,4 @@
-//! Command lines by form: what a document's verb opens, and the command behind it.
+//! Command lines by form: what a document's verb opens, and the command after it.
 
 ghost use Rattle.std.specs.Prelude.{◌≡◌, ℕ, Some, Contains, true};
 ghost use Rattle.pv_cli.specs.CommandLine.{on_certificate, on_document};

@@ -7,7 +7,7 @@ use Rattle.pv_columns.specs.declared.rules.ColumnRule.{ColumnRule}
 use Rattle.pv_columns.specs.Bits.{HasIn}
 use Rattle.pv_columns.specs.Tokens.{token_number}
 
--- the rule repeats its column behind number k of layer m
+-- the rule repeats its column after number k of layer m
 abbrev pub IsRepeatOf : ℕ → List ℕ → ColumnRule → ℕ → ℕ → Type 0
 IsRepeatOf m layer r c k = (c ≡ r.left) × (
     ((t : Token) × (r.token ≡ Some t) × (r.columns.items ≡ r.left ∷ []) ×

@@ -24,7 +24,7 @@ pub record AreLiveMarks (rules : List ColumnRule) (word : List Token) (marks : L
   pub sound : (c p : ℕ) → IsMarked marks c → ReadThrough rules word (c ∷ []) p p
   pub complete : (c i j : ℕ) → ReadThrough rules word (c ∷ []) i j → IsMarked marks c
 
--- a rule with a token has no columns behind it, or its own
+-- a rule with a token has no columns after it, or its own
 pub record ReadAlone (rules : List ColumnRule) : Type 0 where
   pub alone : (r : ColumnRule) (t : Token) → Contains rules r → r.token ≡ Some t →
       (r.columns.items ≡ []) ⊎ (r.columns.items ≡ r.left ∷ [])

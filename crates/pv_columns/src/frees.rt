@@ -43,7 +43,7 @@ fn put_all(column: usize, other: usize, layer: &[u64], repeats: &mut [u64])
     repeats[column] = union(repeats[column], layer[other]);
 }
 
-/// Gives a column what a rule repeats it behind.
+/// Gives a column what a rule repeats it after.
 fn add_repeat(rule: &ColumnRule, layer_number: u64, layer: &[u64], repeats: &mut [u64])
     requires { rule.now.left < length repeats.old }
     ensures long { length repeats.new ≡ length repeats.old }

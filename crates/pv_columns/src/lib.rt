@@ -1,7 +1,7 @@
 //! Columns and their rules: what they reach, which of them are free, and the sets of tokens that
 //! free ones take.
 //!
-//! A column has rules, each with a token or none and columns behind it, by which it reaches over
+//! A column has rules, each with a token or none and columns after it, by which it reaches over
 //! spans of a word (`specs/ColumnRules.antt`). Where a token may be missing, whatever reaches a
 //! span reaches each span within it. Which columns reach over no tokens is found by raising marks
 //! until nothing changes (`specs/Marks.antt`); which single tokens a column takes, by sets of bits

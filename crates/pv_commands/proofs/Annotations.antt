@@ -85,7 +85,7 @@ module _ (dtd root text ranges : List ℕ) (before after : ShelfNow) where
             stop checked checked over.returns refl;
       }
 
-  -- it found this behind them
+  -- it found this after them
   pub annotation_found : (checked checked_now : ℕ) (given : (Dtd × List (List ℕ)) × List Range)
       (result : Result Response Stop) →
       ReturnsOver (AreThree before.files dtd text ranges) plain_given three_stage before after

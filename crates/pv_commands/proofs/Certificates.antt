@@ -27,7 +27,7 @@ two_files told dtd doc (a ∷ []) are = absurd are.1
 two_files told dtd doc (a ∷ b ∷ []) are = (are.0, are.1.0)
 two_files told dtd doc (a ∷ b ∷ c ∷ rest) are = absurd are.1.1
 
--- and one more file behind them
+-- and one more file after them
 abbrev with_third : Files → Option (List ℕ) → Files
 with_third files third = file_at 0 files ∷ file_at 1 files ∷ third ∷ []
 

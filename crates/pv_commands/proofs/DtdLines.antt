@@ -13,7 +13,7 @@ pub tree_put : {E : Type 0} (r : Result Unit E) (g : PlainDtd) (y : ℕ) (old ne
 tree_put (Ok u) g y old new tree is e = (tree, is, e)
 tree_put (Err x) g y old new tree is e = tt
 
--- the texts of a line, one behind another
+-- the texts of a line, one after another
 pub regroup : (o a b c d e f : List ℕ) →
     (((((o ++ a) ++ b) ++ c) ++ d) ++ e) ++ f ≡ o ++ (((((a ++ b) ++ c) ++ d) ++ e) ++ f)
 regroup o a b c d e f = simp append_assoc refl

@@ -1,4 +1,4 @@
--- What `dtd` did, where it stopped at its file, and behind it.
+-- What `dtd` did, where it stopped at its file, and after it.
 use Rattle.std.proofs.Common.{ℕ, ◌+◌, List, [], ◌∷◌, Result, Ok, Err, refl, arith}
 use Rattle.pv_dtd.specs.PlainForms.{plain_dtd}
 use Rattle.pv_dtd.specs.declared.dtd.Dtd.{Dtd}

@@ -26,8 +26,8 @@ use Rattle.pv_cert.specs.Lines.{IsEntryInRange, PackLine, body_line, end_line, e
 use Rattle.pv_cert.specs.Packs.{AreLines, IsMarkOrBody, MayFollow, lines_of_pack, table_lines}
 use Rattle.pv_cert.specs.declared.packs.Pack.{Pack}
 
--- ---- one line behind another
--- a mark or a body may stand behind the line
+-- ---- one line after another
+-- a mark or a body may stand after the line
 abbrev AwaitsMarks : PackLine → Type 0
 AwaitsMarks before = (line : PackLine) → IsMarkOrBody line → MayFollow (Some before) line
 

@@ -1,4 +1,4 @@
--- The files of a command on a certificate: a DTD, a document, and the certificate behind them.
+-- The files of a command on a certificate: a DTD, a document, and the certificate after them.
 use Rattle.std.specs.Prelude.{ℕ, List, Option}
 use Rattle.pv_opening.specs.Documents.{PlainOpened}
 use Rattle.pv_opening.specs.Opening.{Files, file_at, opening_stage}

@@ -28,7 +28,7 @@ pub data TellsPossibility (root : List ℕ) (g : PlainDtd) (doc : PlainDoc Mark)
       r ≡ with_line Done (possible_text n) → TellsPossibility root g doc r
   is_no_more : RefusesImpossible root g doc r → TellsPossibility root g doc r
 
--- behind the opened files: the width of all lists, and then the verdict
+-- after the opened files: the width of all lists, and then the verdict
 abbrev pub IsCheckCourse : List ℕ → PlainOpened → Course → Type 0
 IsCheckCourse root opened = Behind (width_stage opened.dtd opened.doc)
     (λ _. Responds (TellsPossibility root opened.dtd opened.doc))

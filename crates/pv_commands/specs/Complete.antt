@@ -52,7 +52,7 @@ pub data TellsPack {M : Type 0} (root : List ℕ) (g : PlainDtd) (doc : PlainDoc
   has_too_many : HasTooMany g root doc → r ≡ with_line Limit (codes "limit tables") →
       TellsPack root g doc r
 
--- behind the opened files: whether inserting elements can make the document valid, and then the
+-- after the opened files: whether inserting elements can make the document valid, and then the
 -- pack
 abbrev pub IsCompleteCourse : List ℕ → PlainOpened → Course → Type 0
 IsCompleteCourse root opened = Behind (possibility_stage root opened.dtd opened.doc)

@@ -8,7 +8,7 @@ use Rattle.pv_opening.specs.Opening.{file_stage}
 use Rattle.pv_opening.specs.Response.{PlainResponse, with_line}
 use Rattle.pv_opening.specs.Stage.{Stage, without_fetch}
 
--- the response to bytes that are no denial: behind so many whole lines stands none that may stand
+-- the response to bytes that are no denial: after so many whole lines stands none that may stand
 -- there; or the rows have too many values
 pub data RefusesDenial (bytes : List ℕ) (r : PlainResponse) : Type 0 where
   no_denial : (k : ℕ) → DenialMeans bytes (is_fault k) →

@@ -41,7 +41,7 @@ pub data TellsJudgement {M : Type 0} (root : List ℕ) (g : PlainDtd) (doc : Pla
       r ≡ with_line Limit (codes "limit width " ++ path_text denial.path) →
       TellsJudgement root g doc denial r
 
--- behind the opened files and the denial: its tests
+-- after the opened files and the denial: its tests
 abbrev pub IsDenyCourse : List ℕ → Files → Course → Type 0
 IsDenyCourse root files = Behind (certificate_stage denial_file_stage root files)
     (λ both. Responds (TellsJudgement root both.0.dtd both.0.doc both.1))

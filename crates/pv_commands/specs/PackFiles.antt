@@ -7,7 +7,7 @@ use Rattle.pv_opening.specs.Opening.{file_stage}
 use Rattle.pv_opening.specs.Response.{PlainResponse, with_line}
 use Rattle.pv_opening.specs.Stage.{Stage, without_fetch}
 
--- the response to bytes that are no pack: behind so many whole lines stands none that may stand
+-- the response to bytes that are no pack: after so many whole lines stands none that may stand
 -- there; or the pack has too many entries
 pub data RefusesPack (bytes : List ℕ) (r : PlainResponse) : Type 0 where
   no_pack : (k : ℕ) → PackMeans bytes (is_fault k) →

@@ -108,19 +108,19 @@ abbrev pub nested_stage : List ℕ → Files → Stage (PlainDtd × PlainDoc Mar
 nested_stage root files = followed_by (annotation_stage files)
     (λ given. beside given.0.0 (nesting_stage root given.0.1 given.1))
 
--- a response with what `show` replies of a document behind it
+-- a response with what `show` replies of a document after it
 abbrev pub with_shown : PlainResponse → PlainDoc Mark → PlainResponse
 with_shown r doc =
     record r { output = r.output ++ counted_text (codes "show") (doc_text doc) }
 
--- What `check` would respond of the document, and behind its line what `show` replies of it.
+-- What `check` would respond of the document, and after its line what `show` replies of it.
 pub record TellsNested (root : List ℕ) (g : PlainDtd) (doc : PlainDoc Mark) (r : PlainResponse) :
     Type 0 where
   pub checked : PlainResponse
   pub tells : TellsPossibility root g doc checked
   pub is_response : r ≡ with_shown checked doc
 
--- behind the document: the width of all lists, and then the verdict
+-- after the document: the width of all lists, and then the verdict
 abbrev pub IsShownCourse : List ℕ → PlainDtd → PlainDoc Mark → Course → Type 0
 IsShownCourse root g doc =
     Behind (width_stage g doc) (λ _. Responds (TellsNested root g doc))

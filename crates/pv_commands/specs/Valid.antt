@@ -22,6 +22,6 @@ pub data TellsValidity (root : List ℕ) (g : PlainDtd) (doc : PlainDoc Mark) (r
       r ≡ with_line Negative (codes "invalid " ++ path_text path) →
       TellsValidity root g doc r
 
--- what `valid` does behind the opened files
+-- what `valid` does after the opened files
 abbrev pub IsValidCourse : List ℕ → PlainOpened → Course → Type 0
 IsValidCourse root opened = Responds (TellsValidity root opened.dtd opened.doc)

@@ -54,7 +54,7 @@ pub record TellsOfPack (root : List ℕ) (g : PlainDtd) (bytes : List ℕ) (pack
   pub means : DocumentMeans blank_mark root bytes (is_document doc)
   pub tells : TellsAcceptance root g doc pack r
 
--- behind the opened files and the pack: the width of the lists that its tables name, and the tests
+-- after the opened files and the pack: the width of the lists that its tables name, and the tests
 abbrev pub IsVerifyCourse : List ℕ → Files → Course → Type 0
 IsVerifyCourse root files = Behind (certificate_stage pack_file_stage root files)
     (λ both. Responds (TellsOfPack root both.0.dtd both.0.bytes both.1))

@@ -28,7 +28,7 @@ pub data TellsWhy {M : Type 0} (root : List ℕ) (g : PlainDtd) (doc : PlainDoc 
   is_possible : IsPotentiallyValid g root (view doc.root) →
       r ≡ with_line Negative (codes "possible") → TellsWhy root g doc r
 
--- behind the opened files: the width of all lists, and then why the document is impossible
+-- after the opened files: the width of all lists, and then why the document is impossible
 abbrev pub IsWhyCourse : List ℕ → PlainOpened → Course → Type 0
 IsWhyCourse root opened = Behind (width_stage opened.dtd opened.doc)
     (λ _. Responds (TellsWhy root opened.dtd opened.doc))

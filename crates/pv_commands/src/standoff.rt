@@ -173,7 +173,7 @@ fn nest_ranges(alloc: Global, root: &[u8], text: &Units, ranges: &Ranges) -> Res
     }
 }
 
-// A response with what `show` replies of a document behind it.
+// A response with what `show` replies of a document after it.
 fn with_document(alloc: Global, line: Response, doc: &Doc) -> Result<Response, NoMemory>
     ensures { IfOk result (λ r. plain_response r
         ≡ with_shown (plain_response line) (plain_doc doc.now)) }

@@ -38,7 +38,7 @@ left-leaf n marks (data_unit u) es = refl
 left-leaf n marks (cdata b) es = refl
 left-leaf n marks (misc b) es = refl
 
--- From the number n on, behind some marks and before others, the events of the second hedge leave
+-- From the number n on, after some marks and before others, the events of the second hedge leave
 -- those of the first, and these marks.
 pub record Runs (n e : ℕ) (marks rest : List ℕ) (h h' : Hedge) : Type 0 where
   pub kept : (outs : List Bool) (es : List PlainEvent) → kept_events n marks outs (shown h' ++ es) ≡ shown h ++ kept_events e rest outs es

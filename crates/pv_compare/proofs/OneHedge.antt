@@ -111,7 +111,7 @@ texts-push us u es r =
     ∙ append_assoc (texts (joined us)) (texts u) (es ++ r)
     ∙ ap (λ l. texts (joined us) ++ l) (sym (append_assoc (texts u) es r))
 
--- the first hedge behind some units, and the second behind others, where their events are the same
+-- the first hedge after some units, and the second after others, where their events are the same
 abbrev Same : Hedge → Type 0
 Same h = (us : List (List ℕ)) → AllUnits us → HasUnitLeaves h → (vs : List (List ℕ)) (g : Hedge) → AllUnits vs → HasUnitLeaves g → (r s : List PlainEvent) → Ends r → Ends s →
     texts (joined us) ++ (bytewise (shown h) ++ r) ≡ texts (joined vs) ++ (bytewise (shown g) ++ s) → (spread us h ≡ spread vs g) × (r ≡ s)
@@ -123,7 +123,7 @@ same-unit l u h event is unit below us all (here, leaves) vs g also other r s en
     let found = below (us ++ u ∷ []) (units-push us u all unit) leaves vs g also other r s ends stop moved in
     (ap (λ m. spread us (leaf m h)) (sym is) ∙ sym (spread-push us u h) ∙ found.0, found.1)
 
--- what stands behind the units of a hedge
+-- what stands after the units of a hedge
 record Behind (us vs : List (List ℕ)) (g : Hedge) (xs s : List PlainEvent) : Type 0 where
   hedge : Hedge
   plain : IsPlain hedge

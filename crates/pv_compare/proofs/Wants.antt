@@ -9,7 +9,7 @@ use Rattle.pv_compare.specs.Wanting.{begins_no_text}
 use Rattle.pv_flat.specs.declared.event.Event.{Event}
 use Rattle.pv_compare.proofs.OneHedge.{texts}
 
--- a text with these bytes, and these events behind it
+-- a text with these bytes, and these events after it
 abbrev pub stands : List ℕ → List Event → List PlainEvent
 stands t es = texts t ++ bytewise (map plain_event es)
 
@@ -63,7 +63,7 @@ pub no-text-where-none : (t : List ℕ) (es : List Event) → stands t es ≡ []
 no-text-where-none [] es is = refl
 no-text-where-none (c ∷ t) es is = absurd (cc)
 
--- bytes of a text up to a place, the byte there, and those behind it
+-- bytes of a text up to a place, the byte there, and those after it
 pub texts-split : (bytes : List ℕ) (i : ℕ) → i < length bytes → texts bytes ≡ texts (take i bytes) ++ text_here (get_or bytes i 0 ∷ []) ∷ texts (drop (suc i) bytes)
 texts-split bytes i lt =
     ap texts (sym (take-append-drop i bytes))

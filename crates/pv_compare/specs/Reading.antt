@@ -5,7 +5,7 @@ use Rattle.pv_flat.specs.Plain.{PlainEvent, begin_element, cdata_here, end_eleme
 use Rattle.pv_flat.specs.Plain.{text_here}
 use Rattle.pv_flat.specs.declared.state.Events.{Events}
 
--- The reader has given these events of the text: what comes from here on comes behind them.
+-- The reader has given these events of the text: what comes from here on comes after them.
 pub record HasGiven (root bytes : List ℕ) (given : List PlainEvent) (s : Events) : Type 0 where
   pub comes : (es : List PlainEvent) (end : TextEnd) → EventsCome s es end →
       TextComes root bytes (given ++ es) end

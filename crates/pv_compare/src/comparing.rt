@@ -37,7 +37,7 @@ pub struct Comparison<'a> {
 
 /// Of each element of a document whether it has no attribute bytes, whether the document's events
 /// without the tags of marked elements are those of another, and the bytes before its root and
-/// behind it.
+/// after it.
 #[derive(Drop)]
 pub struct Compared<'a> {
     pub plain: Vec<bool>,

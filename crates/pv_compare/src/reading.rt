@@ -27,7 +27,7 @@ pub fn note(plain: &mut Vec<bool>, event: &Event<'_>) -> Result<(), NoMemory>
     }
 }
 
-/// A document by its events: the bytes before its root, the events, and the bytes behind it.
+/// A document by its events: the bytes before its root, the events, and the bytes after it.
 #[derive(Drop)]
 pub struct EventParts<'a> {
     pub before: &'a [u8],

@@ -12,7 +12,7 @@ use pv_flat::Event;
 use pv_tree::{Doc, Node};
 use std::alloc::Global;
 
-// Puts an event behind others.
+// Puts an event after others.
 fn push<'a>(event: Event<'a>, events: &mut Vec<Event<'a>>) -> Result<(), NoMemory>
     ensures { OnOk result (map plain_event events.new.items ≡
         map plain_event events.old.items ++ plain_event event.entry ∷ []) }

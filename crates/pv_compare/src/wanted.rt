@@ -7,7 +7,7 @@ ghost use Rattle.pv_flat.specs.Plain.{PlainEvent, text_here};
 
 use pv_flat::Event;
 
-/// The bytes of a text that are still wanted, and the events behind it.
+/// The bytes of a text that are still wanted, and the events after it.
 #[derive(Clone, Copy)]
 pub struct Wanted<'a> {
     pub text: &'a [u8],

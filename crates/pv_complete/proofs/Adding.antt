@@ -29,7 +29,7 @@ use Rattle.pv_tables.specs.WeightLaws.{LiveWeighs, PossibleWeigh, PossibleWeight
 use Rattle.pv_complete.specs.Loads.{LoadsMore, AddsUp, PlainLoad, StopsAtList, UsesVerdict}
 use Rattle.pv_complete.specs.Needing.{AreListsForVerdicts, CanWeigh, IsHeavy, Needs, WeighsIn}
 
--- the verdict that is next, and those behind it
+-- the verdict that is next, and those after it
 pub drop_next : (vs : List Verdict) (k n : ℕ) (v : Verdict) → slice_get vs k ≡ Some v → n ≡ k + 1 → drop k vs ≡ v ∷ drop n vs
 drop_next vs k n v e f =
     let more = drop_more vs k v (slice_get_within vs k v e) in

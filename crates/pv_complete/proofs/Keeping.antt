@@ -17,7 +17,7 @@ use Rattle.pv_tree.specs.Units.{HasUnits}
 use Rattle.pv_complete.specs.Growing.{Grows, KeepsEnding, trees_and, grows_kept, grows_leaf, grows_new, grows_none}
 use Rattle.pv_complete.specs.Writable.{AreElements, AreInFront, AreWritable, HasNames, KeepsWritable}
 
--- what doesn't begin `]]>` with more units behind, doesn't without them
+-- what doesn't begin `]]>` with more units after it, doesn't without them
 begins_less : (us vs : List (List ℕ)) → not (begins_close_mark (us ++ vs)) ≡ true → not (begins_close_mark us) ≡ true
 begins_less [] vs e = refl
 begins_less (a ∷ []) vs e = refl

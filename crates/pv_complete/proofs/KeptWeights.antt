@@ -50,7 +50,7 @@ no_entry (suc k) x h = absurd cc
 pub right_none : (g : PlainDtd) (new : List KnownWeight) → new ≡ [] → AreRight g new
 right_none g new is k x h = absurd (no_entry k x (rw is at h))
 
--- behind a push, which there may be no memory for
+-- after a push, which there may be no memory for
 pub right_pushed : (g : PlainDtd) (old new : List KnownWeight) (e : KnownWeight) (b : Bool) → new ≡ (if b then old ++ e ∷ [] else old) → AreRight g old → IsWeighedWord g (plain_of e.of) (map plain_token e.word) e.weight e.pieces e.table → AreRight g new
 right_pushed g old new e true is all one = right_one_more g old new e is all one
 right_pushed g old new e false is all one = rw is all

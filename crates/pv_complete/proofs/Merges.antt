@@ -21,7 +21,7 @@ use Rattle.pv_complete.specs.Written.{Appends, AwaitsNode, HasToken, Passes, Pla
 use Rattle.pv_complete.specs.declared.words.pieces.Piece.{Piece}
 use Rattle.pv_complete.proofs.Walks.{appends_join, appends_none, passes_join, passes_none, passes_used}
 
--- the pieces that are next behind a node
+-- the pieces that are next after a node
 abbrev pub IsBehind : Bool → List PlainPiece → List PlainPiece → Type 0
 IsBehind true ps qs = ps ≡ kept ∷ qs
 IsBehind false ps qs = qs ≡ ps
@@ -36,7 +36,7 @@ tells_token (text_node us) = text_token (has_data us) us refl
 tells_token (cdata_node b) = λ g. (text, λ u. refl)
 tells_token (misc_node b) = λ g u. refl
 
--- the pieces behind the first of those from a place
+-- the pieces after the first of those from a place
 after_first : (ps : List Piece) (k : ℕ) (q : PlainPiece) (qs : List PlainPiece) → plain_pieces (drop k ps) ≡ q ∷ qs → (k < length ps) × (plain_pieces (drop (k + 1) ps) ≡ qs)
 after_first [] k q qs e = absurd (let n = drop_all k (let l : List Piece = [] in l) (omega arith) in let f = rw n at e in cc)
 after_first (p ∷ ps) zero q qs e = (omega arith, cc)
@@ -63,7 +63,7 @@ module _ (g : PlainDtd) where
   pub same_suits : (t : Tree Mark) (rest : Forest Mark) (ps : List PlainPiece) → HasToken false t → SuitsWord g ps (word_of g (tree t rest)) → SuitsWord g ps (word_of g rest)
   same_suits t rest ps h s = let e = h g (word_of g rest) in rw e at s
 
-  -- behind a node
+  -- after a node
   pub record After (pieces : List Piece) (next after : ℕ) (b : Bool) (rest : Forest Mark) : Type 0 where
     pub within : after ≤ length pieces
     pub suits : SuitsWord g (plain_pieces (drop after pieces)) (word_of g rest)

@@ -334,7 +334,7 @@ module _ {M : Type 0} (blank : M) (g : PlainDtd) (proper : IsProperDtd g) (names
       taken_join qs kids i.front i.back es (new_start x ∷ (i.one ++ new_end x ∷ [])) o.0 k i.k1 i.k2 (named y ∷ []) u2 v n (suc a) b i.is_forest es_are i.is_count (omega arith)
       (part_new i.front y (suc a) a i.k1 m z i.one refl is ok i.part) t
 
-  -- nodes behind the last token
+  -- nodes after the last token
   record Left (kids : Forest M) (es : List Event) (k : ℕ) : Type 0 where
     pub new : Forest M
     pub text : forest_text new ≡ events_text es

@@ -16,7 +16,7 @@ event_text (new_end x) = codes "</" ++ x ++ codes ">"
 event_text (old_start b) = b
 event_text (old_bytes b) = b
 
--- what events are written as, one behind the other
+-- what events are written as, one after the other
 abbrev pub events_text : List Event → List ℕ
 events_text [] = []
 events_text (e ∷ es) = event_text e ++ events_text es

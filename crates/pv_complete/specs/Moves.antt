@@ -42,7 +42,7 @@ IsMove g w t s i j (move.Two r k q) = MayBeTwo g s (plain_site r) (plain_site q)
     (t (over s i j) ≡ t (over (plain_site r) i k) + t (over (plain_site q) k j))
 
 -- the move leads to one of the sites of these numbers, end left out, and the content of name x
--- behind it
+-- after it
 abbrev pub IsItem : (Goal → ℕ) → (ℕ → PlainSite) → ℕ → ℕ → ℕ → ℕ → ℕ → ℕ → Move → Type 0
 IsItem t f first end x i j n move.Kept = ⊥
 IsItem t f first end x i j n (move.New id) = ⊥

@@ -37,7 +37,7 @@ pub data MayBeOne (g : PlainDtd) : PlainSite → PlainSite → Type 0 where
   last_one : (q : ℕ) (p : PlainPart) → rest_at g q ≡ Some (part p no_parts) →
       MayBeOne g (rest_site q) (part_site q)
 
--- the first site may stand for what the second and the third stand for, one behind the other
+-- the first site may stand for what the second and the third stand for, one after the other
 pub data MayBeTwo (g : PlainDtd) : PlainSite → PlainSite → PlainSite → Type 0 where
   mixed_two : (x e : ℕ) (ys : List ℕ) → model_of g x ≡ Some (mixed ys) → e < length ys →
       MayBeTwo g (content_site x) (part_site (first_part g x + e)) (content_site x)

@@ -48,7 +48,7 @@ begins old first = record {
   written = appends_none old;
 }
 
--- the output failed behind these lines
+-- the output failed after these lines
 cut_here : (first : PlainSession) (script silent out : List ℕ) (place : Place) → Replies silent 1 first (lines_within script) out place →
     EndsSession first script silent false (output_fault out)
 cut_here first script silent out place replies = output_failed (lines_within script) [] out place (sym (append-nil (lines_within script))) replies refl
@@ -252,7 +252,7 @@ fails W first current script held number so_far within =
 pub output_is_no_input : (out o : List ℕ) → output_fault out ≡ input_fault o → ⊥
 output_is_no_input out o is = cc
 
--- bytes behind change nothing
+-- bytes after change nothing
 pub ended_on : (first : CountedSession) (now : ℕ) (script more : List ℕ) (ending : List ℕ → RunEnding) (AreWritten : List ℕ → Type 0) →
     ((out o : List ℕ) → ending out ≡ input_fault o → ⊥) → EndedWith first now script false ending AreWritten → EndedWith first now (script ++ more) false ending AreWritten
 ended_on first now script more ending AreWritten no_fault so = record {

@@ -9,7 +9,7 @@ use Rattle.pv_session.specs.Sessions.{PlainSession}
 use Rattle.pv_conversation.specs.Counting.{CountsFirst, CountsOneLine, CountsLines, GoesBehind, is_quit, no_command, no_quit, was_silent}
 use Rattle.pv_conversation.specs.Session.{Place, Replies, RepliesBy, RepliesTo, answered, at_line, ended, is_among, known, no_lines, unknown, without_memory}
 
--- the number behind the lines
+-- the number after the lines
 pub number_behind : (silent : List ℕ) (number next : ℕ) (session middle : PlainSession) (lines : List (List ℕ)) (out : List ℕ) (here : Place) → here ≡ at_line next middle →
     Replies silent number session lines out here → next ≡ number + length lines
 number_behind silent number next session middle [] out here at (no_lines none is) = let same : number ≡ next = cc in omega (arith, same)
@@ -63,7 +63,7 @@ pub replied_goes : (before after : PlainSession) (line : List ℕ) (told : Reply
 replied_goes before after line told silent (unknown none is stays) = no_command none
 replied_goes before after line told silent (known c spells by) = no_quit c spells (not_quit before c told after by)
 
--- lines that were all answered, and more behind them
+-- lines that were all answered, and more after them
 pub counts_all : (silent : List ℕ) (all lines : List (List ℕ)) (before after : ℕ) → all ≡ lines → CountsLines silent 1 lines before after → CountsFirst silent all before after
 counts_all silent all lines before after is counts = record { first = lines; behind = []; is_cut = is ∙ sym (append-nil lines); counts = counts }
 

@@ -6,7 +6,7 @@ use Rattle.pv_io.specs.Causes.{AppendsFront}
 use Rattle.pv_conversation.specs.ReplyBuffer.{HoldsReplies}
 use Rattle.pv_conversation.proofs.Replies.{appends_behind, appends_none, front_behind}
 
--- Where replies were written and held, those behind them are held or written too, or written in part where the output fails.
+-- Where replies were written and held, those after them are held or written too, or written in part where the output fails.
 pub holds_more : (old mid now : Option (List ℕ)) (held still text out : List ℕ) → HoldsReplies old mid held out → HoldsReplies mid now still (held ++ text) → HoldsReplies old now still (out ++ text)
 holds_more old mid now held still text out so more = record {
   sent = so.sent ++ more.sent;
@@ -72,7 +72,7 @@ put_whole old now held still whole rest so none =
     let all : whole ≡ so.done = so.goes ∙ ap (λ (h : List ℕ). so.done ++ h) none ∙ append-nil so.done in
     subst (λ (h : List ℕ). HoldsReplies old now still (held ++ h)) (sym all) so.holds
 
--- ---- one part behind another
+-- ---- one part after another
 pub put_then : (old mid now : Option (List ℕ)) (held still after text more : List ℕ) → HoldsReplies old mid still (held ++ text) → HoldsReplies mid now after (still ++ more) → HoldsReplies old now after (held ++ (text ++ more))
 put_then old mid now held still after text more first next = subst (λ (h : List ℕ). HoldsReplies old now after h) (append_assoc held text more) (holds_more old mid now still after more (held ++ text) first next)
 

@@ -70,7 +70,7 @@ part_any (b ∷ bs) free = ap (list_any is_line_too_long) (raw_lines_of-part b b
     or_none true = refl
     or_none false = refl
 
--- whole lines, and a part of one behind them
+-- whole lines, and a part of one after them
 pub record IsReadAs (script : List ℕ) (lines : List (List ℕ)) (part : List ℕ) : Type 0 where
   pub is_cut : script ≡ with_feeds lines ++ part
   pub are_lines : AllByRecursion IsScriptLine lines

@@ -42,7 +42,7 @@ few_changed (undoes (SetText path text)) = omega arith
 few_changed (undoes (AddText path at text)) = omega arith
 few_changed (undoes (DelText path)) = omega arith
 
--- what was done, and what is bad behind it
+-- what was done, and what is bad after it
 pub record IsCounted (after : PlainSession) (checked bad : ℕ) : Type 0 where
   pub few : checked ≤ 2
   pub has : HasBad (stamped_document after) bad

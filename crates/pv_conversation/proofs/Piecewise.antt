@@ -74,7 +74,7 @@ goes_line before mid now replies still session current after held kept new numbe
           (so.goes old script first so_far) takes by (λ out w. holds_more old mid now replies still text out w more));
     }
 
--- the bytes of a piece up to some of what is left, and those behind
+-- the bytes of a piece up to some of what is left, and those after them
 up_to : (script piece eaten rest front behind : List ℕ) → piece ≡ eaten ++ rest → rest ≡ front ++ behind → script ++ piece ≡ ((script ++ eaten) ++ front) ++ behind
 up_to script piece eaten rest front behind is cut =
     all_bytes script piece eaten rest is ∙ ap (λ (h : List ℕ). (script ++ eaten) ++ h) cut ∙ sym (append_assoc (script ++ eaten) front behind)
@@ -124,7 +124,7 @@ goes_long before now replies session current held kept new number next piece res
     (takes_long (HoldsReplies old now replies) first current (script ++ so.eaten) kept new next rest (so.goes old script first so_far) long
     (fits_front script piece so.eaten rest long.front long.rest so.is_cut long.is_cut within)))
 
--- what stands behind a line, as the code says it
+-- what stands after a line, as the code says it
 drop_line : (front behind : List ℕ) → drop (suc (length front)) (front ++ FEED ∷ behind) ≡ behind
 drop_line [] behind = refl
 drop_line (b ∷ bs) behind = drop_line bs behind
@@ -172,7 +172,7 @@ goes_on_cut W V first script current reading quit writes within so = ended_cut W
 goes_on_cut W V first script current reading line_limit writes within so = ended_cut W V first current.checked script (λ out. limited out (codes "limit line " ++ decimal reading.number)) writes so
 goes_on_cut W V first script current reading script_limit writes within so = ended_cut W V first current.checked script (λ out. limited out (codes "limit script")) writes so
 
--- the byte behind the longest script
+-- the byte after the longest script
 at_limit : (W : List ℕ → Type 0) (first : CountedSession) (script : List ℕ) (current : CountedSession) (reading : Reading) (b : ℕ) (next : Next) →
     IsNext reading.lines b next → length script ≡ MAX_SCRIPT_BYTES → Conversed W first script current reading.lines reading.number →
     ComesNext W first (script ++ b ∷ []) current reading next
@@ -242,7 +242,7 @@ piece_failed W first now script piece left so =
     subst (λ (h : List ℕ). EndedWith first now h false output_fault W) whole
     (ended_on first now (script ++ take left piece) (drop left piece) output_fault W output_is_no_input so)
 
--- a piece behind which more is asked for lies within the limit on the script
+-- a piece after which more is asked for lies within the limit on the script
 pub fits_within : (script piece : List ℕ) (left : ℕ) (next : Next) → IsWithinScript (length piece) left next → length script + left ≡ MAX_SCRIPT_BYTES → next ≡ more_asked →
     length (script ++ piece) ≤ MAX_SCRIPT_BYTES
 fits_within script piece left more_asked fit full is = omega (arith, fit, full, length-append script piece)

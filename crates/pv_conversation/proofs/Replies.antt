@@ -44,7 +44,7 @@ ends silent number session (line ∷ lines) more out here at (ended is quits non
 pub ends_at_quit : EndsAtQuit
 ends_at_quit silent number session lines more out replies = ends silent number session lines more out at_quit refl replies
 
--- the number behind the lines isn't below theirs
+-- the number after the lines isn't below theirs
 number_grows : (silent : List ℕ) (number next : ℕ) (session middle : PlainSession) (lines : List (List ℕ)) (out : List ℕ) (here : Place) → here ≡ at_line next middle →
     Replies silent number session lines out here → number ≤ next
 number_grows silent number next session middle [] out here at (no_lines none is) = let same : number ≡ next = cc in omega arith
@@ -68,7 +68,7 @@ still_among number other silent b less is = grind (arith, common_steps)
 among_first : (number : ℕ) (silent : List ℕ) → is_among number (number ∷ silent) ≡ true
 among_first number silent = grind (arith, common_steps)
 
--- a number behind those of the lines may be put to the silent ones
+-- a number after those of the lines may be put to the silent ones
 later_silent : (other : ℕ) (silent : List ℕ) (number next : ℕ) (session middle : PlainSession) (lines : List (List ℕ)) (out : List ℕ) (here : Place) →
     next ≤ other → here ≡ at_line next middle → Replies silent number session lines out here → Replies (other ∷ silent) number session lines out here
 later_silent other silent number next session middle [] out here less at (no_lines none is) = no_lines none is
@@ -80,7 +80,7 @@ later_silent other silent number next session middle (line ∷ lines) out here l
     answered (still_among number other silent false (omega arith) is) to (later_silent other silent (suc number) next after middle lines below here less at by) whole
 later_silent other silent number next session middle (line ∷ lines) out here less at (ended is quits none ends) = cc
 
--- a front of the bytes behind what was appended is a front of all
+-- a front of the bytes after what was appended is a front of all
 pub front_behind : (old mid new : Option (List ℕ)) (done piece : List ℕ) → Appends old mid done → AppendsFront mid new piece → AppendsFront old new (done ++ piece)
 front_behind None mid new done piece before front = (0, omega arith, tt)
 front_behind (Some o) None new done piece before front = absurd before
@@ -102,7 +102,7 @@ appends_none (Some o) = grind (arith, common_steps)
 pub whole : {A : Type 0} (xs : List A) → xs ++ [] ≡ xs
 whole xs = grind (arith, common_steps)
 
--- lines and the next: its reply behind theirs
+-- lines and the next: its reply after theirs
 pub record RepliesMore (number : ℕ) (first : CountedSession) (lines : List (List ℕ)) (line : List ℕ) (out text : List ℕ) (after : CountedSession) : Type 0 where
   pub silent : List ℕ
   pub below : AllBelow (suc number) silent

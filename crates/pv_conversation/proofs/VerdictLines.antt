@@ -99,7 +99,7 @@ pub lines_step : (path : List ℕ) (i : ℕ) (ks rest : Forest Mark) (t : Tree M
     verdict_lines_from path i ks ≡ verdict_lines (path ++ (codes "." ++ decimal i)) t ++ verdict_lines_from path (i + 1) rest
 lines_step path i ks rest t e = let n : i + 1 ≡ suc i = omega arith in rw (e, n) refl
 
--- a path without what was put behind it
+-- a path without what was put after it
 pub path_kept : (path more : List ℕ) (n : ℕ) → n ≡ length path → take n (path ++ more) ≡ path
 path_kept path more n is = grind (arith, common_steps)
 

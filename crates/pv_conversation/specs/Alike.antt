@@ -12,7 +12,7 @@ pub data RepliesAlike (told also : Reply) : Type 0 where
       also ≡ reply.Completed k other → RepliesAlike told also
 
 -- The bytes of replies, each like the one in its place among the other bytes, and the same bytes
--- behind them.
+-- after them.
 pub data OutputsAlike : List ℕ → List ℕ → Type 0 where
   ends_alike : {out also : List ℕ} → out ≡ also → OutputsAlike out also
   begins_alike : {out also : List ℕ} (told other : Reply) (rest more : List ℕ) →

@@ -83,24 +83,24 @@ pub record EndedWith (first : CountedSession) (now : ℕ) (script : List ℕ) (a
   pub counts : CountsFirst silent (lines_answered at_end script) first.checked now
   pub written : AreWritten out
 
--- the limit that a byte passes behind the longest script: that on the line, if it is no LF and the
+-- the limit that a byte passes after the longest script: that on the line, if it is no LF and the
 -- line has no room
 abbrev pub IsNext : HeldLine → ℕ → Next → Type 0
 IsNext held b next.LineLimit = (b ≢ FEED) × (length held.bytes ≡ MAX_LINE_BYTES)
 IsNext held b next.ScriptLimit = (b ≡ FEED) ⊎ (length held.bytes ≢ MAX_LINE_BYTES)
 IsNext held b other = ⊥
 
--- what comes where this byte stands behind the longest script
+-- what comes where this byte stands after the longest script
 abbrev pub IsBeyond : HeldLine → ℕ → Next → Next → Type 0
 IsBeyond held b next.More after = IsNext held b after
 IsBeyond held b other after = after ≡ other
 
--- a piece behind which more is asked for passes no limit on the script
+-- a piece after which more is asked for passes no limit on the script
 abbrev pub IsWithinScript : ℕ → ℕ → Next → Type 0
 IsWithinScript size left next.More = size ≤ left
 IsWithinScript size left other = Unit {0}
 
--- how a session goes on behind a piece, or ends, but for the line of a limit; its replies were
+-- how a session goes on after a piece, or ends, but for the line of a limit; its replies were
 -- written so
 abbrev pub ComesNext : (List ℕ → Type 0) → CountedSession → List ℕ → CountedSession → Reading →
     Next → Type 0

@@ -34,7 +34,7 @@ pub data GoesBehind (silent : Bool) (line : List ℕ) : Type 0 where
   no_command : IsNoCommand line → GoesBehind silent line
   no_quit : (c : Command) → SpellsCommand line c → is_quit c ≡ false → GoesBehind silent line
 
--- the counter before these lines, the first of which has this number, and behind them, none of
+-- the counter before these lines, the first of which has this number, and after them, none of
 -- which ended the session; `silent` are the numbers of the lines that there was no memory for
 abbrev pub CountsLines : List ℕ → ℕ → List (List ℕ) → ℕ → ℕ → Type 0
 CountsLines silent number [] before after = after ≡ before
@@ -42,7 +42,7 @@ CountsLines silent number (line ∷ lines) before after =
     (middle : ℕ) × GoesBehind (is_among number silent) line × CountsOneLine line before middle ×
     CountsLines silent (suc number) lines middle after
 
--- so, over the first of these lines; those behind them count nothing
+-- so, over the first of these lines; those after them count nothing
 pub record CountsFirst (silent : List ℕ) (lines : List (List ℕ)) (before after : ℕ) : Type 0 where
   pub first : List (List ℕ)
   pub behind : List (List ℕ)

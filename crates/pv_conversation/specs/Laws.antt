@@ -13,7 +13,7 @@ use Rattle.pv_conversation.specs.Alike.{RepliesAlike, OutputsAlike}
 use Rattle.pv_opening.specs.Course.{RunEnding, input_fault}
 use Rattle.pv_conversation.specs.Session.{EndsSession, Place, at_line, at_quit, Replies, RepliesTo}
 
--- the replies to a piece of a script, and then those to the lines behind it, are the replies to
+-- the replies to a piece of a script, and then those to the lines after it, are the replies to
 -- both
 abbrev pub JoinsReplies : Type 0
 JoinsReplies = (silent : List ℕ) (number next : ℕ) (session middle : PlainSession)
@@ -22,14 +22,14 @@ JoinsReplies = (silent : List ℕ) (number next : ℕ) (session middle : PlainSe
     Replies silent next middle more rest place →
     Replies silent number session (lines ++ more) (out ++ rest) place
 
--- lines behind a `quit` have no reply
+-- lines after a `quit` have no reply
 abbrev pub EndsAtQuit : Type 0
 EndsAtQuit = (silent : List ℕ) (number : ℕ) (session : PlainSession) (lines more : List (List ℕ))
     (out : List ℕ) →
     Replies silent number session lines out at_quit →
     Replies silent number session (lines ++ more) out at_quit
 
--- a line has one reply in a session, but for the document of a completion, and one session behind
+-- a line has one reply in a session, but for the document of a completion, and one session after
 -- it
 abbrev pub HasOneReply : Type 0
 HasOneReply = (session : PlainSession) (line : List ℕ) (reply also : Reply)
@@ -62,7 +62,7 @@ HasOneOutput = (silent : List ℕ) (number : ℕ) (session : PlainSession) (line
     OutputsAlike out also × (place ≡ spot)
 
 -- Where a session ends before the end of its script was reached, and its input didn't fail, bytes
--- that come behind change nothing: so it ends in one way in whatever pieces the script comes.
+-- that come after change nothing: so it ends in one way in whatever pieces the script comes.
 abbrev pub MoreChangesNothing : Type 0
 MoreChangesNothing = (session : PlainSession) (script more silent : List ℕ) (ending : RunEnding) →
     ((out : List ℕ) → ending ≡ input_fault out → ⊥) →

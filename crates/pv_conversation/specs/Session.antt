@@ -57,7 +57,7 @@ done_of (reply.Okay done) = Some done
 done_of other = None
 
 -- What `ok` tells of a move: at most two lists are changed, and the third number is 0 exactly where
--- inserting elements can make the document behind the move valid (`∥ ∥₁` says that they can, and
+-- inserting elements can make the document after the move valid (`∥ ∥₁` says that they can, and
 -- not which).
 pub record TellsMove (after : PlainSession) (done : WhatWasDone) : Type 0 where
   pub few : done.checked ≤ 2
@@ -69,7 +69,7 @@ RepliesByStep IsStep told after =
     (answer : PlainAnswer) × IsStep answer after × (told ≡ reply_to answer) ×
     IfSome (done_of told) (TellsMove after)
 
--- the reply to a command, and the session behind it; `quit` has no reply
+-- the reply to a command, and the session after it; `quit` has no reply
 abbrev pub RepliesBy : PlainSession → Command → Reply → PlainSession → Type 0
 RepliesBy before (command.Edit edit) told after =
     RepliesByStep (λ answer later. IsEditStep before edit answer later) told after
@@ -88,7 +88,7 @@ RepliesBy before command.Complete told after = TellsCompletion before told × (a
 RepliesBy before (command.Offer ask) told after = TellsOffer before ask told × (after ≡ before)
 RepliesBy before command.Quit told after = ⊥
 
--- what a line that doesn't end the session does: the reply to it, and the session behind it
+-- what a line that doesn't end the session does: the reply to it, and the session after it
 pub data RepliesTo (before : PlainSession) (line : List ℕ) (told : Reply) (after : PlainSession) :
     Type 0 where
   unknown : IsNoCommand line → told ≡ reply.NoCommand → after ≡ before →
@@ -131,7 +131,7 @@ pub data Replies (silent : List ℕ) : ℕ → PlainSession → List (List ℕ) 
 abbrev pub all_told : List ℕ → RunEnding
 all_told out = responds (record { status = Done; output = out })
 
--- the replies, and behind them the line of a limit
+-- the replies, and after them the line of a limit
 abbrev pub limited : List ℕ → List ℕ → RunEnding
 limited out text = responds (record { status = Limit; output = out ++ with_feed text })
 
@@ -156,12 +156,12 @@ pub data EndsSession (session : PlainSession) (script silent : List ℕ) (at_end
       MAX_SCRIPT_BYTES < length script →
       Replies silent 1 session (lines_within script) out (at_line number after) →
       ending ≡ limited out (codes "limit script") → EndsSession session script silent at_end ending
-  -- the input failed, behind the replies to all lines that an LF ends
+  -- the input failed, after the replies to all lines that an LF ends
   input_failed : (out : List ℕ) (number : ℕ) (after : PlainSession) → IsWithin script →
       Replies silent 1 session (lines_within script) out (at_line number after) →
       ending ≡ input_fault out →
       EndsSession session script silent at_end ending
-  -- the output failed, behind the replies to these lines or at one of them
+  -- the output failed, after the replies to these lines or at one of them
   output_failed : (lines more : List (List ℕ)) (out : List ℕ) (place : Place) →
       lines_within script ≡ lines ++ more →
       Replies silent 1 session lines out place → ending ≡ output_fault out →
@@ -175,6 +175,6 @@ pub data Converses (session : PlainSession) (course : Course) : Type 0 where
       Converses session course
   without_room : course ≡ without_input 0 short_of_memory → Converses session course
 
--- what `session` does behind the opened files
+-- what `session` does after the opened files
 abbrev pub IsSessionCourse : List ℕ → PlainOpened → Course → Type 0
 IsSessionCourse root opened = Behind (guarding_stage root opened.dtd opened.doc) Converses

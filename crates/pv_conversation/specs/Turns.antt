@@ -21,7 +21,7 @@ abbrev pub IsAnswerOf : Reply → Answer → Type 0
 IsAnswerOf told answer =
     (text_of_reply answer.text ≡ reply_bytes told) × (answer.done ≡ done_of told)
 
--- the reply to a line and the session behind it, or the end, which leaves the session
+-- the reply to a line and the session after it, or the end, which leaves the session
 abbrev pub IsTurn : PlainSession → List ℕ → PlainSession → Option Answer → Type 0
 IsTurn before line after None = SpellsCommand line command.Quit × (after ≡ before)
 IsTurn before line after (Some answer) =

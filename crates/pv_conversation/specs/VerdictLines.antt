@@ -17,7 +17,7 @@ pub data IsVerdictsText (s : PlainSession) (text : List ℕ) : Type 0 where
       text ≡ reply_bytes (Verdicts rows) → IsVerdictsText s text
   lacks_memory : text ≡ reply_bytes NoMemory → IsVerdictsText s text
 
--- what a mark tells behind the path of its list, with the LF
+-- what a mark tells after the path of its list, with the LF
 abbrev pub mark_text : Mark → List ℕ
 mark_text mark =
     codes " " ++ (verdict_word mark.verdict ++ (codes " " ++ (decimal mark.stamp ++ codes "\n")))

@@ -20,11 +20,11 @@ pub enum ReplyText {
     Made(Vec<u8>),
     /// Text that is always the same.
     Fixed(&'static [u8]),
-    /// A first line, and behind it a document with an LF.
+    /// A first line, and after it a document with an LF.
     Shown(Vec<u8>, Bytes),
 }
 
-// Puts the first line of a reply, and the document behind it, which isn't copied.
+// Puts the first line of a reply, and the document after it, which isn't copied.
 fn put_shown<K: Sink>(
     head: &[u8],
     body: &[u8],
@@ -45,7 +45,7 @@ fn put_shown<K: Sink>(
 }
 
 impl ReplyText {
-    /// Puts its bytes behind the replies that are held.
+    /// Puts its bytes after the replies that are held.
     pub(crate) fn put<K: Sink>(&self, buffer: &mut ReplyBuffer, out: &mut K) -> Result<(), Failed>
         requires { K.ready out.old ≡ true }
         ensures ok { OnOk result (HoldsReplies (K.written out.old) (K.written out.new) buffer.new

@@ -70,7 +70,7 @@ impl LineRoom {
         self.append(buffer.format(number).as_bytes());
     }
 
-    /// Cuts it behind its first bytes.
+    /// Cuts it after its first bytes.
     pub fn cut(&mut self, count: usize)
         ensures { self.new ≡ take count self.old }
     {

@@ -21,7 +21,7 @@ use std::sync::ledger::Ledger;
 
 /// A session on a document whose DOCTYPE, where it has one, names the root. No edit changes what
 /// stands before the root, so it stays so; a completion is told by it. No move changes the DTD either,
-/// so what is remembered of it holds behind all moves. Contracts see the session.
+/// so what is remembered of it holds after all moves. Contracts see the session.
 #[derive(Drop)]
 pub struct OpenedSession {
     session: Session,

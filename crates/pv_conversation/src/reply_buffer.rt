@@ -52,7 +52,7 @@ impl ReplyBuffer {
         flushed
     }
 
-    // Holds the bytes behind the others, which leave room for them.
+    // Holds the bytes after the others, which leave room for them.
     fn hold(&mut self, bytes: &[u8])
         requires { length (self.old ++ bytes.now) ≤ 65536 }
         ensures { self.new ≡ self.old ++ bytes.now }
@@ -63,7 +63,7 @@ impl ReplyBuffer {
         }
     }
 
-    /// Holds a reply behind the others. Where there is no room left for it, they are written first;
+    /// Holds a reply after the others. Where there is no room left for it, they are written first;
     /// and it is written too, where it is longer than the room.
     pub fn push<K: Sink>(&mut self, out: &mut K, reply: &[u8]) -> Result<(), Failed>
         requires { K.ready out.old ≡ true }

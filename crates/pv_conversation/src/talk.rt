@@ -44,7 +44,7 @@ pub struct Reading {
     pub buffer: ReplyBuffer,
 }
 
-/// What comes behind a piece of a script.
+/// What comes after a piece of a script.
 #[derive(Clone, Copy)]
 pub enum Next {
     /// More of the script is asked for.
@@ -133,7 +133,7 @@ fn answer_lines<K: Sink, L: Ledger>(
     }
 }
 
-// The limit that a byte passes behind the longest script.
+// The limit that a byte passes after the longest script.
 fn limit_at(lines: &Lines, byte: u8) -> Next
     ensures { IsNext lines.now byte result }
 {
@@ -144,7 +144,7 @@ fn limit_at(lines: &Lines, byte: u8) -> Next
     }
 }
 
-// What comes where a byte stands behind the longest script, which this came behind.
+// What comes where a byte stands after the longest script, which this came after.
 fn beyond(next: Next, lines: &Lines, byte: u8) -> Next
     ensures { IsBeyond lines.now byte next result }
 {
@@ -246,7 +246,7 @@ fn finish<K: Sink, L: Ledger>(
     Ok(())
 }
 
-// Writes the line of a limit behind the replies; the status.
+// Writes the line of a limit after the replies; the status.
 fn announce<K: Sink>(text: &[u8], out: &mut K) -> Status
     requires { K.ready out.old ≡ true }
     ensures { (old : Option (List ℕ)) → (replies : List ℕ) →
@@ -260,7 +260,7 @@ fn announce<K: Sink>(text: &[u8], out: &mut K) -> Status
     }
 }
 
-// Writes, behind the replies, that the line of this number is too long; the status.
+// Writes, after the replies, that the line of this number is too long; the status.
 fn announce_line<K: Sink>(number: u64, out: &mut K) -> Status
     requires { K.ready out.old ≡ true }
     ensures { (old : Option (List ℕ)) → (replies : List ℕ) →

@@ -37,7 +37,7 @@ fn made(session: &OpenedSession, done: Done, room: Vec<u8>) -> Answer
     okay(done, room)
 }
 
-// The reply to an edit. Nothing behind the edit takes memory where it was made.
+// The reply to an edit. Nothing after the edit takes memory where it was made.
 fn edit<L: Ledger>(
     alloc: Global,
     session: &mut OpenedSession,

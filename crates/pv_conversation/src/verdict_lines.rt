@@ -57,7 +57,7 @@ fn lists_in_all(kids: &[Node]) -> u64
     count
 }
 
-// Appends what is known of a list behind its path.
+// Appends what is known of a list after its path.
 fn append_mark(line: &mut LineRoom, mark: &Mark)
     requires { length line.old + 64 ≤ 16384 }
     ensures { line.new ≡ line.old ++ mark_text mark.now }
@@ -219,7 +219,7 @@ fn put_all<K: Sink>(
     put_lists(&doc.root, line, buffer, out)
 }
 
-/// Puts the reply to `verdicts` behind the replies that are held. Where there is no memory for a
+/// Puts the reply to `verdicts` after the replies that are held. Where there is no memory for a
 /// line, nothing of it is put.
 pub fn put_verdicts<K: Sink>(
     alloc: Global,

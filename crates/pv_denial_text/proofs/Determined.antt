@@ -44,7 +44,7 @@ kind-told (row_line r) x i =
     ap kind_by (feed-behind (words (row_words r)) x ∙ ap (λ l. l ++ (10 ∷ x)) w.whole ∙ append_assoc (kind_word (plain_site r.site)) (32 ∷ w.behind) (10 ∷ x)) ∙ row-kind (plain_site r.site) (w.behind ++ (10 ∷ x))
 kind-told end_line x i = refl
 
--- one line, and what stands behind it
+-- one line, and what stands after it
 pub record SameLine (l m : DenialLine) (x y : List ℕ) : Type 0 where
   pub lines : l ≡ m
   pub rests : x ≡ y

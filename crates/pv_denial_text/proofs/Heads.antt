@@ -97,7 +97,7 @@ fault-at-cause bytes rest path more b l none = record {
   cut = λ w. let e = w.0 in cc;
 }
 
--- the head and what stands behind it
+-- the head and what stands after it
 pub denial-read : (bytes path : List ℕ) (c : Cause) (rest : List ℕ) (rows : List Row) (d : Denial) → length bytes ≤ MAX_DENIAL_BYTES → Stand None bytes (head_lines path c) rest → EndsWithRows rest rows →
     d ≡ record { path = path; cause = c; rows = rows } → DenialMeans bytes (is_denial d)
 denial-read bytes path c rest rows d few s t is =

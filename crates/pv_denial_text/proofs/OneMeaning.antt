@@ -11,7 +11,7 @@ use Rattle.pv_denial_text.specs.Texts.{IsDenialText, last_line, lines_of_denial,
 use Rattle.pv_denial_text.proofs.Determined.{same-line}
 use Rattle.pv_denial_text.proofs.Stands.{last-append, values-append, values-of}
 
--- some lines are others, with more behind them
+-- some lines are others, with more after them
 record Continues (xs ys : List DenialLine) : Type 0 where
   pub more : List DenialLine
   pub is : xs ≡ ys ++ more
@@ -19,7 +19,7 @@ record Continues (xs ys : List DenialLine) : Type 0 where
 behind-first : (before : Option DenialLine) (bytes : List ℕ) (y : DenialLine) (ys : List DenialLine) (more : List ℕ) → Stand before bytes (y ∷ ys) more → bytes ≡ line_text y ++ (lines_text ys ++ more)
 behind-first before bytes y ys more t = t.whole ∙ append_assoc (line_text y) (lines_text ys) more
 
--- where no line stands behind some lines, other lines at the front are the first of them
+-- where no line stands after some lines, other lines at the front are the first of them
 longest : (before : Option DenialLine) (bytes : List ℕ) (xs : List DenialLine) (rest : List ℕ) (ys : List DenialLine) (more : List ℕ) →
     Stand before bytes xs rest → StandsNone (last_line before xs) rest → Stand before bytes ys more → Continues xs ys
 longest before bytes xs rest [] more s none t = record { more = xs; is = refl }
@@ -33,7 +33,7 @@ longest before bytes (x ∷ xs) rest (y ∷ ys) more s none t =
     record { are_lines = s.are_lines.2; whole = refl } none record { are_lines = rw same.lines t.are_lines.2; whole = same.rests } in
     record { more = below.more; is = λ i. same.lines i ∷ below.is i }
 
--- as many lines as stand at the front, and what stands behind them
+-- as many lines as stand at the front, and what stands after them
 record IsRun (bytes : List ℕ) (lines : List DenialLine) (rest : List ℕ) : Type 0 where
   pub stand : Stand None bytes lines rest
   pub none : StandsNone (last_line None lines) rest

@@ -1,4 +1,4 @@
--- Rows behind a cause.
+-- Rows after a cause.
 use Rattle.std.proofs.Common.{◌≡◌, ◌≤◌, ◌<◌, ℕ, ◌+◌, List, [], ◌∷◌, ◌++◌, map, length, refl, sym, subst, ◌∙◌, arith, Option, Some, None}
 use Rattle.std.proofs.lemmas.List.{length-append, length-map, map-append}
 use Rattle.pv_rules.specs.declared.sites.Site.{Site}
@@ -13,7 +13,7 @@ use Rattle.pv_denial_text.specs.Texts.{MayFollow, last_line}
 use Rattle.pv_denial_text.proofs.RowWords.{same-row}
 use Rattle.pv_denial_text.proofs.Stands.{last-append, stand-more, stand-none, values-append, values-of}
 
--- a row may stand behind the line before it
+-- a row may stand after the line before it
 pub may-follow : (before : Option DenialLine) (last : Option Site) (r : Row) → IsRowPlace before last → Follows last r.site → MayFollow before (row_line r)
 may-follow None last r p f = absurd p
 may-follow (Some version_line) last r p f = absurd p

@@ -19,11 +19,11 @@ use Rattle.pv_denial_text.specs.Fronts.{AreValueWords, Begins, BeginsNone, IsRow
 use Rattle.pv_denial_text.specs.Lines.{IsRowInRange, line_text, row_line, row_words}
 use Rattle.pv_denial_text.proofs.ValueWords.{one-values, values-free}
 
--- what stands behind the kind of a row
+-- what stands after the kind of a row
 abbrev behind_kind : Site → List ℕ → List ℕ
 behind_kind s rest = decimal (site_number (plain_site s)) ++ (32 ∷ rest)
 
--- the letter of a row's kind, and what stands behind it
+-- the letter of a row's kind, and what stands after it
 record HasLetter (line : List ℕ) (s : Site) (rest : List ℕ) : Type 0 where
   pub letter : ℕ
   pub is_kind : IsKind letter s
@@ -65,7 +65,7 @@ no-site line letter behind is none s rest b =
     let P : List ℕ → Type 0 = λ l. IsSiteBehind l s rest in
     none s (parts-of letter behind s rest (subst P is b)).is_kind
 
--- one site, and what stands behind it
+-- one site, and what stands after it
 pub record SameSite (s t : Site) (x y : List ℕ) : Type 0 where
   pub sites : s ≡ t
   pub rests : x ≡ y
@@ -84,7 +84,7 @@ words-behind : (kind : List ℕ) (n : ℕ) (values : List ℕ) → values ≢ []
 words-behind kind n [] some = absurd (some refl)
 words-behind kind n (v ∷ vs) some = refl
 
--- the words of a row, as its kind and what stands behind it
+-- the words of a row, as its kind and what stands after it
 pub record HasKind (r : Row) : Type 0 where
   pub behind : List ℕ
   pub whole : words (row_words r) ≡ kind_word (plain_site r.site) ++ (32 ∷ behind)
@@ -152,7 +152,7 @@ other-row bytes line after at none r rest b =
 pub begins-row : (bytes line after : List ℕ) (r : Row) → EndsAt (10 ∷ []) bytes line after → IsRowText line r → Begins bytes (row_line r) after
 begins-row bytes line after r at t = record { in_range = t.in_range; whole = at.whole ∙ sym (feed-behind line after) ∙ ap (λ l. with_feed l ++ after) t.whole }
 
--- one row, and what stands behind it
+-- one row, and what stands after it
 pub record SameRow (r q : Row) (x y : List ℕ) : Type 0 where
   pub rows : r ≡ q
   pub rests : x ≡ y

@@ -17,7 +17,7 @@ use Rattle.pv_denial_text.specs.Steps.{head_lines}
 use Rattle.pv_denial_text.specs.Texts.{AreLines, IsRowBefore, lines_of_denial, lines_text}
 use Rattle.pv_denial_text.proofs.Stands.{text-append}
 
--- a word, and numbers behind it
+-- a word, and numbers after it
 words-text : (a : List ℕ) (vs : List ℕ) → words (a ∷ map decimal vs) ≡ a ++ numbers_text vs
 words-text a [] = sym (append-nil a)
 words-text a (v ∷ vs) = ap (λ l. a ++ (codes " " ++ l)) (words-text (decimal v) vs)

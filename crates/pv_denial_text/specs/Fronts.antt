@@ -9,7 +9,7 @@ use Rattle.pv_cert.specs.Lines.{kind_word}
 use Rattle.pv_denial.specs.declared.denials.Row.{Row}
 use Rattle.pv_denial_text.specs.Lines.{DenialLine, IsInRange, IsRowInRange, line_text, row_words}
 
--- This line stands at the front, with this behind it, and is in range.
+-- This line stands at the front, with this after it, and is in range.
 pub record Begins (bytes : List ℕ) (line : DenialLine) (rest : List ℕ) : Type 0 where
   pub in_range : IsInRange line
   pub whole : bytes ≡ line_text line ++ rest

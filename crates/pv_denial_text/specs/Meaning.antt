@@ -24,19 +24,19 @@ values_among (cause_line c ∷ lines) = values_among lines
 values_among (row_line r ∷ lines) = length r.values + values_among lines
 values_among (end_line ∷ lines) = values_among lines
 
--- These lines, which may stand behind this one, stand at the front, and this behind them.
+-- These lines, which may stand after this one, stand at the front, and this after them.
 pub record Stand (before : Option DenialLine) (bytes : List ℕ) (lines : List DenialLine)
     (rest : List ℕ) : Type 0 where
   pub are_lines : AreLines before lines
   pub whole : bytes ≡ lines_text lines ++ rest
 
--- The line stands at the front, with this behind it, and may stand behind this one.
+-- The line stands at the front, with this after it, and may stand after this one.
 pub record Stands (before : Option DenialLine) (bytes : List ℕ) (line : DenialLine)
     (rest : List ℕ) : Type 0 where
   pub may_follow : MayFollow before line
   pub begins : Begins bytes line rest
 
--- no line stands at the front that may stand behind this one
+-- no line stands at the front that may stand after this one
 abbrev pub StandsNone : Option DenialLine → List ℕ → Type 0
 StandsNone before bytes = (line : DenialLine) (rest : List ℕ) → Stands before bytes line rest → ⊥
 
@@ -65,7 +65,7 @@ pub record HasTooMany (bytes : List ℕ) : Type 0 where
   pub within : values_among lines ≤ most_values
   pub past : most_values < values_among lines + length row.values
 
--- a denial; a fault behind so many whole lines; or past a limit
+-- a denial; a fault after so many whole lines; or past a limit
 pub data Outcome : Type 0 where
   is_denial : (d : Denial) → Outcome
   is_fault : (k : ℕ) → Outcome

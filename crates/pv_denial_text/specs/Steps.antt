@@ -1,4 +1,4 @@
--- The parts of a denial's text, one behind the other, and what is at fault in them.
+-- The parts of a denial's text, one after the other, and what is at fault in them.
 use Rattle.std.specs.Prelude.{◌≡◌, ◌≤◌, ◌+◌, ◌<◌, ℕ, List, [], ◌∷◌, ◌++◌, length, map, Option}
 use Rattle.std.specs.Prelude.{Some, None}
 use Rattle.pv_rules.specs.PlainForms.{plain_site}
@@ -14,12 +14,12 @@ use Rattle.pv_denial_text.specs.Texts.{last_line}
 use Rattle.pv_denial_text.specs.declared.errors.TableError.{TableError}
 use Rattle.pv_denial_text.specs.declared.errors.TableError.TheVariants.{Limit, NoMemory, Syntax}
 
--- the site of a row may stand behind the last one, or at the head of the rows
+-- the site of a row may stand after the last one, or at the head of the rows
 abbrev pub Follows : Option Site → Site → Type 0
 Follows None s = Unit {0}
 Follows (Some last) s = IsSiteBefore (plain_site last) (plain_site s)
 
--- the line is the cause or a row, and the last site behind it is this
+-- the line is the cause or a row, and the last site after it is this
 abbrev pub IsRowPlace : Option DenialLine → Option Site → Type 0
 IsRowPlace None last = ⊥
 IsRowPlace (Some version_line) last = ⊥
@@ -28,12 +28,12 @@ IsRowPlace (Some (cause_line c)) last = last ≡ None
 IsRowPlace (Some (row_line r)) last = last ≡ Some r.site
 IsRowPlace (Some end_line) last = ⊥
 
--- no row stands at the front that may stand behind this line
+-- no row stands at the front that may stand after this line
 abbrev pub StandsNoRow : Option DenialLine → List ℕ → Type 0
 StandsNoRow before bytes =
     (r : Row) (rest : List ℕ) → Stands before bytes (row_line r) rest → ⊥
 
--- a row stands at the front that may stand behind a line with this last site
+-- a row stands at the front that may stand after a line with this last site
 abbrev pub StandsRow : Option Site → List ℕ → Row → List ℕ → Type 0
 StandsRow last bytes r rest = (before : Option DenialLine) → IsRowPlace before last →
     Stands before bytes (row_line r) rest
@@ -53,7 +53,7 @@ RefusesHead bytes (Syntax k) = IsFaulty bytes k
 RefusesHead bytes Limit = ⊥
 RefusesHead bytes NoMemory = Unit {0}
 
--- Behind a cause the fault is behind so many lines.
+-- After a cause the fault is after so many lines.
 pub record IsFaultyBehind (c : Cause) (bytes : List ℕ) (k : ℕ) : Type 0 where
   pub lines : List DenialLine
   pub rest : List ℕ
@@ -72,13 +72,13 @@ pub record HasTooManyBehind (c : Cause) (bytes : List ℕ) : Type 0 where
   pub within : values_among lines ≤ most_values
   pub past : most_values < values_among lines + length row.values
 
--- These rows and the end stand behind a cause, and nothing behind them.
+-- These rows and the end stand after a cause, and nothing after them.
 pub record EndsWithRows (bytes : List ℕ) (rows : List Row) : Type 0 where
   pub stand : (c : Cause) →
       Stand (Some (cause_line c)) bytes (map row_line rows ++ end_line ∷ []) []
   pub few : values_in rows ≤ most_values
 
--- what the error tells of what stands behind a cause
+-- what the error tells of what stands after a cause
 abbrev pub RefusesRows : List ℕ → TableError → Type 0
 RefusesRows bytes (Syntax k) = (c : Cause) → IsFaultyBehind c bytes k
 RefusesRows bytes Limit = (c : Cause) → HasTooManyBehind c bytes

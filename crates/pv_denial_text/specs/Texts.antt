@@ -40,7 +40,7 @@ IsRowOrEnd MayStand end_line = Unit {0}
 abbrev pub IsRowBefore : Row → Row → Type 0
 IsRowBefore q r = IsSiteBefore (plain_site q.site) (plain_site r.site)
 
--- The line may stand behind this one, or at the start of a text where there is none: the version,
+-- The line may stand after this one, or at the start of a text where there is none: the version,
 -- the list, the cause, any number of rows, and the end. Rows ascend strictly by kind and number.
 abbrev pub MayFollow : Option DenialLine → DenialLine → Type 0
 MayFollow None line = IsVersion line
@@ -50,13 +50,13 @@ MayFollow (Some (cause_line c)) line = IsRowOrEnd (λ r. Unit {0}) line
 MayFollow (Some (row_line q)) line = IsRowOrEnd (IsRowBefore q) line
 MayFollow (Some end_line) line = ⊥
 
--- each line is in range and may stand behind the one before it, the first one behind this
+-- each line is in range and may stand after the one before it, the first one after this
 abbrev pub AreLines : Option DenialLine → List DenialLine → Type 0
 AreLines before [] = Unit {0}
 AreLines before (line ∷ lines) =
     MayFollow before line × IsInRange line × AreLines (Some line) lines
 
--- the last of some lines behind this one
+-- the last of some lines after this one
 abbrev pub last_line : Option DenialLine → List DenialLine → Option DenialLine
 last_line before [] = before
 last_line before (line ∷ lines) = last_line (Some line) lines

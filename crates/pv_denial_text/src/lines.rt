@@ -13,7 +13,7 @@ use pv_tree::Path;
 use pv_words::{line_of, written_path};
 use std::alloc::Global;
 
-/// What stands behind the version at the front.
+/// What stands after the version at the front.
 pub fn version_at(bytes: &[u8]) -> Option<&[u8]>
     ensures version { MatchOption result (BeginsNot version_line bytes.now)
         (λ r. Begins bytes.now version_line r.now) }
@@ -22,7 +22,7 @@ pub fn version_at(bytes: &[u8]) -> Option<&[u8]>
     after_bytes(b"pvdeny 1\n", bytes)
 }
 
-/// The path at the front, and what stands behind its line.
+/// The path at the front, and what stands after its line.
 pub fn list_at(alloc: Global, bytes: &[u8]) -> Result<Option<(Path, &[u8])>, NoMemory>
     ensures list { IfOk result (λ found. MatchOption found (BeginsNone list_line bytes.now)
         (λ r. Begins bytes.now (list_line r.0) r.1.now)) }
@@ -37,7 +37,7 @@ pub fn list_at(alloc: Global, bytes: &[u8]) -> Result<Option<(Path, &[u8])>, NoM
     }
 }
 
-/// The cause at the front, and what stands behind its line.
+/// The cause at the front, and what stands after its line.
 pub fn cause_at(bytes: &[u8]) -> Option<(Cause, &[u8])>
     ensures cause { MatchOption result (BeginsNone cause_line bytes.now)
         (λ r. Begins bytes.now (cause_line r.0) r.1.now) }
@@ -48,7 +48,7 @@ pub fn cause_at(bytes: &[u8]) -> Option<(Cause, &[u8])>
     Some((cause, rest))
 }
 
-/// What stands behind the end at the front.
+/// What stands after the end at the front.
 pub fn end_at(bytes: &[u8]) -> Option<&[u8]>
     ensures { MatchOption result (BeginsNot end_line bytes.now)
         (λ r. Begins bytes.now end_line r.now) }

@@ -17,7 +17,7 @@ use std::alloc::Global;
 /// The most bytes of the text of a denial.
 pub const MAX_DENIAL_BYTES: usize = 134_217_728;
 
-// A denial up to its rows, and what stands behind that.
+// A denial up to its rows, and what stands after that.
 #[derive(Drop)]
 struct Head<'a> {
     path: Path,

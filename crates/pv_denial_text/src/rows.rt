@@ -45,7 +45,7 @@ fn is_before(one: Site, other: Site) -> bool
     first < second || first == second && site_number(one) < site_number(other)
 }
 
-// Whether a row of a site may stand behind the last one, or at the head of the rows.
+// Whether a row of a site may stand after the last one, or at the head of the rows.
 fn follows(last: Option<Site>, next: Site) -> bool
     ensures { IsTrue result ↔ Follows last next }
 {
@@ -55,7 +55,7 @@ fn follows(last: Option<Site>, next: Site) -> bool
     }
 }
 
-// The site that a line begins with, and what stands behind its number.
+// The site that a line begins with, and what stands after its number.
 fn site_in(line: &[u8]) -> Option<(Site, &[u8])>
     ensures { MatchOption result
         ((s : PlainSiteOf) (rest : List ℕ) → IsSiteBehind line.now s rest → ⊥)
@@ -84,7 +84,7 @@ fn row_in(alloc: Global, line: &[u8]) -> Result<Option<Row>, NoMemory>
     }
 }
 
-// The row at the front, and what stands behind it.
+// The row at the front, and what stands after it.
 fn row_at(alloc: Global, bytes: &[u8]) -> Result<Option<(Row, &[u8])>, NoMemory>
     ensures row { IfOk result (λ found. MatchOption found (BeginsNone row_line bytes.now)
         (λ r. Begins bytes.now (row_line r.0) r.1.now)) }
@@ -99,7 +99,7 @@ fn row_at(alloc: Global, bytes: &[u8]) -> Result<Option<(Row, &[u8])>, NoMemory>
     }
 }
 
-// The row at the front that may stand behind the last site, and what stands behind it.
+// The row at the front that may stand after the last site, and what stands after it.
 fn next_row(
     alloc: Global,
     last: Option<Site>,
@@ -118,7 +118,7 @@ fn next_row(
     Ok(Some((next, rest)))
 }
 
-/// The rows behind the cause of a denial, up to its end.
+/// The rows after the cause of a denial, up to its end.
 pub fn read_rows(alloc: Global, bytes: &[u8]) -> Result<Vec<Row>, TableError>
     requires { length bytes.now ≤ MAX_BYTES }
     ensures read { IfOk result (λ rows. EndsWithRows bytes.now rows.items) }

@@ -150,7 +150,7 @@ element_calm n m text s shallow =
     calm-append s.before_name (n ++ (s.before_spec ++ (s.spec ++ s.after))) (plain_calm s.before_name (plain_space s.before_name s.space_before_name.space)) (calm-append n (s.before_spec ++ (s.spec ++ s.after)) (plain_calm n (plain_name n s.is_name))
     (calm-append s.before_spec (s.spec ++ s.after) (plain_calm s.before_spec (plain_space s.before_spec s.space_before_spec.space)) (calm-append s.spec s.after (model_calm m s.spec s.is_spec shallow) (plain_calm s.after (plain_space s.after s.space_after)))))
 
--- behind the word
+-- after the word
 same_behind_word : (a b : List ℕ) → codes "<!ELEMENT" ++ a ≡ codes "<!ELEMENT" ++ b → a ≡ b
 same_behind_word a b e = cc
 

@@ -1,4 +1,4 @@
--- The rules that an item breaks behind earlier ones.
+-- The rules that an item breaks after earlier ones.
 use Rattle.std.proofs.Common.{◌≡◌, ◌≤◌, ◌+◌, ℕ, List, [], ◌++◌, length, Bool, true, false, not, ◌||◌, cond, is_some, Some, None, refl, sym, ◌∙◌, length-append, arith}
 use Rattle.std.proofs.Math.Bool.{or-false}
 use Rattle.std.proofs.lemmas.Bool.{le-leb, leb-true}

@@ -25,7 +25,7 @@ module _ {A : Type 0} (eq : A → A → Bool) where
   differ [] = true
   differ (x ∷ xs) = not (list_any (eq x) xs) && differ xs
 
-  -- each is new behind these and those before it
+  -- each is new after these and those before it
   abbrev pub are_new : List A → List A → Bool
   are_new seen [] = true
   are_new seen (x ∷ xs) = not (list_any (eq x) seen) && are_new (seen ++ x ∷ []) xs

@@ -8,7 +8,7 @@ use Rattle.pv_dtd.specs.ItemReading.{listed_at}
 abbrev with_front : List (List ℕ) → Option (List (List ℕ) × List ℕ) → Option (List (List ℕ) × List ℕ)
 with_front front others = others >>= λ more. Some (front ++ more.0, more.1)
 
--- what was read and what is read behind it are all that is read
+-- what was read and what is read after it are all that is read
 pub record IsReadSoFar (bytes : List ℕ) (front : List (List ℕ)) (rest : List ℕ) : Type 0 where
   pub steps : ℕ
   pub enough : length rest < suc steps

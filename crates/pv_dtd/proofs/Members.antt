@@ -13,7 +13,7 @@ onto (p ∷ ps) others = part p (onto ps others)
 abbrev pub group_onto : ℕ → List NamedPart → Option (NamedParts × List ℕ) → Option (NamedPart × List ℕ)
 group_onto separator members others = others >>= λ more. Some (group_of separator (onto members more.0), more.1)
 
--- the members so far and what is read behind them are the group of the first member and what is read behind it
+-- the members so far and what is read after them are the group of the first member and what is read after it
 pub record IsGroupSoFar (particle : Reader NamedPart) (separator : ℕ) (first : NamedPart) (behind : List ℕ) (members : List NamedPart) (rest : List ℕ) : Type 0 where
   pub steps : ℕ
   pub enough : length rest < suc steps

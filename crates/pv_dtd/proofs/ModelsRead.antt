@@ -17,7 +17,7 @@ use Rattle.pv_chars.proofs.Binding.{bound, same_some}
 use Rattle.pv_chars.proofs.NameBytes.{is_name_byte, name_at_takes, name_bytes, name_some}
 use Rattle.pv_dtd.proofs.PartsRead.{Reads, particle_reads}
 
--- listed names, and space behind them
+-- listed names, and space after them
 record ReadsListed (bytes : List ℕ) (f : List (List ℕ) × List ℕ) : Type 0 where
   text : List ℕ
   after : List ℕ

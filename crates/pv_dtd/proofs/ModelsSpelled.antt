@@ -1,4 +1,4 @@
--- A content model that is spelled is read, where what stands behind it can't go on with it.
+-- A content model that is spelled is read, where what stands after it can't go on with it.
 use Rattle.std.proofs.Common.{◌≡◌, ℕ, zero, suc, ◌≤◌, ◌<◌, inl, inr, List, [], ◌∷◌, ◌++◌, length, codes, ◌==◌, Bool, true, false, Some, None, refl, sym, ap, ◌∙◌, append_assoc, length-append, arith}
 use Rattle.std.proofs.lemmas.Bool.Decides.{Decides-eqb}
 use Rattle.pv_chars.specs.Spaces.{is_space, IsOptionalSpace}
@@ -14,7 +14,7 @@ use Rattle.pv_chars.proofs.NameBytes.{is_name_byte, names_have_no_space, name_be
 use Rattle.pv_dtd.specs.SoFar.{IsShallow}
 use Rattle.pv_dtd.proofs.PartsSpelled.{goes_on, part_begins, part_is_read, regrouped}
 
--- no name goes on where other names, space or the end stand behind it
+-- no name goes on where other names, space or the end stand after it
 listed_begin : (names : List (List ℕ)) (text after rest : List ℕ) → SpellsListed names text → IsOptionalSpace after → begins is_name_byte (text ++ (after ++ (codes ")" ++ rest))) ≡ false
 listed_begin [] text after rest s space = rw s (begins_behind is_name_byte names_have_no_space after (codes ")" ++ rest) space refl)
 listed_begin (n ∷ ns) text after rest s space = rw (s.7, regrouped s.0 124 s.1 n s.2 (after ++ (codes ")" ++ rest))) (begins_behind is_name_byte names_have_no_space s.0 _ s.3 refl)
@@ -40,7 +40,7 @@ listed_are_read (n ∷ ns) text s after rest (suc steps) space few =
 mixed_regrouped : (before listed after end rest : List ℕ) → (codes "(" ++ before ++ codes "#PCDATA" ++ listed ++ after ++ end) ++ rest ≡ 40 ∷ (before ++ (codes "#PCDATA" ++ (listed ++ (after ++ (end ++ rest)))))
 mixed_regrouped before listed after end rest = simp append_assoc
 
--- a mixed model whose end, behind its ')', is this
+-- a mixed model whose end, after its ')', is this
 mixed_is_read : (names : List (List ℕ)) (end text : List ℕ) (close : List ℕ) → SpellsMixed names end text → end ≡ codes ")" ++ close → (rest : List ℕ) → after_end names (close ++ rest) (after_bytes (codes "*") (close ++ rest)) ≡ Some rest →
     model_at (text ++ rest) ≡ Some (mixed names, rest)
 unfolding model_at group_model_at mixed_at
@@ -73,7 +73,7 @@ no_data more (opt p) text rest s = rw (s.3, append_assoc s.0 (codes "?") rest) (
 no_data more (star p) text rest s = rw (s.3, append_assoc s.0 (codes "*") rest) (no_data more p s.0 (codes "*" ++ rest) s.2)
 no_data more (plus p) text rest s = rw (s.3, append_assoc s.0 (codes "+") rest) (no_data more p s.0 (codes "+" ++ rest) s.2)
 
--- a group begins with '(', and no #PCDATA stands behind that
+-- a group begins with '(', and no #PCDATA stands after that
 record Opens (text : List ℕ) : Type 0 where
   inside : List ℕ
   opened : text ≡ codes "(" ++ inside

@@ -53,7 +53,7 @@ new-once (x ∷ xs) names seen same = new_once_by names seen same x xs (list_any
 pub distinct-once : (xs : List (List ℕ)) → are_distinct (each_once [] xs) ≡ true
 distinct-once xs = sym (new-distinct (each_once [] xs)) ∙ new-once xs [] [] (λ x. refl)
 
--- names that are new all go behind
+-- names that are new all go at the end
 grown_new_by : (names : List (List ℕ)) (x : List ℕ) (xs : List (List ℕ)) (there : Bool) → list_any (bytes_eq x) names ≡ there → (not there && are_new bytes_eq (names ++ x ∷ []) xs) ≡ true → (are_new bytes_eq (names ++ x ∷ []) xs ≡ true → with_names (names ++ x ∷ []) xs ≡ (names ++ x ∷ []) ++ xs) → with_names (names_with names x) xs ≡ names ++ x ∷ xs
 grown_new_by names x xs true is new below = cc
 grown_new_by names x xs false is new below = ap (λ ns. with_names ns xs) (with_name_if names x false is) ∙ below new ∙ append_assoc names (x ∷ []) xs

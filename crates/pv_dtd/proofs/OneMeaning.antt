@@ -16,7 +16,7 @@ use Rattle.pv_dtd.proofs.Shallow.{begins_shallow}
 use Rattle.pv_dtd.proofs.ItemsRead.{item_read, item_is_read}
 use Rattle.pv_chars.proofs.CharFacts.{comment_opens, instruction_opens}
 
--- The place behind white space.
+-- The place after white space.
 place_begins : (place : List ℕ) → IsTrue (is_place place) → begins is_space place ≡ false
 place_begins [] is = cc
 place_begins (b ∷ bs) is = by (is_space b) is
@@ -207,7 +207,7 @@ same_kind {before} {front} {place} {k} {j} a b =
       | inr (inr less) ↦ absurd (a.first j less b.holds)
     ]
 
--- behind these items, the rest has one meaning
+-- after these items, the rest has one meaning
 pub same_meaning : {before : List DtdItem} {rest : List ℕ} {o p : Outcome} → DtdRestMeans before rest o → DtdRestMeans before rest p → o ≡ p
 same_meaning (ends a) (ends b) = refl
 same_meaning (ends a) (item g i n m) = no_place a g

@@ -1,4 +1,4 @@
--- A content particle that is spelled is read, where what stands behind it can't go on with it.
+-- A content particle that is spelled is read, where what stands after it can't go on with it.
 use Rattle.std.proofs.Common.{◌≡◌, ℕ, zero, suc, ◌≤◌, ◌<◌, List, [], ◌∷◌, ◌++◌, length, codes, ◌||◌, ◌==◌, Bool, false, Some, refl, ap, ◌∙◌, append_assoc, length-append, eq-eqb, arith}
 use Rattle.std.proofs.lemmas.Bool.{or_parts}
 use Rattle.pv_chars.specs.Spaces.{is_space, IsOptionalSpace}
@@ -93,7 +93,7 @@ regrouped before separator space next others end = simp append_assoc
 group_regrouped : (before first others after rest : List ℕ) → (codes "(" ++ before ++ first ++ others ++ after ++ codes ")") ++ rest ≡ 40 ∷ (before ++ (first ++ (others ++ (after ++ (codes ")" ++ rest)))))
 group_regrouped before first others after rest = simp append_assoc
 
--- nothing goes on with a particle that other members or the end stand behind
+-- nothing goes on with a particle that other members or the end follow
 others_begin : (separator : ℕ) → IsMark separator → (ps : NamedParts) (text after rest : List ℕ) → SpellsOthers (separator ∷ []) ps text → IsOptionalSpace after → begins goes_on (text ++ (after ++ (codes ")" ++ rest))) ≡ false
 others_begin separator mark no_parts text after rest s space = rw s (begins_behind goes_on particles_have_no_space after (codes ")" ++ rest) space refl)
 others_begin separator mark (part p ps) text after rest s space = rw (s.8, regrouped s.0 separator s.1 s.2 s.3 (after ++ (codes ")" ++ rest))) (begins_behind goes_on particles_have_no_space s.0 _ s.4 mark.ends)

@@ -11,7 +11,7 @@ use Rattle.pv_chars.proofs.Binding.{same_some}
 abbrev is_other : ℕ → ℕ → Bool
 is_other quote b = not (b == quote)
 
--- behind a text with literals stands a byte that stops
+-- after a text with literals stands a byte that stops
 pub record Stops (stops : ℕ → Bool) (bytes : List ℕ) (stop : ℕ) (rest : List ℕ) : Type 0 where
   pub text : List ℕ
   pub is_text : IsQuotedText stops text

@@ -1,4 +1,4 @@
--- The items that were read, and what the rest means behind them.
+-- The items that were read, and what the rest means after them.
 use Rattle.std.proofs.Common.{◌≡◌, ◌≢◌, ◌≤◌, ◌<◌, ◌+◌, ℕ, List, [], ◌∷◌, ◌++◌, length, Bool, true, false, ◌&&◌, not, is_some, Some, None, refl, sym, ap, ◌∙◌, length-append, append-nil, subst, arith}
 use Rattle.std.specs.Prelude.{nat_eq}
 use Rattle.std.proofs.lemmas.Grind.{flat_map-append}
@@ -74,7 +74,7 @@ differ-push (m ∷ ns) n d new =
     let other : list_any (bytes_eq m) (ns ++ n ∷ []) ≡ list_any (bytes_eq m) ns = list_any-append (bytes_eq m) ns (n ∷ []) ∙ rw (bytes_eq-swap m n, apart.0) (or-false (list_any (bytes_eq m) ns)) in
     rw (other, two.0, differ-push ns n two.1 apart.1) refl
 
--- a new name goes behind
+-- a new name goes at the end
 declared_behind : (names : List (List ℕ)) (i : DtdItem) → declares_again names i ≡ false → with_names names (declared_by i) ≡ names ++ declared_by i
 declared_behind names (element n model) new =
     let none : is_some (place_of names n) ≡ false = is_some-place n names ∙ sym (or-false (list_any (bytes_eq n) names)) ∙ new in
@@ -94,7 +94,7 @@ differ_behind names instruction d new = ap are_distinct (append-nil names) ∙ d
 pub joined : {A : Type 0} (f : DtdItem → List A) (before : List DtdItem) (i : DtdItem) → flat_map f (before ++ i ∷ []) ≡ flat_map f before ++ f i
 joined f before i = flat_map-append f before (i ∷ []) ∙ ap (λ xs. flat_map f before ++ xs) (append-nil (f i))
 
--- ruled items, and behind them one that keeps the rules
+-- ruled items, and after them one that keeps the rules
 pub ruled_more : (before : List DtdItem) (i : DtdItem) → AreRuled before → {front : Bool} {place rest : List ℕ} → StandsAt front place i rest → IsShallowItem i → Keeps (declared_in before) (parts_of_models (models_in before)) i → AreRuled (before ++ i ∷ [])
 ruled_more before i r b shallow k =
     let long = or_parts (list_any is_too_long (declared_by i)) (list_any is_too_long (mentioned_by i)) (sym (list_any-append is_too_long (declared_by i) (mentioned_by i)) ∙ k.short) in

@@ -1,4 +1,4 @@
--- What stands behind some items means a DTD exactly where it spells items that are ruled behind these.
+-- What stands after some items means a DTD exactly where it spells items that are ruled after these.
 use Rattle.std.proofs.Common.{◌≡◌, inl, inr, ℕ, List, [], ◌∷◌, ◌++◌, codes, Bool, true, false, not, refl, sym, ap, ◌∙◌, append_assoc, append-nil, subst}
 use Rattle.std.proofs.lemmas.Bool.{and_parts}
 use Rattle.std.specs.List.{list_all}

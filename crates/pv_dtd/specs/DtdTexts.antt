@@ -13,7 +13,7 @@ use Rattle.pv_dtd.specs.Items.{DtdItem, text_declaration, declared_in, listed_by
 use Rattle.pv_dtd.specs.Spelling.{Spells, MayStand}
 use Rattle.pv_dtd.specs.Numbering.{dtd_of_items}
 
--- (markupdecl | S)*: items other than a text declaration, with S? before each and behind the last;
+-- (markupdecl | S)*: items other than a text declaration, with S? before each and after the last;
 -- no conditional section and no reference of a parameter entity is part of a DTD here (XML 1.0,
 -- 2.8, extSubsetDecl)
 abbrev pub SpellsDeclarations : List DtdItem → List ℕ → Type 0

@@ -35,14 +35,14 @@ listed_at zero bytes = None
 listed_at (suc steps) bytes = names_after_bar (listed_at steps) (after_space bytes)
     (after_bytes (codes "|") (after_space bytes))
 
--- what stands behind the end of a mixed model; a model that lists no name may stand without its
+-- what stands after the end of a mixed model; a model that lists no name may stand without its
 -- '*'
 abbrev pub after_end : List (List ℕ) → List ℕ → Option (List ℕ) → Option (List ℕ)
 after_end names close (Some after) = Some after
 after_end [] close None = Some close
 after_end (n ∷ ns) close None = None
 
--- a mixed model behind its #PCDATA
+-- a mixed model after its #PCDATA
 unfoldable pub mixed_at : Reader NamedModel
 mixed_at bytes = do
   listed ← listed_at (suc (length bytes)) bytes
@@ -101,7 +101,7 @@ stop_at stops (Some quote) [] = None
 stop_at stops (Some quote) (b ∷ bs) =
     if b == quote then stop_at stops None bs else stop_at stops (Some quote) bs
 
--- what stands behind the first of these bytes outside quotes, where it is this one
+-- what stands after the first of these bytes outside quotes, where it is this one
 unfoldable pub where_it_is : ℕ → ℕ × List ℕ → Option (List ℕ)
 where_it_is byte stop = if stop.0 == byte then Some stop.1 else None
 
@@ -125,7 +125,7 @@ skipped_at bytes = do
   rest ← after_stop 62 (codes ">%<") inside
   behind_chars inside rest
 
--- an item and what stands behind it
+-- an item and what stands after it
 unfoldable pub read_as : DtdItem → Option (List ℕ) → Option (DtdItem × List ℕ)
 read_as i (Some rest) = Some (i, rest)
 read_as i None = None
@@ -134,7 +134,7 @@ read_as i None = None
 unfoldable pub front_at : Bool → List ℕ → Option (List ℕ)
 front_at front bytes = if front then text_declaration_at bytes else None
 
--- the item in front, and what stands behind it
+-- the item in front, and what stands after it
 unfoldable pub item_at : Bool → List ℕ → Option (DtdItem × List ℕ)
 item_at front bytes =
     or_else (read_as text_declaration (front_at front bytes))
@@ -142,17 +142,17 @@ item_at front bytes =
     (or_else (read_as comment (comment_at bytes))
     (or_else (read_as instruction (instruction_at bytes)) (element_at bytes))))
 
--- what stands behind the word of a declaration
+-- what stands after the word of a declaration
 unfoldable pub declaration_word : List ℕ → Option (List ℕ)
 declaration_word bytes = or_else (after_bytes (codes "<!ELEMENT") bytes) (skipped_word bytes)
 
--- what stands behind a '%' in a declaration
+-- what stands after a '%' in a declaration
 unfoldable pub inner_parameter_at : List ℕ → Option (List ℕ)
 inner_parameter_at bytes = do
   inside ← declaration_word bytes
   after_stop 37 (codes ">%") inside
 
--- what stands behind what makes a fault of the first kind
+-- what stands after what makes a fault of the first kind
 unfoldable pub parameter_at : List ℕ → Option (List ℕ)
 parameter_at bytes = or_else (after_bytes (codes "%") bytes)
     (or_else (after_bytes (codes "<![") bytes) (inner_parameter_at bytes))

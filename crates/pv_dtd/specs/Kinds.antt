@@ -65,7 +65,7 @@ passes_limit declared parts i =
     not (nat_le (length (declared ++ declared_by i)) MAX_TYPES)
     || not (nat_le (parts + parts_by i) MAX_PARTS)
 
--- a fault of this kind stands at the place, behind these items
+-- a fault of this kind stands at the place, after these items
 abbrev pub HasFault : List DtdItem → Bool → List ℕ → Kind → Type 0
 HasFault before front place parameter = HasParameter place
 HasFault before front place nesting = IsTooDeep place

@@ -15,7 +15,7 @@ abbrev pub is_place : List ℕ → Bool
 is_place [] = false
 is_place (b ∷ bs) = not (is_space b)
 
--- the rest has this behind its white space
+-- the rest has this after its white space
 pub record HasPlace (rest place : List ℕ) : Type 0 where
   pub space : List ℕ
   pub is_space : IsOptionalSpace space
@@ -32,7 +32,7 @@ pub data Outcome : Type 0 where
   is_dtd : PlainDtd → Outcome
   faulty : Kind → ℕ → Outcome
 
--- behind these items, the rest means this
+-- after these items, the rest means this
 pub data DtdRestMeans : List DtdItem → List ℕ → Outcome → Type 0 where
   ends : {before : List DtdItem} {rest : List ℕ} → IsOptionalSpace rest →
       DtdRestMeans before rest (is_dtd (dtd_of_items before))

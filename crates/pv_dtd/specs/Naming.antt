@@ -7,7 +7,7 @@ use Rattle.pv_dtd.specs.Items.{NamedPart, NamedParts, NamedModel}
 use Rattle.pv_dtd.specs.Numbering.{number_among, with_numbers, all_with_numbers}
 use Rattle.pv_dtd.specs.Numbering.{model_with_numbers}
 
--- the names, and behind them this one where it is new
+-- the names, and after them this one where it is new
 abbrev pub names_with : List (List ℕ) → List ℕ → List (List ℕ)
 names_with names x = if is_some (place_of names x) then names else names ++ x ∷ []
 
@@ -20,7 +20,7 @@ pub record AreFirstIn (names more : List (List ℕ)) : Type 0 where
   pub added : List (List ℕ)
   pub whole : more ≡ names ++ added
 
--- the names, and behind them the new ones of these
+-- the names, and after them the new ones of these
 abbrev pub with_names : List (List ℕ) → List (List ℕ) → List (List ℕ)
 with_names names [] = names
 with_names names (x ∷ xs) = with_names (names_with names x) xs

@@ -6,7 +6,7 @@ use Rattle.pv_chars.specs.CharReading.{name_at}
 use Rattle.pv_dtd.specs.Items.{NamedPart, name, seq, choice, opt, star, plus, NamedParts, no_parts}
 use Rattle.pv_dtd.specs.Items.{part}
 
--- a value from the front of a text, and what stands behind it
+-- a value from the front of a text, and what stands after it
 abbrev pub Reader : Type 0 → Type 0
 Reader X = List ℕ → Option (X × List ℕ)
 
@@ -16,7 +16,7 @@ word_at bytes = do
   word ← name_at bytes
   Some (name word.0, word.1)
 
--- a particle, and the operator that may stand behind it
+-- a particle, and the operator that may stand after it
 unfoldable pub with_operator : NamedPart → List ℕ → NamedPart × List ℕ
 with_operator p [] = (p, [])
 with_operator p (b ∷ bs) =
@@ -59,7 +59,7 @@ abbrev pub group_from : ℕ → NamedPart → Option (NamedParts × List ℕ) �
 group_from separator first others =
     others >>= λ more. Some (group_of separator (part first more.0), more.1)
 
--- a choice or a sequence behind its '('; each of the others takes a byte, so there are steps
+-- a choice or a sequence after its '('; each of the others takes a byte, so there are steps
 -- enough
 unfoldable pub group_at : Reader NamedPart → Reader NamedPart
 group_at particle bytes = do

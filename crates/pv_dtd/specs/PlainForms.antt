@@ -13,7 +13,7 @@ use Rattle.pv_dtd.specs.declared.errors.DtdError.TheVariants.{Limit, NoMemory}
 abbrev pub plain_dtd : Dtd → PlainDtd
 plain_dtd d = as_dtd d.names.keys d.models.items
 
--- the refusal of a text whose first fault is of this kind, behind so many items
+-- the refusal of a text whose first fault is of this kind, after so many items
 abbrev pub refusal : Kind → ℕ → DtdError
 refusal parameter k = Parameter k
 refusal nesting k = Limit k

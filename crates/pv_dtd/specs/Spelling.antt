@@ -170,7 +170,7 @@ MayStand front skipped = Unit {0}
 MayStand front comment = Unit {0}
 MayStand front instruction = Unit {0}
 
--- an item stands at a place, which is the front of the text or not, and this behind it
+-- an item stands at a place, which is the front of the text or not, and this after it
 pub record StandsAt (front : Bool) (place : List ℕ) (i : DtdItem) (rest : List ℕ) : Type 0 where
   pub text : List ℕ
   pub spelled : Spells i text

@@ -45,7 +45,7 @@ fn element_at<'a>(
     Ok(Some((SpelledItem::Element(name, model), rest)))
 }
 
-/// What stands behind the word of a declaration that is skipped.
+/// What stands after the word of a declaration that is skipped.
 #[tactic(auto, unfolding(crate::specs::ItemReading::skipped_word, crate::specs::ItemReading::or_else))]
 pub fn skipped_word(bytes: &[u8]) -> Option<&[u8]>
     ensures word { option_map (λ r. r.now) result ≡ skipped_word bytes.now }
@@ -90,7 +90,7 @@ fn front_at(front: bool, bytes: &[u8]) -> Option<&[u8]>
     }
 }
 
-/// The item in front, and what stands behind it. A text declaration is one where this is the front
+/// The item in front, and what stands after it. A text declaration is one where this is the front
 /// of the text.
 #[tactic(auto, unfolding(crate::specs::ItemReading::item_at, crate::specs::ItemReading::read_as, crate::specs::ItemReading::or_else))]
 pub fn item_at<'a>(

@@ -11,7 +11,7 @@ use crate::fronts::after_stop;
 use crate::models::MAX_NESTING;
 use pv_chars::scan::after_bytes;
 
-// What stands behind the word of a declaration.
+// What stands after the word of a declaration.
 #[tactic(auto, unfolding(crate::specs::ItemReading::declaration_word, crate::specs::ItemReading::or_else))]
 fn declaration_word(bytes: &[u8]) -> Option<&[u8]>
     ensures word { option_map (λ r. r.now) result ≡ declaration_word bytes.now }

@@ -42,7 +42,7 @@ fn stop_at<'a>(stops: &[u8], bytes: &'a [u8]) -> Option<(u8, &'a [u8])>
     None
 }
 
-/// What stands behind the first of these bytes outside quotes, where it is this one.
+/// What stands after the first of these bytes outside quotes, where it is this one.
 #[tactic(auto, unfolding(crate::specs::ItemReading::where_it_is))]
 pub fn after_stop<'a>(byte: u8, stops: &[u8], bytes: &'a [u8]) -> Option<&'a [u8]>
     ensures after { option_map (λ r. r.now) result ≡ after_stop byte stops.now bytes.now }

@@ -18,7 +18,7 @@ use std::alloc::Global;
 /// one inside another.
 pub const MAX_NESTING: usize = 64;
 
-// The names that are listed behind `#PCDATA`, and what stands behind them and space.
+// The names that are listed after `#PCDATA`, and what stands after them and space.
 fn listed_at<'a>(
     alloc: Global,
     bytes: &'a [u8],
@@ -43,7 +43,7 @@ fn listed_at<'a>(
     }
 }
 
-// What stands behind the `)` or `)*` of a model that lists these names.
+// What stands after the `)` or `)*` of a model that lists these names.
 fn after_end<'a>(names: &[&[u8]], close: &'a [u8]) -> Option<&'a [u8]>
     ensures end { option_map (λ r. r.now) result ≡
         after_end (map (λ n. n.now) names.now) close.now (after_bytes (codes "*") close.now) }
@@ -56,7 +56,7 @@ fn after_end<'a>(names: &[&[u8]], close: &'a [u8]) -> Option<&'a [u8]>
     }
 }
 
-// A mixed model behind its `#PCDATA`.
+// A mixed model after its `#PCDATA`.
 #[tactic(auto, unfolding(crate::specs::ItemReading::mixed_at))]
 fn mixed_at<'a>(
     alloc: Global,

@@ -115,7 +115,7 @@ fn group_at<'a>(
     others_at(alloc, separator, first, rest, depth)
 }
 
-// The others of a group, behind its first member.
+// The others of a group, after its first member.
 #[cycle(particles)]
 fn others_at<'a>(
     alloc: Global,

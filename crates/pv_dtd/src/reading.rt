@@ -38,7 +38,7 @@ fn is_front(count: u64, rest: &[u8]) -> bool
     }
 }
 
-// The refusal of an item that breaks a rule, behind so many items.
+// The refusal of an item that breaks a rule, after so many items.
 fn refusal(rule: Rule, count: u64) -> DtdError
     ensures { result ≡ refusal (kind_of_rule rule) count }
 {
@@ -56,7 +56,7 @@ struct Declared<'a> {
     parts: u64,
 }
 
-// Puts what an item declares behind the names, models and parts.
+// Puts what an item declares after the names, models and parts.
 fn add<'a>(
     alloc: Global,
     names: &mut NameTable,

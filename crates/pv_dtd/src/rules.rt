@@ -1,4 +1,4 @@
-//! The rules that an item keeps behind earlier ones.
+//! The rules that an item keeps after earlier ones.
 
 ghost use Rattle.std.specs.Prelude.{◌≡◌, ◌≤◌, length, map, IfOk};
 ghost use Rattle.std.specs.List.{list_any};
@@ -114,7 +114,7 @@ fn model_has_too_long(model: &SpelledModel) -> bool
     }
 }
 
-// Whether the item passes a limit behind these names and so many parts.
+// Whether the item passes a limit after these names and so many parts.
 fn passes_limit(declared: &NameTable, parts: u64, name: &[u8], model: &SpelledModel) -> bool
     requires types { length declared.now ≤ MAX_TYPES }
     requires parts { parts ≤ MAX_PARTS }
@@ -126,7 +126,7 @@ fn passes_limit(declared: &NameTable, parts: u64, name: &[u8], model: &SpelledMo
         || parts_of(model) > MAX_PARTS - parts
 }
 
-// The first rule that an element declaration breaks behind these names and so many parts.
+// The first rule that an element declaration breaks after these names and so many parts.
 fn broken_by_element(
     alloc: Global,
     declared: &NameTable,

@@ -48,7 +48,7 @@ given_by (empty_tag name attrs) = begin_element name attrs ∷ end_element ∷ [
 given_by (end_tag name gap) = end_element ∷ []
 given_by (text_run bytes) = text_here bytes ∷ []
 
--- behind an item in the root
+-- after an item in the root
 pub one-more : (before : List ℕ) (inner : Open Mark) (outer : List (Open Mark)) (i : Item) (next : Left Mark) → HasKnownReferences i → left_by blank_mark (in_content before inner outer) i ≡ Some next → events_so_far next ≡ events_in (inner ∷ outer) ++ given_by i
 one-more before inner outer (xml_declaration bytes) next known e = absurd (cc)
 one-more before inner outer (doctype name bytes) next known e = absurd (cc)

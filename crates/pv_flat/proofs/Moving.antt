@@ -36,7 +36,7 @@ is-in-behind before b inner [] (end_tag name gap) next h e = subst (λ l. IsIn b
 is-in-behind before b inner (o ∷ os) (end_tag name gap) next h e = subst (λ l. IsIn before (o.name ∷ map (λ (e : Open Mark). e.name) os) l) (same_some e) (h, refl)
 is-in-behind before b inner outer (text_run bytes) next h e = subst (λ l. IsIn before (inner.name ∷ map (λ (e : Open Mark). e.name) outer) l) (same_some e) (h, refl)
 
--- what comes behind an item in the root comes before it, behind the item's events
+-- what comes after an item in the root comes before it, after the item's events
 pub inside : (root before rest : List ℕ) (names : List (List ℕ)) (k : ℕ) (i : Item) (more : List ℕ) → (names ≡ [] → ⊥) → ((left : Left Mark) → IsIn before names left → TakesItem None blank_mark root left rest i more) →
     (es : List PlainEvent) (end : TextEnd) → ((left : Left Mark) → IsIn before (open_names_behind i names) left → RestComes root (suc k) left more es end) → (left : Left Mark) → IsIn before names left → RestComes root k left rest (given_by i ++ es) end
 inside root before rest names k i more some taken es end c (in_prolog at b) h = absurd h

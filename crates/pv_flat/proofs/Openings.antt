@@ -27,7 +27,7 @@ before-is root bytes tag o =
     let whole : bytes ≡ (o.mark ++ o.opens.before) ++ tag.from_tag.now = starts bytes o.mark o.text o.front ∙ ap (λ b. o.mark ++ b) o.opens.whole ∙ sym (append_assoc o.mark o.opens.before tag.from_tag.now) in
     ap (λ b. take (length b - length tag.from_tag.now) b) whole ∙ front-is (o.mark ++ o.opens.before) tag.from_tag.now
 
--- what comes behind the tag comes behind its event
+-- what comes after the tag comes after its event
 behind : (root bytes : List ℕ) (tag : RootTag) (o : IsOpening root bytes tag) (left : Left Mark) (es fs : List PlainEvent) (end : TextEnd) → behind_tag (o.mark ++ o.opens.before) tag.is_short tag.tag.name.now tag.tag.attrs.now ≡ left →
     Rattle.pv_flat.specs.Plain.events_so_far left ++ es ≡ fs → RestComes root (suc tag.count) left tag.rest.now es end → TextComes root bytes fs end
 behind root bytes tag o left es fs (ends_with before after) is given c =

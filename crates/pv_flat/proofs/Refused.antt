@@ -1,4 +1,4 @@
--- What is refused in the root or behind it.
+-- What is refused in the root or after it.
 use Rattle.std.proofs.Common.{◌≡◌, ℕ, suc, List, [], ◌∷◌, map, length, refl, sym, ap, subst, ◌∙◌, append-nil, arith, true, Some, None}
 use Rattle.std.proofs.lemmas.List.{length-map}
 use Rattle.pv_tree.specs.Marks.{blank_mark}
@@ -63,7 +63,7 @@ no-other root left (empty_tag name attrs) next p e h = h
 no-other root left (end_tag name gap) next p e h = h
 no-other root left (text_run bytes) next p e h = h
 
--- behind the prolog no fault of a document type declaration comes
+-- after the prolog no fault of a document type declaration comes
 not-subset : (root : List ℕ) (k j : ℕ) (left : Left Mark) (rest : List ℕ) (o : Outcome Mark) → o ≡ faulty subset j → IsPastProlog left → DocumentRestMeans None blank_mark root k left rest o → ⊥
 not-subset root k j left rest o is past (ends e) = cc
 not-subset root k j left rest o is past (item {next = next} i begins stands none more) = not-subset root (suc k) j next _ o is (past-by left i next past stands) more
@@ -97,7 +97,7 @@ refused-inside root before rest names k (Deep j) r = r
 refused-inside root before rest names k Limit r = r
 refused-inside root before rest names k NoMemory r = tt
 
--- behind the root
+-- after the root
 pub refused-behind : (root before rest : List ℕ) (k : ℕ) (e : DocError) → ((b : List ℕ) (t : Tree Mark) → Refuses (DocumentRestMeans None blank_mark root k (in_epilog b t []) rest) e) →
     (left : Left Mark) → IsIn before [] left → Refuses (DocumentRestMeans None blank_mark root k left rest) e
 refused-behind root before rest k e r (in_prolog stage b) h = absurd h

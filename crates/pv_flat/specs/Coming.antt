@@ -1,4 +1,4 @@
--- The events that are still to come, and what comes behind them.
+-- The events that are still to come, and what comes after them.
 use Rattle.std.specs.Prelude.{◌≡◌, ◌≤◌, ◌-◌, List, [], ◌∷◌, ◌++◌, ℕ, suc, length, map, reverse}
 use Rattle.std.specs.Prelude.{take, Option, Some, None, Result, Ok, Err}
 use Rattle.pv_chars.specs.ByteOrderMark.{TakesByteOrderMark}
@@ -38,7 +38,7 @@ pub data TextEnd : Type 0 where
   ends_with : (before after : List ℕ) → TextEnd
   refused_as : Outcome Mark → TextEnd
 
--- The events of the text are these, and this is behind them. What is refused may have any events:
+-- The events of the text are these, and this is after them. What is refused may have any events:
 -- that it is refused is known once it is read.
 abbrev pub TextComes : List ℕ → List ℕ → List PlainEvent → TextEnd → Type 0
 TextComes root bytes es (ends_with before after) =
@@ -46,7 +46,7 @@ TextComes root bytes es (ends_with before after) =
     × (events_of doc.root ≡ es) × (doc.before ≡ before) × (doc.after ≡ after)
 TextComes root bytes es (refused_as o) = DocumentMeansWithin flat_limits blank_mark root bytes o
 
--- behind so many items, which leave this, these events come, and this is behind them
+-- after so many items, which leave this, these events come, and this is after them
 abbrev pub RestComes : List ℕ → ℕ → Left Mark → List ℕ → List PlainEvent → TextEnd → Type 0
 RestComes root k left rest es (ends_with before after) =
     (doc : PlainDoc Mark) × DocumentRestMeans None blank_mark root k left rest (is_document doc)
@@ -71,7 +71,7 @@ abbrev pub ComesInside : Events → List PlainEvent → TextEnd → Type 0
 ComesInside s es end = (left : Left Mark) → IsIn s.before.now (open_names s) left →
     RestComes s.root s.count left s.rest.now es end
 
--- From here on these events come, and this is behind them. Nothing is said where an error was told.
+-- From here on these events come, and this is after them. Nothing is said where an error was told.
 abbrev pub ComesAt : Stage → Events → List PlainEvent → TextEnd → Type 0
 ComesAt stage.Fresh s es end = TextComes s.root s.bytes.now es end
 ComesAt stage.Inside s es end = ComesInside s es end
@@ -83,7 +83,7 @@ ComesAt (stage.Failed error) s es end = Unit {0}
 abbrev pub EventsCome : Events → List PlainEvent → TextEnd → Type 0
 EventsCome s es end = ComesAt s.stage s es end
 
--- what comes from the new state on comes from the old one on behind these events
+-- what comes from the new state on comes from the old one on after these events
 abbrev pub LeadsBy : List PlainEvent → Events → Events → Type 0
 LeadsBy given old new = (es : List PlainEvent) (end : TextEnd) → EventsCome new es end →
     EventsCome old (given ++ es) end

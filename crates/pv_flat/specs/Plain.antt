@@ -7,7 +7,7 @@ use Rattle.pv_read.specs.Left.{Left, Open, in_content, in_epilog, in_prolog}
 use Rattle.pv_flat.specs.declared.event.Event.{Event}
 use Rattle.pv_flat.specs.declared.event.Event.TheVariants as event
 
--- an element begins, with its name and the bytes behind it in its tag; one ends; a text, a CDATA
+-- an element begins, with its name and the bytes after it in its tag; one ends; a text, a CDATA
 -- section, a comment or a processing instruction stands here
 pub data PlainEvent : Type 0 where
   begin_element : (name attrs : List ℕ) → PlainEvent

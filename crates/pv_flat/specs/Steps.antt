@@ -25,7 +25,7 @@ event_of_item (empty_tag name attrs) = Some (begin_element name attrs)
 event_of_item (end_tag name gap) = Some end_element
 event_of_item (text_run bytes) = Some (text_here bytes)
 
--- the names of the elements that are open behind an item, the innermost first
+-- the names of the elements that are open after an item, the innermost first
 abbrev pub open_names_behind : Item → List (List ℕ) → List (List ℕ)
 open_names_behind (xml_declaration bytes) names = names
 open_names_behind (doctype name bytes) names = names
@@ -37,7 +37,7 @@ open_names_behind (end_tag name gap) [] = []
 open_names_behind (end_tag name gap) (inner ∷ outer) = outer
 open_names_behind (text_run bytes) names = names
 
--- where a reader stands behind the first event of an item: an empty-element tag has one more
+-- where a reader stands after the first event of an item: an empty-element tag has one more
 abbrev pub stage_behind : Item → Stage
 stage_behind (xml_declaration bytes) = stage.Inside
 stage_behind (doctype name bytes) = stage.Inside

@@ -73,7 +73,7 @@ impl<'a> Events<'a> {
         self.before
     }
 
-    /// The bytes behind the item of the last event that was given; until then all.
+    /// The bytes after the item of the last event that was given; until then all.
     pub fn rest(&self) -> &'a [u8]
         ensures { result.now ≡ self.now.rest.now }
     {
@@ -144,7 +144,7 @@ impl<'a> Events<'a> {
         next_item(None, &place, self.root.as_slice(), self.rest, self.count)
     }
 
-    // Passes an item, behind which this stands.
+    // Passes an item, after which this stands.
     fn pass(&mut self, more: &'a [u8])
         requires { length more.now < length self.old.rest.now }
         ensures { PassesOver self.old more.now self.new }
@@ -154,7 +154,7 @@ impl<'a> Events<'a> {
         self.count += 1;
     }
 
-    // Takes an item in the root, behind which this stands.
+    // Takes an item in the root, after which this stands.
     fn take(&mut self, item: &Item<'a>, more: &'a [u8]) -> Result<Event<'a>, NoMemory>
         requires inside { self.old.stage ≡ stage.Inside }
         requires some { open_names self.old ≢ [] }
@@ -220,7 +220,7 @@ impl<'a> Events<'a> {
         Ok(Some(event))
     }
 
-    // Reads what stands behind the root.
+    // Reads what stands after the root.
     fn finish(&mut self) -> Result<Option<Event<'a>>, DocError>
         requires inside { self.old.stage ≡ stage.Inside }
         requires none { self.old.elements.items ≡ [] }
@@ -285,7 +285,7 @@ impl<'a> Events<'a> {
         }
     }
 
-    /// The next event; none behind the end of the text. An error other than want of memory is told
+    /// The next event; none after the end of the text. An error other than want of memory is told
     /// again from then on; after want of memory, all is as it was.
     pub fn next(&mut self) -> Result<Option<Event<'a>>, DocError>
         ensures answers { AnswersNext self.old result self.new }

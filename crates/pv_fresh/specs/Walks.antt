@@ -8,7 +8,7 @@ use Rattle.pv_tree.specs.declared.nodes.Verdict.{Verdict}
 use Rattle.pv_tree.specs.declared.nodes.Verdict.TheVariants as verdict
 use Rattle.pv_fresh.specs.declared.walk.Walk.{Walk}
 
--- the path of the first impossible list, behind one of this verdict at this path
+-- the path of the first impossible list, after one of this verdict at this path
 abbrev pub first_after : Option (List ℕ) → Verdict → List ℕ → Option (List ℕ)
 first_after (Some first) v path = Some first
 first_after None verdict.Valid path = None

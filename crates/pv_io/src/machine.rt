@@ -85,7 +85,7 @@ pub struct WriteSink<W: Write> {
 }
 
 impl<W: Write> WriteSink<W> {
-    /// A sink that writes behind what this writer holds.
+    /// A sink that writes after what this writer holds.
     pub fn new(writer: W) -> WriteSink<W>
         ensures written { ⟦<WriteSink<W> as Sink>⟧.written result ≡ W.contents writer }
         ensures faults { ⟦<WriteSink<W> as Sink>⟧.faults result ≡ 0 }

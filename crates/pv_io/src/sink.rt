@@ -16,7 +16,7 @@ pub trait Sink {
     ghost faults: { Self → ℕ };
 
     /// Whether it may be asked. Of a sink that failed nothing is known, so that nothing may be put
-    /// behind a `put` that failed.
+    /// after a `put` that failed.
     ghost ready: { Self → Bool };
 
     /// Writes a front of the piece, and answers how many bytes that is: at least one, unless the

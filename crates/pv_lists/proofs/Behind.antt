@@ -1,4 +1,4 @@
--- What is known behind an item in the root.
+-- What is known after an item in the root.
 use Rattle.std.proofs.Common.{◌≡◌, ◌≤◌, ℕ, suc, ◌+◌, List, [], ◌∷◌, ◌++◌, length, map, Bool, true, false, not, Option, Some, None, option_to_list, refl, sym, ap, ◌∙◌, length-append, inl, inr, ◌⊎◌, arith}
 use Rattle.std.specs.Bool.{then_some}
 use Rattle.std.specs.List.{list_any}

@@ -1,4 +1,4 @@
--- The lists and the word of kids where one more stands behind them.
+-- The lists and the word of kids where one more stands after them.
 use Rattle.std.proofs.Common.{◌≡◌, ◌≤◌, ℕ, ◌+◌, suc, List, [], ◌∷◌, ◌++◌, length, Bool, true, false, if◌then◌else◌, refl, sym, ap, ◌∙◌, append_assoc, append-nil, length-append, arith}
 use Rattle.pv_chars.specs.Texts.{has_data}
 use Rattle.pv_model.specs.Plain.{PlainToken, text}

@@ -1,4 +1,4 @@
--- Tags of known names, with nothing behind the name, stand in an element without fault: its end tag, and start tags where it isn't too deep.
+-- Tags of known names, with nothing after the name, stand in an element without fault: its end tag, and start tags where it isn't too deep.
 use Rattle.std.proofs.Common.{Option, ◌≡◌, ℕ, List, [], ◌∷◌, ◌++◌, codes, false, true, refl, sym, ap, subst, ◌∙◌, append_assoc}
 use Rattle.pv_chars.specs.Names.{IsName}
 use Rattle.pv_tree.specs.Attributes.{IsAttributes}

@@ -26,7 +26,7 @@ read_answered limits root bytes (Document error) refuses = answers_error one_ite
 read_answered limits root bytes (Judge cause) refuses = λ o means. tt
 
 module _ (limits : TextLimits) (root bytes mark text : List ℕ) (few : length bytes ≤ limits.bytes) (front : TakesByteOrderMark bytes mark text) (tag : RootTag) (opens : OpensRoot limits.depth root text tag) where
-  -- a refusal behind the root's tag is one of the whole
+  -- a refusal after the root's tag is one of the whole
   pub root_refused : {E : Type 0} (e : ReadError E) → ((before : List ℕ) → RefusesLists (DocumentRestMeans limits.depth blank_mark root (suc tag.count) (behind_tag before tag.is_short tag.tag.name.now tag.tag.attrs.now) tag.rest.now) e)
       → RefusesLists (DocumentMeansWithin limits blank_mark root bytes) e
   root_refused (Document error) refuses = refused_root limits root bytes mark text few front tag opens error refuses

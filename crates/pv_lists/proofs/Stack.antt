@@ -42,7 +42,7 @@ pub none_popped : {B : Type 0} (items : List (OpenList B)) (len : ℕ) → len �
 none_popped [] len none same = refl
 none_popped (l ∷ ls) len none same = absurd (omega arith)
 
--- the tokens where the word of the innermost open element is cut off and its own token stands behind
+-- the tokens where the word of the innermost open element is cut off and its own token comes after it
 pub cut_off : {B F : Type 0} (old mid : OpenLists B F) (cut tokens : List Token) → mid.inner ≡ old.inner → mid.tokens ≡ old.tokens → cut ≡ take mid.inner.start mid.tokens.items → tokens ≡ cut ++ mid.inner.token ∷ []
     → tokens ≡ take old.inner.start old.tokens.items ++ old.inner.token ∷ []
 cut_off old mid cut tokens inner_is tokens_are cut_is is =

@@ -1,4 +1,4 @@
--- The items of a root, one behind another, over the open elements.
+-- The items of a root, one after another, over the open elements.
 use Rattle.std.proofs.Common.{◌≡◌, ◌<◌, ◌+◌, ℕ, suc, List, [], length, true, false, sym, ap, ◌∙◌, subst, arith, Option}
 use Rattle.pv_tree.specs.Marks.{blank_mark}
 use Rattle.pv_tree.specs.declared.nodes.Mark.{Mark}

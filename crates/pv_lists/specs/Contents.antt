@@ -35,13 +35,13 @@ pub record EndsRoot {B F : Type 0} (m : Judgement B F) (root : List ℕ) (lists 
   pub has_root : HasRoot m root lists tree
   pub few_lists : length (lists_at (0 ∷ []) tree) ≤ suc (length (whole_lists (inner ∷ outer)))
 
--- what is known behind an item, which makes the root whole or doesn't
+-- what is known after an item, which makes the root whole or doesn't
 abbrev pub IsBehind : {B F : Type 0} → Judgement B F → List ℕ → OpenLists B F → Bool →
     Open Mark → List (Open Mark) → Item → Type 0
 IsBehind m root lists true inner outer i = EndsRoot m root lists inner outer i
 IsBehind m root lists false inner outer i = LeavesRootOpen m root lists inner outer i
 
--- This item stands at the front in these open elements without fault, and this is known behind it.
+-- This item stands at the front in these open elements without fault, and this is known after it.
 pub record TakesInto {B F : Type 0} (most : Option ℕ) (m : Judgement B F) (root : List ℕ)
     (lists : OpenLists B F) (whole : Bool) (inner : Open Mark) (outer : List (Open Mark))
     (rest more : List ℕ) : Type 0 where
@@ -50,7 +50,7 @@ pub record TakesInto {B F : Type 0} (most : Option ℕ) (m : Judgement B F) (roo
       (in_content before inner outer) rest item more
   pub is_behind : IsBehind m root lists whole inner outer item
 
--- Items in the root, which this tag opens behind so many items, up to this rest.
+-- Items in the root, which this tag opens after so many items, up to this rest.
 pub record ReadsJudgedContent {B F : Type 0} (most : Option ℕ) (m : Judgement B F)
     (root name attrs bytes : List ℕ) (first : ℕ) (lists : OpenLists B F) (rest : List ℕ)
     (count : ℕ) : Type 0 where
@@ -65,7 +65,7 @@ pub record ReadsJudgedContent {B F : Type 0} (most : Option ℕ) (m : Judgement 
       (in_content before (just_opened name attrs) []) bytes count
       (in_content before inner outer) rest
 
--- The root that this tag opens behind so many items, with what stands after it.
+-- The root that this tag opens after so many items, with what stands after it.
 pub record ReadsRoot {B F : Type 0} (most : Option ℕ) (m : Judgement B F) (root : List ℕ)
     (short : Bool) (name attrs bytes : List ℕ) (first : ℕ) (lists : OpenLists B F)
     (rest : List ℕ) (count : ℕ) : Type 0 where

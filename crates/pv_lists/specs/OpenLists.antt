@@ -18,7 +18,7 @@ use Rattle.pv_lists.specs.declared.open.OpenList.{OpenList}
 use Rattle.pv_lists.specs.declared.open.OpenLists.{OpenLists}
 
 -- This is known of an open element in others: its name, which may be known to be a Name, with its
--- token, how many kids it has so far, and which tokens, behind those of the others, are their word;
+-- token, how many kids it has so far, and which tokens, after those of the others, are their word;
 -- and what was noted of the lists that were whole before it began.
 pub record IsOpen {B F : Type 0} (m : Judgement B F) (root : List ℕ) (list : OpenList B)
     (o : Open Mark) (outer : List (Open Mark)) (below tokens : List PlainToken) : Type 0 where

@@ -21,7 +21,7 @@ use pv_read::forms::Tag;
 use pv_read::prolog::RootTag;
 use std::alloc::Global;
 
-// Reads one item behind so many: whether it makes the root whole, and what stands after it.
+// Reads one item after so many: whether it makes the root whole, and what stands after it.
 fn read_item<'a, J: ListJudge>(
     judge: &J,
     most_depth: Option<usize>,
@@ -93,7 +93,7 @@ fn read_content<'a, J: ListJudge>(
     }
 }
 
-/// The lists of the root that this tag opens, what stands behind it, and the number of items up to
+/// The lists of the root that this tag opens, what stands after it, and the number of items up to
 /// its end.
 pub fn read_root<'a, J: ListJudge>(
     alloc: Global,

@@ -82,7 +82,7 @@ fn may_open(most_depth: Option<usize>, open_elements: usize) -> bool
 }
 
 /// The item at the front, what stands after it, and of a start tag whose name was found lately the
-/// type; or the first kind of fault there, behind so many items, in this open element, with so many
+/// type; or the first kind of fault there, after so many items, in this open element, with so many
 /// open ones. A run of simple characters is told by one look at them, an end tag by its element's
 /// name, and a start tag by the names that were found. Elements stand at most so deep, or at any
 /// depth.

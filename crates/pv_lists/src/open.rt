@@ -68,7 +68,7 @@ pub fn places_in<B>(alloc: Global, outer: &[OpenList<'_, B>]) -> Result<Vec<u32>
 }
 
 /// The list of the innermost open element, those around it, outermost first, the tokens of their
-/// words, one behind another, what was found of the lists that are whole, and the element types
+/// words, one after another, what was found of the lists that are whole, and the element types
 /// that were found.
 #[derive(Drop)]
 pub struct OpenLists<'a, B, F> {

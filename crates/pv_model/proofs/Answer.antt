@@ -34,7 +34,7 @@ no_name : (t : PlainToken) (u : List PlainToken) (w : List ℕ) → ((y : ℕ) �
 no_name t u [] n q = cc
 no_name t u (x ∷ w) n q = n x cc
 
--- a name, where the answer for the tokens behind it is known
+-- a name, where the answer for the tokens after it is known
 goes_on : (p : PlainPart) (e : Bool) (y : ℕ) (m : Positions p) (u : List PlainToken) (some : Bool) → any_reached (list_of p (after p e y m)) ≡ some → {b : Bool} →
     IsTrue b ↔ AnyLeft p false (after p e y m) u → IsTrue (if some then b else false) ↔ AnyLeft p e m (named y ∷ u)
 goes_on p e y m u true some rest = (

@@ -5,7 +5,7 @@ use Rattle.pv_model.specs.Models.{Rounds, no_round, round}
 use Rattle.pv_model.specs.Layouts.{PlainLayout, nothing, blank, one, in_order, either, optional, repeated, HasWord, has_empty_word, IsNumbered, Reach, ends, after}
 use Rattle.pv_model.proofs.Joins.{or-cases, or-left, or-right, joined-none, joined-first, first_round}
 
--- what is left of a word of the particle, behind one of the names reached
+-- what is left of a word of the particle, after one of the names reached
 abbrev pub GoesOn : (g : PlainLayout) → Reach g → List ℕ → Type 0
 GoesOn nothing m w = ⊥
 GoesOn blank m w = ⊥

@@ -42,7 +42,7 @@ pub record InEach (whole : PlainParts) (entered : Bool) (y at : ℕ) (old : List
   pub positions : overwrite so_far.next (positions_after_in_each rest entered y (drop so_far.next now)) now ≡ overwrite at (positions_after_in_each whole entered y (drop at old)) old
 
 module _ (p : PlainPart) (entered : Bool) (y at : ℕ) (now after : List Bool) (one : Moved) (room : at + position_count p ≤ length now) (m : Moves p entered y at now after one) where
-  -- the positions behind stay
+  -- the positions after stay
   behind : drop one.next after ≡ drop (position_count p) (drop at now)
   behind =
       ap (λ k. drop k after) m.next

@@ -18,7 +18,7 @@ abbrev mutual
   AllPositions no_parts = Unit {0}
   AllPositions (part p ps) = Positions p × AllPositions ps
 
--- what is left of a word that is a word of the particle, behind one of the positions reached
+-- what is left of a word that is a word of the particle, after one of the positions reached
 abbrev mutual
   pub Continues : (p : PlainPart) → Positions p → List ℕ → Type 0
   Continues (name y) m w = IsTrue m × (w ≡ [])

@@ -50,7 +50,7 @@ module _ (at n : ℕ) (new old now : List Bool) (e : length new ≡ n) (room : a
       ∙ drop-drop (n + length more) at old ∙ ap (λ k. drop (at + k) old) (sym len) in
       cc
 
--- a position and those behind it
+-- a position and those after it
 pub overwrite_first : (at : ℕ) (b : Bool) (new old now : List Bool) → at + suc (length new) ≤ length old → now ≡ overwrite (at + 1) new old → set now at b ≡ overwrite at (b ∷ new) old
 overwrite_first at b new old now h w =
     let rest = drop (at + 1 + length new) old in

@@ -1,6 +1,6 @@
 -- Content particles laid out in pairs, their words, and how far a word has come in one.
 -- Each name and each repetition has a place, from left to right; that of a repetition stands
--- behind its member's.
+-- after its member's.
 use Rattle.std.specs.Prelude.{◌≡◌, ℕ, ◌+◌, ◌≤◌, ◌<◌, Bool, true, false, ◌&&◌, ◌||◌, ◌==◌, ◌⊎◌}
 use Rattle.std.specs.Prelude.{List, [], ◌∷◌, ◌++◌, if◌then◌else◌}
 use Rattle.pv_model.specs.Models.{Rounds}
@@ -102,7 +102,7 @@ reached (either middle g h) m = reached g m.0 ++ reached h m.1
 reached (optional g) m = reached g m
 reached (repeated place g) m = reached g m ++ (if ends g m then place ∷ [] else [])
 
--- from m on, y leads to these places behind those before
+-- from m on, y leads to these places after those before
 pub record Advances (g : PlainLayout) (entered : Bool) (y : ℕ) (m : Reach g) (old new : List ℕ)
     (was_end is_end : Bool) : Type 0 where
   pub before : was_end ≡ ends g m

@@ -12,7 +12,7 @@ use crate::places::Places;
 use std::alloc::Global;
 
 /// A content particle in pairs: no word, the empty word alone, a name at a place, a pair in order,
-/// a pair to choose from, an optional particle, or one repeated at least once, with a place behind
+/// a pair to choose from, an optional particle, or one repeated at least once, with a place after
 /// those of its member.
 ///
 /// The places of a pair's second member begin at its middle.

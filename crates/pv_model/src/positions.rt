@@ -87,7 +87,7 @@ fn push_all_positions(parts: &[Part], positions: &mut Vec<bool>) -> Result<(), N
 /// What one more name of a word did in a part.
 #[derive(Clone, Copy)]
 pub struct Moved {
-    /// The place of the first position behind those of the part.
+    /// The place of the first position after those of the part.
     pub next: usize,
 
     /// Whether the names before this one were a word of the part.
@@ -96,7 +96,7 @@ pub struct Moved {
     /// Whether they are one with it.
     pub is_end: bool,
 
-    /// Whether a position of the part is reached. Without one, no names behind this one make a
+    /// Whether a position of the part is reached. Without one, no names after this one make a
     /// word of it.
     pub is_reached: bool,
 
@@ -105,7 +105,7 @@ pub struct Moved {
 }
 
 impl Moved {
-    /// Whether the part behind this one may begin with the name, where this one may or may not.
+    /// Whether the part after this one may begin with the name, where this one may or may not.
     fn enters_next(self, entered: bool) -> bool
         ensures { result ≡ (self.was_end || entered && self.may_be_empty) }
     {

@@ -50,14 +50,14 @@ impl Ends {
         }
     }
 
-    /// Whether what stands behind the particle may begin with the name.
+    /// Whether what stands after the particle may begin with the name.
     fn enters_next(self, entered: bool, may_be_empty: bool) -> bool
         ensures { result ≡ (self.was_end || entered && may_be_empty) }
     {
         self.was_end || entered && may_be_empty
     }
 
-    /// The same of the particle and one behind it.
+    /// The same of the particle and one after it.
     fn followed_by(self, second: Ends, second_may_be_empty: bool) -> Ends
         ensures was_end { result.was_end ≡
             (second.was_end || self.was_end && second_may_be_empty) }

@@ -1,4 +1,4 @@
--- Two stages over files, one behind another, that hand on what both open.
+-- Two stages over files, one after another, that hand on what both open.
 use Rattle.std.proofs.Common.{ℕ, ◌+◌, List, Option, Ok, Err, refl, subst, ◌∙◌, arith}
 use Rattle.pv_opening.specs.Devices.{ShelfNow}
 use Rattle.pv_opening.specs.Returns.{ReturnsOver, StopCounts}

@@ -1,4 +1,4 @@
--- What a fetch tells of the file, also where the shelf doesn't tell its files; and one fetch behind another.
+-- What a fetch tells of the file, also where the shelf doesn't tell its files; and one fetch after another.
 use Rattle.std.proofs.Common.{◌≡◌, ℕ, ◌+◌, ◌≤◌, List, [], ◌∷◌, length, replicate, Option, Some, None, Result, Ok, Err, Vec, Global, vec_len, IfOk, sym, ap, ◌∙◌, subst, refl, arith}
 use Rattle.std.proofs.lemmas.Grind.{common_steps}
 use Rattle.pv_dtd.specs.PlainForms.{plain_dtd}
@@ -58,7 +58,7 @@ first_stopped dtd doc before after stop over =
       same = over.same;
     }
 
--- behind the DTD the fetch of the document stopped it, or went well
+-- after the DTD the fetch of the document stopped it, or went well
 pub second_stopped : (dtd doc : List ℕ) (before between after : ShelfNow) (d : Dtd) (stop : Stop) → ReturnsOver (IsFile before.files dtd) plain_dtd dtd_file_stage before between (Ok d) →
     ReturnsOver {X = Vec ℕ Global} (IsFile between.files doc) (λ v. v.items) document_fetch_stage between after (Err stop) →
     ReturnsOver {X = Fetched} (AreFiles before.files (dtd ∷ doc ∷ [])) plain_fetched fetching_stage before after (Err stop)
@@ -90,7 +90,7 @@ both_fetched dtd doc before between after f first second =
       same = second.same ∙ first.same;
     }
 
--- a stage over files, and one behind it that fetches nothing
+-- a stage over files, and one after it that fetches nothing
 pub stopped_over : {F V W X Y : Type 0} (AreSuch : F → Type 0) (shown : V → W) (first : F → Stage W) (plain : X → Y) (second : W → Stage Y) (before after : ShelfNow) (stop : Stop) →
     ReturnsOver {X = V} AreSuch shown first before after (Err stop) → ReturnsOver {X = X} AreSuch plain (λ files. followed_by (first files) second) before after (Err stop)
 stopped_over AreSuch shown first plain second before after stop over = record {

@@ -1,4 +1,4 @@
--- Counts of the lists that are judged behind a stage, and behind another before it.
+-- Counts of the lists that are judged after a stage, and after another before it.
 use Rattle.std.proofs.Common.{◌≡◌, inl, inr, ℕ, ◌+◌, Result, Ok, Err, refl, subst}
 use Rattle.pv_opening.specs.Course.{RunEnding}
 use Rattle.pv_opening.specs.Judging.{CountsJudged, CountsNoMore, CountsOpening, EndsWithin, at_fault, at_refusal, judges_all, judges_none, without_memory}
@@ -34,7 +34,7 @@ pub stops_first : {X Y : Type 0} (first : Stage X) (second : X → Stage Y) (lis
     CountsJudged (followed_by first second) lists GoesOn (ending_of (Err stop)) before after
 stops_first first second lists GoesOn n stop before after stops same = judges_none (ends_first first second (ending_of (Err stop)) (stops_within first n stop stops)) same
 
--- a count behind the second of two stages is one behind both
+-- a count after the second of two stages is one after both
 pub judged_second : {X Y : Type 0} (first : Stage X) (second : X → Stage Y) (lists : Y → ℕ) (GoesOn : ℕ → ℕ → Type 0) (x : X) (k : ℕ) (ending : RunEnding) (before after : ℕ) → first.Opens x k →
     CountsJudged (second x) lists GoesOn ending before after → CountsJudged (followed_by first second) lists GoesOn ending before after
 judged_second first second lists GoesOn x k ending before after opens (judges_none within same) = judges_none (ends_second first second x k ending opens within) same
@@ -60,7 +60,7 @@ pub opening_beside : {X Y Z : Type 0} (x : X) (stage : Stage Y) (lists : X × Y 
 opening_beside x stage lists before after (Ok z) (y, k, opens, is) = ((x, y), k, (refl, opens), is)
 opening_beside x stage lists before after (Err stop) counts = judged_beside x stage lists CountsNoMore (ending_of (Err stop)) before after counts
 
--- the counter behind what was opened, and then on
+-- the counter after what was opened, and then on
 pub opened_goes : {X Y : Type 0} (judging : Stage X) (lists : X → ℕ) (GoesOn : ℕ → ℕ → Type 0) (ending : RunEnding) (before middle after : ℕ) (y : Y) → CountsOpening judging lists before middle (Ok y) →
     GoesOn middle after → CountsJudged judging lists GoesOn ending before after
 opened_goes judging lists GoesOn ending before middle after y (x, k, opens, is) more = judges_all x k opens (subst (λ (n : ℕ). GoesOn n after) is more)

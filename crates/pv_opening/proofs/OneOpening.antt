@@ -58,7 +58,7 @@ module _ {X Y : Type 0} (here there : Stage X) (Same : X → X → Type 0) (behi
   pub followed_sure : AreSure (followed_by here behind) (followed_by there beyond) Like
   followed_sure = record { opens_or = followed_opens_or; refuses_or = followed_refuses_or; one_refusal = followed_one_refusal; same = followed_same }
 
--- a stage behind equal ones
+-- a stage after equal ones
 pub sure_at : {X Y : Type 0} (behind : X → Stage Y) (Like : Y → Y → Type 0) → ((x : X) → IsSure (behind x) Like) → (x z : X) → x ≡ z → AreSure (behind x) (behind z) Like
 sure_at behind Like sure x z is = subst (λ (w : _). AreSure (behind x) (behind w) Like) is (sure x)
 
@@ -217,7 +217,7 @@ opening_sure one documents root files =
     let read : PlainDtd × List ℕ → Stage PlainOpened = λ both. document_stage root both.0 both.1 in
     followed_sure first first (IsSamePair IsEqual) read read AreSameOpened (fetching_sure one files) (documents_sure documents root)
 
--- what went on behind a stage, where a run over it responds
+-- what went on after a stage, where a run over it responds
 pub record GoesWith {X : Type 0} (stage : Stage X) (Goes : X → Course → Type 0) (course : Course) : Type 0 where
   pub x : X
   pub count : ℕ
@@ -251,7 +251,7 @@ rest_as course other rest more k m r also so is are = record {
   ends_too = sym (ap (λ (c : Course). c.ending) are) ∙ so.ends_too;
 }
 
--- responses of runs over stages that are sure are in a relation, where those of the runs behind them are
+-- responses of runs over stages that are sure are in a relation, where those of the runs after them are
 module _ {X : Type 0} (here there : Stage X) (Same : X → X → Type 0) (Goes GoesToo : X → Course → Type 0) (r also : PlainResponse) (Like : Type 0) (one_is : r ≡ also → Like)
     (sure : AreSure here there Same) (one : (x y : X) (rest more : Course) → Same x y → RunsAs rest more r also → Goes x rest → GoesToo y more → Like) where
   either : (course other : Course) → RunsAs course other r also → GoesWith here Goes course ⊎ ((k : ℕ) × here.Refuses r k) → GoesWith there GoesToo other ⊎ ((k : ℕ) × there.Refuses also k) → Like

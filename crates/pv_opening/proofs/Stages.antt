@@ -1,4 +1,4 @@
--- Stages, one behind another, with the files that they fetch, up to where a run stops.
+-- Stages, one after another, with the files that they fetch, up to where a run stops.
 use Rattle.std.proofs.Common.{◌≡◌, inl, inr, ℕ, ◌+◌, List, Option, Some, None, Result, Ok, Err, ap, refl, sym, subst, arith}
 use Rattle.pv_io.specs.Causes.{CountStays}
 use Rattle.pv_io.specs.Files.{file_named}
@@ -98,7 +98,7 @@ stop_found stage Goes (Refused r) never stops = refused (plain_response r) 0 sto
 stop_found stage Goes ShelfFault never stops = never stops
 stop_found stage Goes NoMemory never stops = short_of_memory 0 stops refl
 
--- what was found behind what a stage opened
+-- what was found after what a stage opened
 pub found_behind : {X : Type 0} (stage : Stage X) (Goes : X → Course → Type 0) (x : X) (result : Result Response Stop) → stage.Opens x 0 → TakesCourse (Goes x) result → TakesCourse (Behind stage Goes) result
 found_behind stage Goes x (Ok r) opens finds = opened x 0 _ opens finds refl
 found_behind stage Goes x (Err (Refused r)) opens finds = opened x 0 _ opens finds refl

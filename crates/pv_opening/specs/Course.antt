@@ -2,7 +2,7 @@
 use Rattle.std.specs.Prelude.{ℕ, ◌+◌, Bool, false, List, [], Option, None}
 use Rattle.pv_opening.specs.Response.{PlainResponse}
 
--- How a run ends: with a response; at a fault of the shelf; at a fault of the input, behind this
+-- How a run ends: with a response; at a fault of the shelf; at a fault of the input, after this
 -- output; at a fault of the output, while this was written; or for want of memory.
 pub data RunEnding : Type 0 where
   responds : PlainResponse → RunEnding

@@ -17,7 +17,7 @@ pub record PlainOpened : Type 0 where
   pub bytes : List ℕ
   pub doc : PlainDoc Mark
 
--- the response to a document whose first fault is of this kind, behind so many whole items
+-- the response to a document whose first fault is of this kind, after so many whole items
 abbrev pub document_refusal : Kind → ℕ → PlainResponse
 document_refusal subset k = with_line BadDocument (codes "document subset")
 document_refusal syntax k = with_line BadDocument (codes "document syntax " ++ decimal k)

@@ -17,7 +17,7 @@ pub data EndsWithin {X : Type 0} (stage : Stage X) (ending : RunEnding) : Type 0
   at_fault : (k : ℕ) → stage.Faults k → ending ≡ shelf_fault → EndsWithin stage ending
   without_memory : ending ≡ no_memory → EndsWithin stage ending
 
--- The counter before and behind a run whose lists are judged behind a stage: the run ended within
+-- The counter before and after a run whose lists are judged after a stage: the run ended within
 -- the stage and counted nothing; or the stage opened something, each list of it was counted once,
 -- and then the counter went on so.
 pub data CountsJudged {X : Type 0} (judging : Stage X) (lists : X → ℕ) (GoesOn : ℕ → ℕ → Type 0)
@@ -31,14 +31,14 @@ pub data CountsJudged {X : Type 0} (judging : Stage X) (lists : X → ℕ) (Goes
 abbrev pub CountsNoMore : ℕ → ℕ → Type 0
 CountsNoMore before after = after ≡ before
 
--- the counter before and behind what judges lists behind a stage and returns something, or a stop
+-- the counter before and after what judges lists after a stage and returns something, or a stop
 abbrev pub CountsOpening : {X Y : Type 0} → Stage X → (X → ℕ) → ℕ → ℕ → Result Y Stop → Type 0
 CountsOpening {X} judging lists before after (Ok y) =
     (x : X) × (k : ℕ) × judging.Opens x k × (after ≡ before + lists x)
 CountsOpening judging lists before after (Err stop) =
     CountsJudged judging lists CountsNoMore (ending_of (Err stop)) before after
 
--- reading a document, and testing the width of its lists, behind which all of them are judged
+-- reading a document, and testing the width of its lists, after which all of them are judged
 abbrev pub judging_stage : List ℕ → PlainDtd → List ℕ → Stage (PlainOpened × Unit {0})
 judging_stage root g bytes = followed_by (document_stage root g bytes)
     (λ opened. beside opened (width_stage opened.dtd opened.doc))

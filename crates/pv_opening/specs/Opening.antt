@@ -63,7 +63,7 @@ fetch_stage file most passed = record {
 abbrev pub file_stage : {X : Type 0} → Option (List ℕ) → ℕ → List ℕ → (List ℕ → Stage X) → Stage X
 file_stage file most passed reading = followed_by (fetch_stage file most passed) reading
 
--- the response to a DTD whose first fault is of this kind, behind so many whole items
+-- the response to a DTD whose first fault is of this kind, after so many whole items
 abbrev pub dtd_refusal : Kind → ℕ → PlainResponse
 dtd_refusal parameter k = with_line BadDtd (codes "dtd parameter " ++ decimal k)
 dtd_refusal nesting k = with_line Limit (codes "limit dtd " ++ decimal k)

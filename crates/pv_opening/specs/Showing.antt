@@ -40,7 +40,7 @@ pub record AskedAtMost (calls empty : ℕ) (before after : Asked) : Type 0 where
   pub none_given : MadeAtMost empty before.empty after.empty
 
 -- The input was asked at most once for each byte that came, and once more; and at most one call
--- gave no byte, so that it isn't asked again behind its end, or behind a fault of it.
+-- gave no byte, so that it isn't asked again after its end, or after a fault of it.
 abbrev pub AsksInput : Option (List ℕ) → Asked → Asked → Type 0
 AsksInput None before after = after ≡ before
 AsksInput (Some bytes) before after = AskedAtMost (length bytes + 1) 1 before after

@@ -1,4 +1,4 @@
--- The order of work: stages, one behind another. Each opens something, or refuses, or stops, after
+-- The order of work: stages, one after another. Each opens something, or refuses, or stops, after
 -- so many fetches.
 use Rattle.std.specs.Prelude.{◌≡◌, ◌⊎◌, ℕ, ◌+◌}
 use Rattle.pv_opening.specs.Course.{Course, after_fetches, without_input, responds, shelf_fault}
@@ -27,12 +27,12 @@ without_fetch Opens Refuses = record {
 abbrev pub test_stage : Type 0 → (PlainResponse → Type 0) → Stage (Unit {0})
 test_stage Holds Refuses = without_fetch (λ _. Holds) Refuses
 
--- a stage opens something, and behind it comes this; the fetches of both count
+-- a stage opens something, and after it comes this; the fetches of both count
 abbrev pub And : {X : Type 0} → Stage X → (X → ℕ → Type 0) → ℕ → Type 0
 And {X} stage Comes n =
     (x : X) × (k : ℕ) × (m : ℕ) × stage.Opens x k × Comes x m × (n ≡ k + m)
 
--- one stage, and behind what it opens another
+-- one stage, and after what it opens another
 abbrev pub followed_by : {X Y : Type 0} → Stage X → (X → Stage Y) → Stage Y
 followed_by {X} first second = record {
   Opens = λ y n. And first (λ x. (second x).Opens y) n;

@@ -17,7 +17,7 @@ use Rattle.pv_parallel.proofs.Tallying.{few_more}
 use Rattle.pv_parallel.specs.declared.gathering.Gathering.{Gathering}
 use Rattle.pv_parallel.specs.declared.jobs.Job.{Job}
 
--- the lists of nodes that stand behind others come behind those of these
+-- the lists of nodes that stand after others come after those of these
 pub lists_joined : (path : List ℕ) (i : ℕ) (xs ys : List Node) → lists_from path i (forest (xs ++ ys)) ≡ lists_from path i (forest xs) ++ lists_from path (i + length xs) (forest ys)
 lists_joined path i [] ys = ap (λ k. lists_from path k (forest ys)) (sym (add-zero i))
 lists_joined path i (x ∷ xs) ys =
@@ -41,7 +41,7 @@ lists_cut path i n nodes h =
     ap (λ l. lists_from path i (forest l)) (sym (take-append-drop n nodes)) ∙ lists_joined path i (take n nodes) (drop n nodes)
     ∙ ap (λ k. lists_from path i (forest (take n nodes)) ++ lists_from path (i + k) (forest (drop n nodes))) (length-cut n nodes h)
 
--- the lists of the node of this number, and those of the others behind it
+-- the lists of the node of this number, and those of the others after it
 pub lists_next : (path : List ℕ) (i n : ℕ) (nodes : List Node) (node : Node) → n < length nodes → node ≡ get_or nodes n node →
     lists_from path (i + n) (forest (drop n nodes)) ≡ lists_at (path ++ (i + n) ∷ []) (plain node) ++ lists_from path (i + (n + 1)) (forest (drop (n + 1) nodes))
 lists_next path i n nodes node h e =
@@ -86,7 +86,7 @@ adds_job here before after job longest items first run count most few = λ past 
       narrow = all_joined (HasFewTokens after.longest) past here (few_more before.longest after.longest (omega arith) past has.narrow) (few_more longest after.longest (omega arith) here few);
     }
 
--- of nodes some of which were gathered, the others come behind those
+-- of nodes some of which were gathered, the others come after those
 pub front_then : (rest next : List Node) (a b : Gathering) → TakesFront rest next a b → (last : Gathering) → ((path : List ℕ) (i : ℕ) → Adds (lists_from path i (forest next)) b last) → (path : List ℕ) (i : ℕ) → Adds (lists_from path i (forest rest)) a last
 front_then rest next a b f last more path i =
     let behind : Adds (lists_from path (i + f.count) (forest (drop f.count rest))) b last = subst (λ (l : List Node). Adds (lists_from path (i + f.count) (forest l)) b last) f.is_rest (more path (i + f.count)) in
@@ -160,7 +160,7 @@ node_taken nodes rest node a b some is is_rest added few =
       few = omega arith;
     }
 
--- the document node's list, and those of the elements behind it
+-- the document node's list, and those of the elements after it
 pub whole_gathered : (doc : PlainDoc Mark) (a b c : Gathering) → HasGathered [] a → Adds (record { path = []; owner = the_document; kids = tree doc.root no_trees } ∷ []) a b → Adds (lists_at (0 ∷ []) doc.root ++ []) b c → HasGathered (lists_of doc) c
 whole_gathered doc a b c none own below =
     let list : Listed Mark = record { path = []; owner = the_document; kids = tree doc.root no_trees } in

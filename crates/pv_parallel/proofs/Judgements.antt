@@ -113,7 +113,7 @@ module _ (g : PlainDtd) (root : List ℕ) (entered : ℕ → Type 0) where
       let all = subst (AllByRecursion (IsListForVerdict g)) a.2 fits in
       (not_wide a.0 job one a.4 z.0 (all_left (IsListForVerdict g) a.0 a.1 all), none_too_wide (k + length a.0) a.1 jobs judged a.5 z.1 (all_right (IsListForVerdict g) a.0 a.1 all))
 
--- the verdicts of the job of this number stand behind those before
+-- the verdicts of the job of this number stand after those before
 pub joined_next : (judged : List (Result (Vec Verdict Global) ReachError)) (n : ℕ) (one : Result (Vec Verdict Global) ReachError) (here : Vec Verdict Global) (before after last : List Verdict) → n < length judged → one ≡ get_or judged n one → one ≡ Ok here →
     after ≡ before ++ here.items → ((rest : List Verdict) → AreJoined (drop n judged) rest → AreJoined judged (before ++ rest)) → AreJoined (drop (n + 1) judged) last → AreJoined judged (after ++ last)
 joined_next judged n one here before after last h e ok new so_far more =
@@ -121,7 +121,7 @@ joined_next judged n one here before after last h e ok new so_far more =
     let behind : AreJoined (drop n judged) (here.items ++ last) = subst (λ (l : List (Result (Vec Verdict Global) ReachError)). AreJoined l (here.items ++ last)) (sym whole) (last, refl, more) in
     subst (AreJoined judged) (sym (ap (λ (l : List Verdict). l ++ last) new ∙ append_assoc before here.items last)) (so_far (here.items ++ last) behind)
 
--- what came of one more job stands behind what came of those before it
+-- what came of one more job stands after what came of those before it
 pub in_turn_next : {A B : Type 0} (R : A → B → Type 0) (jobs : List A) (n : ℕ) (job : A) (one : B)
     (before after last : List B) → n < length jobs → job ≡ get_or jobs n job → R job one →
     after ≡ before ++ one ∷ [] →

@@ -25,7 +25,7 @@ goes_behind xs ys k m left old new false e p = (let n = length-append xs ys in l
 pub goes_own : {M : Type 0} (x attrs : List ℕ) (e : Ending) (kids : Forest M) (mark : M) (k : ℕ) (path : List ℕ) → k ≡ 0 → IsPathOf (lists_at path (element x attrs e kids mark)) k path
 goes_own x attrs e kids mark k path none = rw none (record { list = record { path = path; owner = an_element x; kids = kids }; is_there = refl; is_path = refl })
 
--- those of its kids come behind it
+-- those of its kids come after it
 pub goes_kids : {M : Type 0} (x attrs : List ℕ) (e : Ending) (kids : Forest M) (mark : M) (k m left : ℕ) (path new : List ℕ) (found : Bool) → k ≡ m + 1 →
     GoesTo (lists_from path 0 kids) m left path new found → GoesTo (lists_at path (element x attrs e kids mark)) k left path new found
 goes_kids x attrs e kids mark k m left path new found h f =
@@ -44,6 +44,6 @@ goes_behind_kid path i kids t rest k m left new found e h f = rw e (goes_behind 
 pub root_path : {M : Type 0} (doc : PlainDoc M) (k : ℕ) (path : List ℕ) → k ≡ 0 → path ≡ [] → IsPathOf (lists_of doc) k path
 root_path doc k path none e = rw none (record { list = record { path = []; owner = the_document; kids = tree doc.root no_trees }; is_there = refl; is_path = e })
 
--- and those of its elements come behind it
+-- and those of its elements come after it
 pub below_root : {M : Type 0} (doc : PlainDoc M) (k m : ℕ) (path : List ℕ) → k ≡ m + 1 → IsPathOf (lists_at (0 ∷ []) doc.root) m path → IsPathOf (lists_of doc) k path
 below_root doc k m path e p = goes_behind (record { path = []; owner = the_document; kids = tree doc.root no_trees } ∷ []) (lists_at (0 ∷ []) doc.root) k m 0 [] path true e p

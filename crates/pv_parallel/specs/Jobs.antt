@@ -47,7 +47,7 @@ pub record HasGathered (lists : List (Listed Mark)) (gathering : Gathering) : Ty
   pub count : gathering.count ≡ length lists
   pub narrow : AllByRecursion (HasFewTokens gathering.longest) lists
 
--- those of these lists come behind what was gathered before
+-- those of these lists come after what was gathered before
 abbrev pub Adds : List (Listed Mark) → Gathering → Gathering → Type 0
 Adds lists before after = (past : List (Listed Mark)) →
     HasGathered past before → HasGathered (past ++ lists) after
@@ -62,7 +62,7 @@ pub record TakesFront (nodes rest : List Node) (before after : Gathering) : Type
       Adds (lists_from path i (forest (take count nodes))) before after
   pub few : after.count ≤ before.count + nodes_in_all (forest (take count nodes))
 
--- These lists were judged behind those before them, each when its number was told; the first of all
+-- These lists were judged after those before them, each when its number was told; the first of all
 -- has the number `first`.
 pub record JudgesBehind (g : PlainDtd) (root : List ℕ) (entered : ℕ → Type 0) (first : ℕ)
     (lists : List (Listed Mark)) (before after : List Verdict) : Type 0 where
@@ -80,7 +80,7 @@ pub record JudgesJob (g : PlainDtd) (root : List ℕ) (entered : ℕ → Type 0)
   pub wide : IfErr judged (λ e. e ≡ TooWide → (lists : List (Listed Mark)) →
       IsRunOf lists job.run → ¬ AllByRecursion (IsListForVerdict g) lists)
 
--- the verdicts of jobs, one behind the other
+-- the verdicts of jobs, one after the other
 abbrev pub AreJoined : List (Result (Vec Verdict Global) ReachError) → List Verdict → Type 0
 AreJoined [] vs = vs ≡ []
 AreJoined (Ok here ∷ judged) vs = (rest : List Verdict) × (vs ≡ here.items ++ rest) ×

@@ -14,7 +14,7 @@ pub record IsPathOf {M : Type 0} (lists : List (Listed M)) (k : ℕ) (path : Lis
   pub is_path : path ≡ list.path
 
 -- Where the list of this number is among these, the places are now its path. Where it isn't, so
--- many are left to go behind them, and the places are as before.
+-- many are left to go after them, and the places are as before.
 abbrev pub GoesTo : {M : Type 0} → List (Listed M) → ℕ → ℕ → List ℕ → List ℕ → Bool → Type 0
 GoesTo lists k left old new true = IsPathOf lists k new
 GoesTo lists k left old new false = (k ≡ left + length lists) × (new ≡ old)

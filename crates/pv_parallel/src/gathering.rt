@@ -37,7 +37,7 @@ impl<'a> Gathering<'a> {
         }
     }
 
-    // So many lists, of at most so many kids each, come behind those so far.
+    // So many lists, of at most so many kids each, come after those so far.
     fn add(&mut self, run: Run<'a>, lists: u64, longest: usize) -> Result<(), NoMemory>
         requires { self.old.count + lists < 2 ^ 64 }
         ensures added { OnOk result ((here : List (Listed Mark)) → IsRunOf here run.entry →

@@ -38,7 +38,7 @@ const JOBS_BY_ONE_THREAD: usize = 8;
 // The fewest that are worth more threads than one.
 const JOBS_FOR_THREADS: usize = 4;
 
-// Judges a list behind those judged so far, when its number is told.
+// Judges a list after those judged so far, when its number is told.
 fn judge_list<G: Gate>(
     judge: &Judge<'_>,
     owner: Option<Of>,

@@ -52,7 +52,7 @@ run_is_front mode text left k b less =
     let more = drop (length text - left) text in
     ap (λ n. take (length (drop k text) - n) (drop k text)) (sym (left_is text left k less)) ∙ ap (λ l. front_of l more) b.whole ∙ front_is b.run more
 
--- all items at the front of a text are those of a run at its front and those behind it
+-- all items at the front of a text are those of a run at its front and those after it
 inside_run : (run rest : List ℕ) → list_all (is_plain inside) run ≡ true → behind_items inside_at (length rest) rest ≡ behind_items inside_at (length (run ++ rest)) (run ++ rest)
 inside_run [] rest all = refl
 inside_run (b ∷ bs) rest all =

@@ -105,7 +105,7 @@ module _ (Spells : TextItem → List ℕ → Type 0) (at : ItemReader) (reads : 
       let same = same_run [] (behind_items at (length text) text) are nothing_at_end takes.are_items takes.ends (append-nil text ∙ takes.whole) in
       ap is_nothing (sym same.1)
 
-  -- where an item is read, all behind it are
+  -- where an item is read, all after it are
   pub next_items : (bytes : List ℕ) (i : TextItem) (rest : List ℕ) → at bytes ≡ Some (i, rest) → behind_items at (length rest) rest ≡ behind_items at (length bytes) bytes
   next_items bytes i rest e =
       let f = reads.read bytes i rest e in

@@ -92,7 +92,7 @@ held_shorter word held text s = omega (arith, ap length s.whole, length-append w
 front_shorter : (rest text more part : List ℕ) → rest ≡ text ++ more → length part < length text → length part < length rest
 front_shorter rest text more part e less = omega (arith, ap length e, length-append text more)
 
--- a value, and what stands behind its declaration, are shorter by more than one byte than the rest
+-- a value, and what stands after its declaration, are shorter by more than one byte than the rest
 pub value_room : (mode : Mode) (rest name given more : List ℕ) → StandsAt mode rest (parameter name given) more → length given + length more + 1 < length rest
 value_room mode rest name given more s = by mode s.spelled
   where

@@ -196,7 +196,7 @@ or_false_right false b e = e
 spelled_short : {mode : Mode} {rest more : List ℕ} {i : TextItem} → StandsAt mode rest i more → length more < length rest
 spelled_short {mode} {rest} {more} {i} s = shorter (Spells mode) (item_at mode) (mode_reads mode) rest i more (front s)
 
--- the room for the text within and for what is behind it
+-- the room for the text within and for what is after it
 opened_less : {mode : Mode} {reading : List (List ℕ)} {before : SoFar} {rest : List ℕ} {w : Within} → Opens mode reading before rest w → (room : ℕ) →
     (MAX_REFERENCES - w.before.references) * (MAX_PLACED + 2) + (suc (length w.text) + (suc (length w.behind) + room)) < (MAX_REFERENCES - before.references) * (MAX_PLACED + 2) + (suc (length rest) + room)
 opened_less {before} {rest} (of_reference {text} {more} s n) room =

@@ -13,7 +13,7 @@ use Rattle.pv_chars.specs.Declarations.{is_one_of}
 use Rattle.pv_chars.specs.CharReading.{name_at, comment_at, instruction_at, quoted_at, is_chars}
 use Rattle.pv_chars.specs.CharReading.{is_nothing}
 
--- an item, and what stands behind it
+-- an item, and what stands after it
 abbrev pub ItemReader : Type 0
 ItemReader = List ℕ → Option (TextItem × List ℕ)
 
@@ -26,7 +26,7 @@ abbrev pub behind_by : (List ℕ → List ℕ) → List ℕ → Option (TextItem
 behind_by more bytes None = bytes
 behind_by more bytes (Some x) = more x.1
 
--- what stands behind all items at the front, in at most so many steps
+-- what stands after all items at the front, in at most so many steps
 unfoldable pub behind_items : ItemReader → ℕ → List ℕ → List ℕ
 behind_items at zero bytes = bytes
 behind_items at (suc steps) bytes = behind_by (behind_items at steps) bytes (at bytes)
@@ -35,7 +35,7 @@ behind_items at (suc steps) bytes = behind_by (behind_items at steps) bytes (at 
 abbrev pub front_of : List ℕ → List ℕ → List ℕ
 front_of bytes rest = take (length bytes - length rest) bytes
 
--- what is copied, where this stands behind it
+-- what is copied, where this stands after it
 unfoldable pub copy_up_to : List ℕ → Option (List ℕ) → Option (TextItem × List ℕ)
 copy_up_to bytes None = None
 copy_up_to bytes (Some rest) = Some (puts (front_of bytes rest), rest)
@@ -101,7 +101,7 @@ is_inside text = is_chars text && are_items inside_at text
 unfoldable pub is_value : List ℕ → Bool
 is_value text = is_chars text && are_items value_at text
 
--- what stands behind the '%' of a parameter declaration: its name, and the rest behind the white
+-- what stands after the '%' of a parameter declaration: its name, and the rest after the white
 -- space there
 unfoldable pub parameter_named : List ℕ → Option (List ℕ × List ℕ)
 parameter_named bytes = do
@@ -113,7 +113,7 @@ parameter_named bytes = do
   rest ← after_blank name.1
   Some (name.0, rest)
 
--- the value of a parameter declaration, and what stands behind the declaration
+-- the value of a parameter declaration, and what stands after the declaration
 unfoldable pub parameter_given : List ℕ → Option (List ℕ × List ℕ)
 parameter_given bytes = do
   given ← quoted_at bytes
@@ -137,7 +137,7 @@ keyword_at bytes =
     (or_else (with_word (codes "<!ENTITY") (after_bytes (codes "<!ENTITY") bytes)) (with_word (codes
     "<!NOTATION") (after_bytes (codes "<!NOTATION") bytes))))
 
--- what a declaration holds behind its word, and what stands behind it
+-- what a declaration holds after its word, and what stands after it
 unfoldable pub held_by : List ℕ → List ℕ → Option (List ℕ × List ℕ)
 held_by held end = if begins is_space held && is_chars held then (after_bytes (codes ">") end >>=
     λ rest. Some (held, rest)) else None

@@ -11,7 +11,7 @@ pub data Mode : Type 0 where
 
 -- What an item asks for: these bytes are put into the result; the text of the entity of this name
 -- is read; an entity of this name is declared, with this value in its quotes;
--- a declaration with this word is copied, what it holds behind the word is read (XML 1.0, 4.4).
+-- a declaration with this word is copied, what it holds after the word is read (XML 1.0, 4.4).
 pub data TextItem : Type 0 where
   puts : (bytes : List ℕ) → TextItem
   reference : (name : List ℕ) → TextItem

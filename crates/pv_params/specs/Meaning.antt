@@ -89,7 +89,7 @@ pub record Enters (mode : Mode) (reading : List (List ℕ)) (before : SoFar) (na
   pub judged : mode ≡ inside → IsInside text
 
 -- ---- texts that are read within others
--- what is done behind such a text: these bytes are put, or what it gave is declared, and the result
+-- what is done after such a text: these bytes are put, or what it gave is declared, and the result
 -- is again what it was
 pub data EndOfText : Type 0 where
   closes : (bytes : List ℕ) → EndOfText
@@ -105,7 +105,7 @@ finish (declares name result) after = record {
 }
 
 -- A text that is read within another: its mode, the names whose texts are being read, what was read
--- so far; and behind it the ending, and
+-- so far; and after it the ending, and
 -- the mode and the rest of the other text.
 pub record Within : Type 0 where
   pub mode : Mode
@@ -123,14 +123,14 @@ mode_of_text between = between
 mode_of_text inside = inside
 mode_of_text value = value
 
--- what is put before and behind it
+-- what is put before and after it
 abbrev pub blank : Mode → List ℕ
 blank (file after_parameter) = codes " "
 blank between = codes " "
 blank inside = codes " "
 blank value = []
 
--- the mode behind a parameter declaration
+-- the mode after a parameter declaration
 abbrev pub behind_parameter : Mode → Mode
 behind_parameter (file after_parameter) = file true
 behind_parameter between = between
@@ -241,7 +241,7 @@ pub data Stops (mode : Mode) (reading : List (List ℕ)) (before : SoFar) (rest 
   unread : {after_parameter : Bool} → mode ≡ file after_parameter → BeginsNothing mode rest →
       Stops mode reading before rest (gives (put (blank_before after_parameter ++ rest) before))
 
--- The rest of a text, read in this mode within the texts of these names behind what was read so
+-- The rest of a text, read in this mode within the texts of these names after what was read so
 -- far, comes to this.
 pub data Reads : Mode → List (List ℕ) → SoFar → List ℕ → Outcome → Type 0 where
   stops : {mode : Mode} {reading : List (List ℕ)} {before : SoFar} {rest : List ℕ} {o : Outcome} →

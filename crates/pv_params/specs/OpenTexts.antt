@@ -22,20 +22,20 @@ pub record PlainOpenText : Type 0 where
   pub rest : List ℕ
   pub ending : EndOfText
 
--- the names of the texts that are being read, the innermost first, behind the end of the innermost
+-- the names of the texts that are being read, the innermost first, after the end of the innermost
 -- text
 abbrev pub names_behind : Bool → List (List ℕ) → List (List ℕ)
 names_behind true (name ∷ names) = names
 names_behind true [] = []
 names_behind false names = names
 
--- What a text within came to: behind one that was read to its end the others lead on, and else its
+-- What a text within came to: after one that was read to its end the others lead on, and else its
 -- fault is all.
 abbrev pub Comes : EndOfText → (SoFar → Type 0) → Outcome → Outcome → Type 0
 Comes ending LeadsOn (gives after) o = LeadsOn (finish ending after)
 Comes ending LeadsOn (meets fault) o = o ≡ meets fault
 
--- Where the innermost of these texts is read on within the texts of these names behind what was
+-- Where the innermost of these texts is read on within the texts of these names after what was
 -- read so far, the outermost comes to this.
 abbrev pub LeadToOutcome : List PlainOpenText → List (List ℕ) → SoFar → Outcome → Type 0
 LeadToOutcome [] reading before o = o ≡ gives before
@@ -88,7 +88,7 @@ mode_behind (reference name) mode = mode
 mode_behind (parameter name given) mode = behind_parameter mode
 mode_behind (declaration word held) mode = mode
 
--- This text is read within, wherever the item stands, and behind its end the names are those that
+-- This text is read within, wherever the item stands, and after its end the names are those that
 -- they were.
 pub record OpensAt (mode : Mode) (reading : List (List ℕ)) (before : SoFar) (i : TextItem)
     (p : PlainOpenText) (reading_within : List (List ℕ)) (after : SoFar) : Type 0 where

@@ -11,7 +11,7 @@ is_plain between b = is_space b
 is_plain inside b = not (is_one_of (codes "<>%'\"") b)
 is_plain value b = not (is_one_of (codes "%&") b)
 
--- a run of such bytes stands at the front, and this stands behind it
+-- a run of such bytes stands at the front, and this stands after it
 pub record IsBehindRun (mode : Mode) (bytes rest : List ℕ) : Type 0 where
   pub run : List ℕ
   pub are_plain : IsTrue (list_all (is_plain mode) run)

@@ -19,7 +19,7 @@ plain_item (Reference name) = reference name.now
 plain_item (Parameter name given) = parameter name.now given.now
 plain_item (Declaration word held) = declaration word.now held.now
 
--- an item, and what stands behind it
+-- an item, and what stands after it
 abbrev pub plain_item_found : SpelledItem × Bor (List ℕ) → TextItem × List ℕ
 plain_item_found found = (plain_item found.0, found.1.now)
 

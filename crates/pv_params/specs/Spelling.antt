@@ -125,7 +125,7 @@ Spells between = SpellsBetween
 Spells inside = SpellsInside
 Spells value = SpellsValue
 
--- this item stands at the front of the rest of a text that is read in this mode, and this behind it
+-- this item stands at the front of the rest of a text that is read in this mode, and this after it
 pub record StandsAt (mode : Mode) (rest : List ℕ) (i : TextItem) (more : List ℕ) : Type 0 where
   pub text : List ℕ
   pub spelled : Spells mode i text
@@ -154,7 +154,7 @@ pub record IsExternal (rest : List ℕ) : Type 0 where
       (word ++ more))))))
 
 -- ---- the file's start
--- what stands behind the text declaration, where there is one
+-- what stands after the text declaration, where there is one
 abbrev pub IsBehindTextDecl : List ℕ → List ℕ → Type 0
 IsBehindTextDecl bytes rest = Begins IsTextDecl bytes rest ⊎ (BeginsNone IsTextDecl bytes ×
     (bytes ≡ rest))

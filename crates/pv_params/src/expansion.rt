@@ -20,7 +20,7 @@ use pv_chars::delimiters::{up_to, up_to_byte};
 use pv_chars::scan::after_byte_order_mark;
 use std::alloc::Global;
 
-// What stands behind the text declaration, where there is one.
+// What stands after the text declaration, where there is one.
 fn after_declaration(bytes: &[u8]) -> &[u8]
     ensures { IsBehindTextDecl bytes.now result.now }
 {
@@ -30,7 +30,7 @@ fn after_declaration(bytes: &[u8]) -> &[u8]
     }
 }
 
-// What stands behind the byte order mark and the text declaration.
+// What stands after the byte order mark and the text declaration.
 fn after_head(bytes: &[u8]) -> &[u8]
     ensures { HasHead bytes.now (front_of bytes.now result.now) result.now }
 {

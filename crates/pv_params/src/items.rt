@@ -59,7 +59,7 @@ fn white_at(bytes: &[u8]) -> Option<(SpelledItem<'_>, &[u8])>
     }
 }
 
-// What is copied, where this stands behind it.
+// What is copied, where this stands after it.
 #[tactic(auto, unfolding(crate::specs::ItemReading::copy_up_to))]
 fn copy_up_to<'a>(bytes: &'a [u8], rest: Option<&'a [u8]>) -> Option<(SpelledItem<'a>, &'a [u8])>
     ensures { option_map plain_item_found result ≡
@@ -71,7 +71,7 @@ fn copy_up_to<'a>(bytes: &'a [u8], rest: Option<&'a [u8]>) -> Option<(SpelledIte
     }
 }
 
-// What stands behind the literal at the front.
+// What stands after the literal at the front.
 #[tactic(auto, unfolding(crate::specs::ItemReading::literal_at))]
 fn literal_at(bytes: &[u8]) -> Option<&[u8]>
     ensures { option_map (λ r. r.now) result ≡ literal_at bytes.now }
@@ -80,7 +80,7 @@ fn literal_at(bytes: &[u8]) -> Option<&[u8]>
     Some(rest)
 }
 
-// What stands behind the reference by name at the front.
+// What stands after the reference by name at the front.
 #[tactic(auto, unfolding(crate::specs::ItemReading::general_at))]
 fn general_at(bytes: &[u8]) -> Option<&[u8]>
     ensures { option_map (λ r. r.now) result ≡ general_at bytes.now }
@@ -110,7 +110,7 @@ fn inside_at(bytes: &[u8]) -> Option<(SpelledItem<'_>, &[u8])>
     reference_at(bytes)
 }
 
-// The character that a reference by digits in this base gives, behind this front.
+// The character that a reference by digits in this base gives, after this front.
 #[tactic(auto, unfolding(crate::specs::ItemReading::character_at, crate::specs::ItemReading::ended_by))]
 fn character_at<'a>(base: u32, front: &[u8], bytes: &'a [u8]) -> Option<(SpelledItem<'a>, &'a [u8])>
     requires some { 2 ≤ base }
@@ -146,7 +146,7 @@ fn value_at(bytes: &[u8]) -> Option<(SpelledItem<'_>, &[u8])>
     reference_at(bytes)
 }
 
-// What stands behind all items of the mode Inside.
+// What stands after all items of the mode Inside.
 fn behind_inside(bytes: &[u8]) -> &[u8]
     ensures { result.now ≡ behind_items inside_at (length bytes.now) bytes.now }
 {
@@ -157,7 +157,7 @@ fn behind_inside(bytes: &[u8]) -> &[u8]
     rest
 }
 
-// What stands behind all items of the mode Value.
+// What stands after all items of the mode Value.
 fn behind_value(bytes: &[u8]) -> &[u8]
     ensures { result.now ≡ behind_items value_at (length bytes.now) bytes.now }
 {
@@ -183,7 +183,7 @@ fn is_value(text: &[u8]) -> bool
     is_chars(text) && behind_value(text).is_empty()
 }
 
-// The name of the parameter declaration at the front, and what stands behind it and white space.
+// The name of the parameter declaration at the front, and what stands after it and white space.
 #[tactic(auto, unfolding(crate::specs::ItemReading::parameter_named))]
 fn parameter_named(bytes: &[u8]) -> Option<(&[u8], &[u8])>
     ensures { option_map (λ r. (r.0.now, r.1.now)) result ≡ parameter_named bytes.now }
@@ -197,7 +197,7 @@ fn parameter_named(bytes: &[u8]) -> Option<(&[u8], &[u8])>
     Some((name, rest))
 }
 
-// The value of a parameter declaration, and what stands behind the declaration.
+// The value of a parameter declaration, and what stands after the declaration.
 #[tactic(auto, unfolding(crate::specs::ItemReading::parameter_given))]
 fn parameter_given(bytes: &[u8]) -> Option<(&[u8], &[u8])>
     ensures { option_map (λ r. (r.0.now, r.1.now)) result ≡ parameter_given bytes.now }
@@ -220,7 +220,7 @@ fn parameter_at(bytes: &[u8]) -> Option<(SpelledItem<'_>, &[u8])>
     Some((SpelledItem::Parameter(name, given), rest))
 }
 
-// The word of another declaration at the front, and what stands behind it.
+// The word of another declaration at the front, and what stands after it.
 #[tactic(auto, unfolding(crate::specs::ItemReading::keyword_at, crate::specs::ItemReading::or_else))]
 fn keyword_at(bytes: &[u8]) -> Option<(&'static [u8], &[u8])>
     ensures { option_map (λ r. (r.0.now, r.1.now)) result ≡ keyword_at bytes.now }
@@ -247,7 +247,7 @@ fn begins_white(bytes: &[u8]) -> bool
     }
 }
 
-// What a declaration holds behind its word, and what stands behind it.
+// What a declaration holds after its word, and what stands after it.
 #[tactic(auto, unfolding(crate::specs::ItemReading::held_at, crate::specs::ItemReading::held_by))]
 fn held_at(bytes: &[u8]) -> Option<(&[u8], &[u8])>
     ensures { option_map (λ r. (r.0.now, r.1.now)) result ≡ held_at bytes.now }
@@ -293,7 +293,7 @@ fn between_at(bytes: &[u8]) -> Option<(SpelledItem<'_>, &[u8])>
     parameter_at(bytes)
 }
 
-/// The item at the front of the rest of a text that is read in this mode, and what stands behind
+/// The item at the front of the rest of a text that is read in this mode, and what stands after
 /// it.
 #[tactic(auto, unfolding(crate::specs::ItemReading::item_at))]
 pub fn item_at(mode: TextMode, bytes: &[u8]) -> Option<(SpelledItem<'_>, &[u8])>
@@ -314,7 +314,7 @@ fn external_word(bytes: &[u8]) -> Option<&[u8]>
     after_bytes(b"SYSTEM", bytes).or(after_bytes(b"PUBLIC", bytes))
 }
 
-/// What stands behind the word of the external parameter entity that is declared at the front.
+/// What stands after the word of the external parameter entity that is declared at the front.
 #[tactic(auto, unfolding(crate::specs::ItemReading::external_at))]
 pub fn external_at(bytes: &[u8]) -> Option<&[u8]>
     ensures { option_map (λ r. r.now) result ≡ external_at bytes.now }

@@ -198,7 +198,7 @@ pub fn handle(
     }
 }
 
-/// The mode of a text behind this item.
+/// The mode of a text after this item.
 pub fn mode_behind(item: &SpelledItem<'_>, mode: TextMode) -> TextMode
     ensures { plain_mode result ≡ mode_behind (plain_item item.now) (plain_mode mode) }
 {

@@ -35,7 +35,7 @@ fn run_length(mode: TextMode, bytes: &[u8]) -> usize
     count
 }
 
-/// What stands behind the bytes at the front that are items of the mode by themselves.
+/// What stands after the bytes at the front that are items of the mode by themselves.
 pub fn behind_run(mode: TextMode, bytes: &[u8]) -> &[u8]
     ensures run { IsBehindRun (plain_mode mode) bytes.now result.now }
     ensures within { length result.now ≤ length bytes.now }

@@ -41,7 +41,7 @@ pub struct State {
     pub result: Vec<u8>,
 }
 
-// What is put before a text, and behind it.
+// What is put before a text, and after it.
 fn blank(mode: TextMode) -> &'static [u8]
     ensures { result.now ≡ blank (plain_mode mode) }
 {

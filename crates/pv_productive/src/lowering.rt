@@ -50,7 +50,7 @@ fn lower_name(layout: &Layout, name: u32, sizes: &mut Sizes) -> bool
 }
 
 /// The same for the parts from number `first` up to `end`, which is left out. What is within a part
-/// has higher numbers, and so have the members behind it; so the last part comes first.
+/// has higher numbers, and so have the members after it; so the last part comes first.
 fn lower_parts(layout: &Layout, first: u32, end: u32, sizes: &mut Sizes) -> bool
     requires attained { IsAttained (plain_dtd layout.now.dtd) (table_of sizes.old) }
     requires within { end ≤ parts_in_models (plain_dtd layout.now.dtd).models }

@@ -20,7 +20,7 @@ module _ (P : PlainToken → Type 0) where
   at_most (t ∷ v) n (inl a) = let z = at_most v n a.1 in omega arith
   at_most (t ∷ v) n (inr (i, p, e, a)) = let z = at_most v i a in omega arith
 
-  -- that of two words, one behind the other, is the sum
+  -- that of two words, one after the other, is the sum
   pub number_of_both : (v w : List PlainToken) (n m : ℕ) → AreWithout P v n → AreWithout P w m →
       AreWithout P (v ++ w) (n + m)
   number_of_both [] w n m a b = let F : ℕ → Type 0 = AreWithout P w in subst F (omega arith) b

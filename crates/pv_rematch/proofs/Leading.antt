@@ -70,7 +70,7 @@ module _ (p : PlainPart) where
       e ∙ ap (λ t. u ++ t) (ap (λ t. t ++ z) f ∙ append_assoc b c z)
       ∙ sym (append_assoc u b (c ++ z))
 
-  -- the point of this number, and those behind it
+  -- the point of this number, and those after it
   pub wait_at : (w : List PlainToken) (was : Bool) → was ≡ is_word p w →
       (u : List PlainToken) (ps : List Point) (n : ℕ) (a z : List PlainToken) (k : ℕ) →
       w ≡ u ++ (a ++ z) → k ≡ length u + span (take (suc n) ps) →

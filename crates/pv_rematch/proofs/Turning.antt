@@ -107,7 +107,7 @@ waits p w ps n k h lt at =
           (omega (arith, place)) more h.points.3
     ]
 
--- the points before the change, the new ones and those behind
+-- the points before the change, the new ones and those after it
 pub turned : (p : PlainPart) (w t : List PlainToken) (ps : List Point) (s : Stretch) (place : ℕ) →
     (k : StaysBefore p w ps s.first place) → t ≡ drop place w → s.first ≤ s.last →
     s.last ≤ length ps → ArePoints p k.before t (s.points.items ++ drop s.last ps) →

@@ -4,7 +4,7 @@ use Rattle.pv_model.specs.Plain.{PlainPart, PlainToken}
 use Rattle.pv_rematch.specs.States.{IsAfter}
 use Rattle.pv_rematch.specs.declared.points.Point.{Point}
 
--- behind some tokens, the points lead over these: each has its distance from the one before it, and
+-- after some tokens, the points lead over these: each has its distance from the one before it, and
 -- what all tokens before it have reached
 abbrev pub LeadOver : PlainPart → List PlainToken → List Point → List PlainToken → Type 0
 LeadOver p u [] a = a ≡ []
@@ -12,7 +12,7 @@ LeadOver p u (r ∷ rs) a =
     (b : List PlainToken) × (c : List PlainToken) × (a ≡ b ++ c) × (length b ≡ r.gap) ×
     IsAfter p (u ++ b) r.state × LeadOver p (u ++ b) rs c
 
--- behind some tokens, the points lead over the first tokens of the rest
+-- after some tokens, the points lead over the first tokens of the rest
 abbrev pub ArePoints : PlainPart → (before rest : List PlainToken) → List Point → Type 0
 ArePoints p u w rs =
     (a : List PlainToken) × (b : List PlainToken) × (w ≡ a ++ b) × LeadOver p u rs a

@@ -7,7 +7,7 @@ use Rattle.pv_rematch.specs.declared.points.Point.{Point}
 use Rattle.pv_rematch.specs.declared.walkers.Walker.{Walker}
 use Rattle.pv_rematch.specs.declared.walkers.Walked.{Walked}
 
--- behind the tokens u the walker has read these tokens
+-- after the tokens u the walker has read these tokens
 pub record HasRead (p : PlainPart) (u a : List PlainToken) (k : Walker) : Type 0 where
   pub kept : List PlainToken
   pub since : List PlainToken
@@ -16,7 +16,7 @@ pub record HasRead (p : PlainPart) (u a : List PlainToken) (k : Walker) : Type 0
   pub points : LeadOver p u k.points.items kept
   pub state : IsAfter p (u ++ a) k.state
 
--- the first of the points stands at this place of the word before, and the others behind it; it
+-- the first of the points stands at this place of the word before, and the others after it; it
 -- was known whether that is a word of the particle
 abbrev pub Wait : PlainPart → List PlainToken → Bool → ℕ → List Point → Type 0
 Wait p w was n [] = Unit {0}
@@ -25,7 +25,7 @@ Wait p w was n (r ∷ rs) =
     (w ≡ b ++ (c ++ d)) × (length b ≡ n) × IsAfter p b r.state × LeadOver p b rs c ×
     (was ≡ is_word p w)
 
--- behind the tokens u the walk over these has left new points, which those of the old ones that it
+-- after the tokens u the walk over these has left new points, which those of the old ones that it
 -- has not passed follow, and it is known whether all are a word of the particle
 pub record HasWalked (p : PlainPart) (u a : List PlainToken) (old : List Point) (f : Walked) :
     Type 0 where

@@ -6,7 +6,7 @@
 //! particle, points are kept: at a place of the word, what the tokens before it have reached, so
 //! that it is known of each continuation whether it makes a word of the particle
 //! (`specs/Points.antt`). A changed word is walked from the last point before the change to the
-//! first point behind it where the same is reached as before; what stands behind that one is kept,
+//! first point after it where the same is reached as before; what stands after that one is kept,
 //! and so is the answer. `WordMatch::turn` finds this of a `WordChange` (`specs/Changes.antt`) and
 //! changes nothing, and `WordMatch::make` makes it (`specs/WordMatches.antt`).
 #![tactic(auto)]

@@ -41,14 +41,14 @@ pub fn points_before(points: &[Point], from: usize) -> Before
     }
 }
 
-/// The first point at a place or behind it, and its distance from there.
+/// The first point at a place or after it, and its distance from there.
 #[derive(Clone, Copy, Debug)]
 pub struct Behind {
     pub number: usize,
     pub distance: usize,
 }
 
-/// The first point at a place or behind it, of those behind the ones before another place.
+/// The first point at a place or after it, of those after the ones before another place.
 pub fn point_behind(points: &[Point], known: Before, place: usize) -> Behind
     requires within { known.count ≤ length points.now }
     requires order { known.place ≤ place }

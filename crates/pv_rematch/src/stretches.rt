@@ -29,7 +29,7 @@ pub struct Stretch {
     /// The number of the first that gives way.
     pub first: usize,
 
-    /// The number of the first that stays behind them.
+    /// The number of the first that stays after them.
     pub last: usize,
 
     /// What comes in their place.

@@ -53,7 +53,7 @@ impl Points {
     }
 
     // The walk over a changed word, from a point before the change over the tokens up to a place,
-    // behind which the word is the same as before, to an old point or the end.
+    // after which the word is the same as before, to an old point or the end.
     fn walk_on(
         &self,
         alloc: Global,

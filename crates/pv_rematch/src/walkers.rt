@@ -43,7 +43,7 @@ pub struct Walked {
     /// The new points.
     pub points: Vec<Point>,
 
-    /// How many of the old points it has passed; the others stay, behind the new ones.
+    /// How many of the old points it has passed; the others stay, after the new ones.
     pub passed: usize,
 
     /// Whether the word is one of the particle.
@@ -124,7 +124,7 @@ impl Walker {
     }
 
     /// Reads tokens, and tells whether a word of the particle may go on so. An old point stands so
-    /// many tokens behind them.
+    /// many tokens after them.
     pub fn read_all(
         &mut self,
         alloc: Global,
@@ -155,7 +155,7 @@ impl Walker {
         Ok(true)
     }
 
-    // Whether the walk meets an old point, one behind which nothing has changed.
+    // Whether the walk meets an old point, one after which nothing has changed.
     fn meets(&self, point: &Point) -> bool
         ensures start { IsTrue result → self.now.state.is_start ≡ point.now.state.is_start }
         ensures end { IsTrue result → self.now.state.is_end ≡ point.now.state.is_end }
@@ -200,7 +200,7 @@ impl Walker {
 
     /// Walks over the rest of the word, which is the same as before, up to an old point where the
     /// same is reached as before, or to the end. The first of the old points stands so many tokens
-    /// behind the rest's start; before, the word was one of the particle or not.
+    /// after the rest's start; before, the word was one of the particle or not.
     pub fn walk(
         mut self,
         alloc: Global,
@@ -241,7 +241,7 @@ impl Walker {
     }
 }
 
-// How far a point stands behind the one before it, or as far as can be if there is none.
+// How far a point stands after the one before it, or as far as can be if there is none.
 fn gap_at(points: &[Point], number: usize) -> usize
     ensures { number < length points.now → (d : Point) →
         result ≡ (slice_index_or points.now number d).gap }

@@ -72,7 +72,7 @@ impl WordMatch {
     /// What becomes of the match where the word changes. The match stays as it is.
     ///
     /// Under a content particle the word is matched from the last point before the change up to the
-    /// first one behind it where the same is reached as before; if there is none, or if no allowed
+    /// first one after it where the same is reached as before; if there is none, or if no allowed
     /// word begins so, up to where that is known.
     pub fn turn(
         &self,

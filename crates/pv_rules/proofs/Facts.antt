@@ -1,4 +1,4 @@
--- What stands at the numbers within and behind a part.
+-- What stands at the numbers within and after a part.
 use Rattle.std.proofs.Common.{List, None, Some, [], ap, arith, length, length-append, refl, slice_get, suc, zero, ℕ, ◌+◌, ◌++◌, ◌∷◌, ◌≡◌, ◌≤◌}
 use Rattle.pv_model.specs.Plain.{PlainModel, PlainPart, PlainParts, children, choice, mixed, name, opt, part, plus, seq, star}
 use Rattle.pv_dtd.specs.Plain.{PlainDtd, model_of, parts_in, parts_in_model, parts_in_models}

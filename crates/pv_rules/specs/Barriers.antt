@@ -16,7 +16,7 @@ IsWithinRows rows x = (k : ℕ) × (rows x.site x.from ≡ Some k) × (x.to ≤ 
 abbrev pub IsBarrier : PlainDtd → List PlainToken → (PlainSite → ℕ → Option ℕ) → Type 0
 IsBarrier g w rows = IsClosedSet (Rule g w) (IsWithinRows rows)
 
--- each value is a place of the word, at its own place or behind, and the values of a row don't fall
+-- each value is a place of the word, at its own place or after it, and the values of a row don't fall
 pub record AreRising (w : List PlainToken) (rows : PlainSite → ℕ → Option ℕ) : Type 0 where
   pub bounded : (s : PlainSite) (i k : ℕ) → rows s i ≡ Some k → (i ≤ k) × (k ≤ length w)
   pub rising : (s : PlainSite) (i j k : ℕ) → rows s i ≡ Some k → i ≤ j → j ≤ length w →

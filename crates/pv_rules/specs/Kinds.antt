@@ -23,7 +23,7 @@ module _ (g : PlainDtd) (w : List PlainToken) (i j c : ℕ) (xs : List Goal) whe
   abbrev pub ToTwo : PlainSite → PlainSite → ℕ → Type 0
   ToTwo s r k = (k ≤ j) × (j ≤ length w) × (c ≡ 0) × (xs ≡ over s i k ∷ over r k j ∷ [])
 
-  -- the content behind a text
+  -- the content after a text
   abbrev pub ToText : ℕ → Type 0
   ToText x = (i < j) × (j ≤ length w) × (slice_get w i ≡ Some text) × (c ≡ 0) ×
       (xs ≡ over (content_site x) (suc i) j ∷ [])

@@ -1,4 +1,4 @@
--- Laws of the numbers of parts: what stands within and behind a part, and what is laid out flat.
+-- Laws of the numbers of parts: what stands within and after a part, and what is laid out flat.
 use Rattle.std.specs.Prelude.{IsTrue, List, None, Option, Some, length, true, slice_get, suc, ℕ}
 use Rattle.std.specs.Prelude.{◌+◌, ◌≡◌, ◌≤◌}
 use Rattle.pv_model.specs.Plain.{PlainModel, PlainPart, PlainParts, children, choice, mixed, name}
@@ -33,7 +33,7 @@ pub record PartsByNumber (g : PlainDtd) : Type 0 where
   -- the members of a choice
   pub in_choice : (q r : ℕ) (p : PlainPart) (ps : PlainParts) → part_at g q ≡ Some (choice ps) →
       IsMemberAt p r (suc q) ps → part_at g r ≡ Some p
-  -- the members of a sequence, each one, and those behind it
+  -- the members of a sequence, each one, and those after it
   pub in_seq : (q : ℕ) (p : PlainPart) (ps : PlainParts) → part_at g q ≡ Some (seq (part p ps)) →
       rest_at g (suc q) ≡ Some (part p ps)
   pub member : (q : ℕ) (p : PlainPart) (ps : PlainParts) → rest_at g q ≡ Some (part p ps) →

@@ -70,7 +70,7 @@ pub fn barrier_rows_law()
     ensures { (g : PlainDtd) (w : List PlainToken) → RowsMakeBarrier g w }
 {}
 
-/// What stands at the numbers within and behind a part.
+/// What stands at the numbers within and after a part.
 pub fn parts_law()
     ensures { (g : PlainDtd) → PartsByNumber g }
 {}

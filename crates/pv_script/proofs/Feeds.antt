@@ -15,7 +15,7 @@ front_free (b ∷ bs) zero free = tt
 front_free (b ∷ bs) (suc n) free =
     (λ is. free 0 (omega arith) (omega arith) (grind (arith, is)), front_free bs n (λ k low high p. free (suc k) (omega arith) (omega arith) p))
 
--- the bytes before the first LF, and those behind it
+-- the bytes before the first LF, and those after it
 pub all_free : (bs : List ℕ) → NoFeed bs (length bs) → HasNoFeed bs
 all_free bs free = rw (take_all (length bs) bs (omega arith)) at (front_free bs (length bs) free)
 

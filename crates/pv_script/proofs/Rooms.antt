@@ -1,4 +1,4 @@
--- What stands behind a place stands behind each later one.
+-- What stands after a place stands after each later one.
 use Rattle.std.proofs.Common.{◌≡◌, ℕ, ◌+◌, ◌-◌, ◌≤◌, List, drop, sym, ap, ◌∙◌, arith}
 use Rattle.std.proofs.lemmas.List.{drop-drop}
 

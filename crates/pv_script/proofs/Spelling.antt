@@ -69,7 +69,7 @@ edit-read (DelText path) all = ap (option_map DelText) (path_spelled-path_text p
 abbrev asked_on : List ℕ → List ℕ → Option Ask
 asked_on path = on_number (λ from rest. option_map (asks.Wrap path from) (number_spelled rest))
 
--- what stands behind `offer`
+-- what stands after `offer`
 abbrev asked_text : Ask → List ℕ
 asked_text (asks.Wrap path from to) = path_text path ++ (32 ∷ (decimal from ++ (32 ∷ decimal to)))
 asked_text (asks.Rename path) = path_text path

@@ -14,7 +14,7 @@ use Rattle.pv_words.specs.Words.{first_word}
 use Rattle.pv_script.specs.declared.commands.Command.{Command}
 use Rattle.pv_script.specs.declared.commands.Command.TheVariants as command
 
--- what is made of a first word that is a path, or a number, and of the words behind it
+-- what is made of a first word that is a path, or a number, and of the words after it
 abbrev pub on_path : {A : Type 0} → (List ℕ → List ℕ → Option A) → List ℕ → Option A
 on_path f bytes =
     option_and_then (λ cut. option_and_then (λ path. f path cut.1) (path_spelled cut.0))

@@ -28,7 +28,7 @@ pub record TakesWhole (old : HeldLine) (piece : List ℕ) (new : HeldLine) : Typ
   pub within : length (begun_line old ++ piece) ≤ MAX_LINE_BYTES
   pub held : new ≡ record { bytes = begun_line old ++ piece; whole = false }
 
--- the line ends with the first LF of the piece, behind which so many bytes were eaten
+-- the line ends with the first LF of the piece, after which so many bytes were eaten
 pub record TakesLine (old : HeldLine) (piece : List ℕ) (eaten : ℕ) (new : HeldLine) : Type 0 where
   pub front : List ℕ
   pub rest : List ℕ

@@ -17,7 +17,7 @@ use pv_tree::Path;
 use pv_words::{written_number, written_path};
 use std::alloc::Global;
 
-/// The word before the first blank, and what stands behind the blank.
+/// The word before the first blank, and what stands after the blank.
 pub(crate) fn first_word(bytes: &[u8]) -> Result<(&[u8], &[u8]), CommandError>
     ensures { MatchResult result (λ cut. first_word bytes.now ≡ Some (cut.0.now, cut.1.now))
         (λ error. (error ≡ CommandError.Unknown) × (first_word bytes.now ≡ None)) }

@@ -8,7 +8,7 @@ ghost use Rattle.pv_script.specs.declared.replies.Reply.TheVariants as reply;
 use itoa::Buffer;
 use pv_edit::Done;
 
-// Writes these bytes into the room from a place on; the place behind them.
+// Writes these bytes into the room from a place on; the place after them.
 fn put(room: &mut [u8], at: usize, bytes: &[u8]) -> usize
     requires { at + length bytes.now ≤ length room.old }
     ensures end { result ≡ at + length bytes.now }
@@ -21,7 +21,7 @@ fn put(room: &mut [u8], at: usize, bytes: &[u8]) -> usize
 }
 
 /// Writes the bytes of the reply `ok` at the front of the room, and tells their number. The room
-/// behind them stays as it was.
+/// after them stays as it was.
 pub fn okay_text(done: &Done, room: &mut [u8]) -> usize
     requires { 64 ≤ length room.old }
     ensures within { result ≤ 64 }

@@ -70,7 +70,7 @@ first_crossing all done after b t ts r is o n (before, between, is', closed, rou
     cross : (t r : Range) → (IsRangeBefore r t → ⊥) → r.from < t.to → t.to < r.to → Cross t r
     cross t r f h h' = grind arith
 
--- a range behind others in order, which hasn't the place of the last of them
+-- a range after others in order, which hasn't the place of the last of them
 pub once_push : (a : List Range) (p r : Range) (e : List Range) → AreSorted (a ++ p ∷ r ∷ e) → NoneTwice (a ++ p ∷ []) → (HaveSamePlace p r → ⊥) → NoneTwice (a ++ p ∷ r ∷ [])
 once_push [] p r e o n d = ((d, tt), (tt, tt))
 once_push (q ∷ a) p r e o n d = (

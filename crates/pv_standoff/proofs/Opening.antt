@@ -18,7 +18,7 @@ tail_split : (a b : List Span) (x h : Span) (t : List Span) → a ≢ [] → a +
 tail_split [] b x h t n e = absurd (n refl)
 tail_split (y ∷ a) b x h t n e = (a, cc)
 
--- the list has this range with that span, and these spans behind it
+-- the list has this range with that span, and these spans after it
 pub record HasSpan (done : List Range) (x : Span) (b : List Span) : Type 0 where
   pub before : List Range
   pub range : Range
@@ -44,7 +44,7 @@ some_front [] b x e = absurd cc
 some_front (y ∷ a) b x e = absurd cc
 
 module _ (root : List ℕ) (text : List (List ℕ)) where
-  -- what is innermost, but for the root, is a range that was opened, and those opened behind it are within it
+  -- what is innermost, but for the root, is a range that was opened, and those opened after it are within it
   pub top_range : (done : List Range) (f g : PlainOpen) (fs : List PlainOpen) (rest : List (List ℕ)) → IsBuilt root text done f (g ∷ fs) rest →
       HasSpan done (open_span f) (spans_of_all f.from (forest_of f.kids))
   top_range done f g fs rest b =

@@ -1,4 +1,4 @@
--- A tree put behind others.
+-- A tree put after others.
 use Rattle.std.proofs.Common.{max, ◌≡◌, ℕ, ◌+◌, List, [], ◌∷◌, ◌++◌, length, refl, sym, ◌∙◌, ap, arith, length-append, append-nil, append_assoc}
 use Rattle.pv_tree.specs.Plain.{depth_of, depth_of_all, Tree, text_node, forest_of}
 use Rattle.pv_tree.specs.declared.nodes.Mark.{Mark}

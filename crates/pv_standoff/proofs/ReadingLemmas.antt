@@ -46,7 +46,7 @@ number_found bytes word rest n e k = rw (word_found bytes word rest e, k) refl
 pub number_at-written : (n : ℕ) (rest : List ℕ) → n ≤ MAX_NUMBER → number_at (decimal n ++ (32 ∷ rest)) ≡ Some (n, rest)
 number_at-written n rest within = rw (first_word-free (decimal n) rest (decimal-free 32 n (omega arith) within), number_spelled-decimal n within) refl
 
--- the bytes are a number, a blank and what stands behind it
+-- the bytes are a number, a blank and what stands after it
 pub record IsNumberAt (bytes : List ℕ) (n : ℕ) (rest : List ℕ) : Type 0 where
   pub whole : bytes ≡ decimal n ++ (32 ∷ rest)
   pub within : n ≤ MAX_NUMBER

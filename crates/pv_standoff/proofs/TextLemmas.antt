@@ -26,7 +26,7 @@ joined-cut_units false (b ∷ bs) = by (continues b) refl (joined-cut_units fals
     by true e on anew = rw e (ap (λ l. b ∷ l) on)
     by false e on anew = rw e (ap (λ l. b ∷ l) anew)
 
--- behind so many units the reader stands, in a reference or not
+-- after so many units the reader stands, in a reference or not
 abbrev pub IsBehind : List ℕ → Bool → List ℕ → ℕ → Type 0
 IsBehind bytes s rest n = (cut_units s rest).1 ≡ drop n (units_in bytes)
 
@@ -155,7 +155,7 @@ text_only bytes us vs some s m = let e = text_means_only bytes (Ok vs) (Ok us) m
 pub text_no_error : (bytes : List ℕ) (us : List (List ℕ)) (e : TextError) → bytes ≢ [] → SpellsUnits bytes us → TextMeans bytes (Err e) → ⊥
 text_no_error bytes us e some s m = let f = text_means_only bytes (Err e) (Ok us) m (text_means bytes us some s) in cc
 
--- the units that are meant, behind these
+-- the units that are meant, after these
 abbrev Unmarked : List (List ℕ) → List ℕ → Result (List (List ℕ)) TextError → Type 0
 Unmarked before rest (Ok us) = (vs : List (List ℕ)) × (us ≡ before ++ vs) × (rest ≡ joined vs) × (holds_close_mark vs ≡ false)
 Unmarked before rest (Err e) = Unit {0}

@@ -58,7 +58,7 @@ RangesMean bytes (Err (Syntax k)) = IsFirstNoRange bytes k
 RangesMean bytes (Err Limit) = HasTooMany bytes
 RangesMean bytes (Err NoMemory) = ⊥
 
--- a line read from the left: the number before the first blank, and what stands behind the blank
+-- a line read from the left: the number before the first blank, and what stands after the blank
 abbrev pub number_at : List ℕ → Option (ℕ × List ℕ)
 number_at bytes =
     option_and_then (λ cut. option_map (λ n. (n, cut.1)) (number_spelled cut.0)) (first_word bytes)

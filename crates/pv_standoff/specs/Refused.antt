@@ -14,7 +14,7 @@ pub record IsFirstOutside (n : ℕ) (ranges : List Range) (k : ℕ) : Type 0 whe
   pub inside : AllByRecursion (IsInsideText n) before
   pub outside : IsInsideText n range → ⊥
 
--- In sorted order, r has the same place as the range behind it, and is the first that has.
+-- In sorted order, r has the same place as the range after it, and is the first that has.
 pub record IsFirstTwice (sorted : List Range) (r : Range) : Type 0 where
   pub before : List Range
   pub second : Range

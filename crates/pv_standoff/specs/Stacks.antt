@@ -10,7 +10,7 @@ use Rattle.pv_standoff.specs.declared.errors.NestError.{NestError}
 use Rattle.pv_standoff.specs.declared.errors.NestError.TheVariants as error
 use Rattle.pv_standoff.specs.declared.ranges.Range.{Range}
 
--- these trees, and a text of these units behind them, where there are any
+-- these trees, and a text of these units after them, where there are any
 abbrev pub with_text : List (Tree Mark) → List (List ℕ) → List (Tree Mark)
 with_text ks [] = ks
 with_text ks (u ∷ us) = ks ++ text_node (u ∷ us) ∷ []
@@ -39,14 +39,14 @@ abbrev pub stack_spans : List PlainOpen → List Span
 stack_spans [] = []
 stack_spans (f ∷ fs) = stack_spans fs ++ open_spans f
 
--- a text of these units behind the kids
+-- a text of these units after the kids
 abbrev pub write : PlainOpen → List (List ℕ) → PlainOpen
 write f u = record { from = f.from; to = f.to; name = f.name; kids = with_text f.kids u }
 
 abbrev pub tree_of : PlainOpen → Tree Mark
 tree_of f = element f.name [] (tagged []) (forest_of f.kids) blank_mark
 
--- a tree behind the kids
+-- a tree after the kids
 abbrev pub add : PlainOpen → Tree Mark → PlainOpen
 add g t = record { from = g.from; to = g.to; name = g.name; kids = g.kids ++ t ∷ [] }
 

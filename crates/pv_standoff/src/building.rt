@@ -34,7 +34,7 @@ struct Open {
 }
 
 impl Open {
-    // A text of so many units at the front of what is left goes behind the kids, if there are any.
+    // A text of so many units at the front of what is left goes after the kids, if there are any.
     // Gives what is left then.
     fn write<'a>(
         &mut self,

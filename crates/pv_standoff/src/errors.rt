@@ -59,7 +59,7 @@ pub enum NestError {
         to: u32,
         level: u32,
     },
-    /// The first range, in sorted order, that crosses one before it, behind the last that it
+    /// The first range, in sorted order, that crosses one before it, after the last that it
     /// crosses.
     #[error("the range from {from} to {to} crosses that from {next_from} to {next_to}")]
     Crossing {

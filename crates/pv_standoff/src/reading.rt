@@ -16,7 +16,7 @@ use std::alloc::Global;
 // The most ranges.
 const MAX_RANGES: usize = 1_048_576;
 
-// The first line, without the CR bytes at its end, and what stands behind its LF.
+// The first line, without the CR bytes at its end, and what stands after its LF.
 fn line_at(bytes: &[u8]) -> Option<(&[u8], &[u8])>
     ensures lines { MatchOption result (lines_of bytes.now ≡ [])
         (λ r. lines_of bytes.now ≡ r.0.now ∷ lines_of r.1.now) }
@@ -31,7 +31,7 @@ fn line_at(bytes: &[u8]) -> Option<(&[u8], &[u8])>
     }
 }
 
-// The number before the first blank, and what stands behind the blank.
+// The number before the first blank, and what stands after the blank.
 fn number_at(bytes: &[u8]) -> Option<(u32, &[u8])>
     ensures { MatchOption result (number_at bytes.now ≡ None)
         (λ r. number_at bytes.now ≡ Some (r.0, r.1.now)) }

@@ -40,7 +40,7 @@ pub(crate) fn first_outside(len: usize, ranges: &[Range]) -> Option<usize>
     None
 }
 
-/// The first of the ranges in sorted order that has the place of the one behind it.
+/// The first of the ranges in sorted order that has the place of the one after it.
 pub(crate) fn first_twice<'a>(sorted: &[&'a Range]) -> Option<&'a Range>
     requires { AreSorted (seen sorted.now) }
     ensures { MatchOption result (NoneTwice (seen sorted.now))
@@ -70,7 +70,7 @@ fn innermost<'a>(stack: &mut Vec<&'a Range>, from: u32) -> Option<&'a Range>
     None
 }
 
-/// The first of the ranges in sorted order that crosses one before it, behind the last that it
+/// The first of the ranges in sorted order that crosses one before it, after the last that it
 /// crosses.
 pub(crate) fn first_crossing<'a>(
     alloc: Global,

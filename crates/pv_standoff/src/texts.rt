@@ -16,7 +16,7 @@ fn continues(b: u8) -> bool
     b >= 128 && b < 192
 }
 
-/// What stands behind so many units.
+/// What stands after so many units.
 pub(crate) fn behind_units(bytes: &[u8], count: usize) -> &[u8]
     ensures { result.now ≡ joined (drop count (units_in bytes.now)) }
 {

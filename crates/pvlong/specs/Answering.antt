@@ -17,7 +17,7 @@ use Rattle.pvlong.specs.Requests.{PlainRequest, files_asked, request, request_of
 use Rattle.pvlong.specs.Telling.{TellsFor}
 use Rattle.pvlong.specs.declared.requests.Question.{Question}
 
--- what comes behind the opened files
+-- what comes after the opened files
 abbrev pub IsToldOf : Question → List ℕ → PlainOpened → Course → Type 0
 IsToldOf question root opened = Responds (TellsFor question root opened.dtd opened.doc)
 

@@ -266,7 +266,7 @@ fn texts(rt: HostRuntime) -> Result<(), Fail> {
     Ok(())
 }
 
-// Both texts one behind the other, and their copy, are of six units.
+// Both texts one after the other, and their copy, are of six units.
 fn are_joined(rt: &impl Abort, alloc: Global, part: &Units, units: &Units) -> Result<(), Fail> {
     let both = part.join(alloc, units)?;
     let copy = both.copy(alloc)?;

@@ -96,7 +96,7 @@ fn deep(alloc: Global, count: u32) -> Result<String, AllocError> {
     Ok(lines)
 }
 
-// The root stands at depth 1; and no file is fetched behind a refusal.
+// The root stands at depth 1; and no file is fetched after a refusal.
 #[test]
 fn depth_and_order(rt: HostRuntime) -> Result<(), Fail> {
     let lines = deep(rt.alloc(), 512)?;

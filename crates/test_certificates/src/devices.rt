@@ -126,7 +126,7 @@ fn check_failing<R: AllocGlobal + Threads + Sync>(
     check_run(rt, command.output, &given, status, output)
 }
 
-// A fetch that fails: nothing is written. The fetch behind the last isn't asked for.
+// A fetch that fails: nothing is written. The fetch after the last isn't asked for.
 fn check_fetches<R: AllocGlobal + Threads + Sync>(rt: &R, command: &Command) -> Result<(), Fail> {
     let files = command.files.len() as u64;
     for k in 0..files {

@@ -204,7 +204,7 @@ fn document_before_pack(rt: HostRuntime) -> Result<(), Fail> {
     check_row(&rt, "verify", &row, &[2])
 }
 
-// The widths of the lists that a pack names are tested behind the pack.
+// The widths of the lists that a pack names are tested after the pack.
 #[test]
 fn width_behind_pack(rt: HostRuntime) -> Result<(), Fail> {
     let alloc = rt.alloc();

@@ -88,7 +88,7 @@ fn possible_words(rt: HostRuntime) -> Result<(), Fail> {
 }
 
 // Whether a word of so many names is possible: elements that lead back to themselves with others
-// behind them.
+// after them.
 fn is_long_possible(alloc: Global, of: Of) -> Result<bool, Fail> {
     let word = vec![in alloc; Token::Name(NameId(2)); 20_000]?;
     Ok(answer_by(alloc, LEADING_BACK, of, &word)? == Some(true))

@@ -37,7 +37,7 @@ fn are_parts(rt: &impl Abort, parts: &[FlatPart]) {
     }
 }
 
-/// The contents of the names: of each its kind, its first part, and the part behind its last.
+/// The contents of the names: of each its kind, its first part, and the part after its last.
 static CONTENTS: [(ContentKind, u32, u32); 4] = [
     (ContentKind::Children, 0, 7),
     (ContentKind::Mixed, 7, 8),

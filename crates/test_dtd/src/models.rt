@@ -167,7 +167,7 @@ fn optional_names(rt: HostRuntime) -> Result<(), Fail> {
     Ok(check_steps(&rt, rt.alloc(), &dtd, &mut word, &OPTIONAL)?)
 }
 
-/// Models of n0, n1, .., n299: what stands before the first number, between two, and behind the
+/// Models of n0, n1, .., n299: what stands before the first number, between two, and after the
 /// last, and what becomes of the word n0, n2, .., n298.
 static LARGE: [(&str, &str, &str, &[Step]); 3] = [
     ("(n", "?, n", "?)", &[(N0, 0, true), (N0, 1, false)]),

@@ -6,7 +6,7 @@ use std::alloc::Global;
 use std::test::Fail;
 use test_fixture::documents::{document_of, nested};
 
-// How many elements stand one inside another, what stands before and behind the innermost one's
+// How many elements stand one inside another, what stands before and after the innermost one's
 // path in the line of an edit, and the first reason to refuse it.
 static DEEP: [(usize, &str, &str, Option<Reason>); 7] = [
     (511, "insert ", " 0 em", None),

@@ -69,7 +69,7 @@ pub const NESTED: &str = "<!ELEMENT x ((x, y)?)><!ELEMENT y EMPTY>";
 /// Any content, and an element that needs another of its kind.
 pub const ENDLESS_IN_ANY: &str = "<!ELEMENT a ANY><!ELEMENT c (c)>";
 
-/// The content of `a` leads back to itself with a `c` behind it; that of `d` does so through
+/// The content of `a` leads back to itself with a `c` after it; that of `d` does so through
 /// several names.
 pub const LEADING_BACK: &str = "<!ELEMENT a (b, c?)><!ELEMENT b (a?)><!ELEMENT c EMPTY>\
     <!ELEMENT d (e, c?)><!ELEMENT e (f|c)><!ELEMENT f (g?, c?)><!ELEMENT g (d+)>";

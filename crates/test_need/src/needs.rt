@@ -46,7 +46,7 @@ fn needs(rt: HostRuntime) -> Result<(), Fail> {
     Ok(())
 }
 
-/// A document that is refused: a DTD, a root, what stands before and behind so many sections, a
+/// A document that is refused: a DTD, a root, what stands before and after so many sections, a
 /// word for why it is refused, and the path that is told.
 pub struct Refused {
     pub dtd: &'static str,

@@ -52,7 +52,7 @@ fn is_letter_told(alloc: Global) -> Result<bool, DocError> {
     Ok(is_told)
 }
 
-// A document with a fault behind two events.
+// A document with a fault after two events.
 const FAULTY: &[u8] = b"<?p?><a><b></a>";
 
 fn is_fault_told(events: &mut Events<'_>) -> bool {

@@ -48,7 +48,7 @@ fn are_closed(alloc: Global, tables: &str) -> Result<bool, Fail> {
     Ok(tables_closed(alloc, &case.dtd, b"a", &case.doc, case.tables.as_slice())?)
 }
 
-// What is changed in the table of the root and what stands behind it, and whether these are closed
+// What is changed in the table of the root and what stands after it, and whether these are closed
 // tables of lists of `<a/>`.
 static CLOSED: [(&str, &str, &str, bool); 12] = [
     ("list 0", "list 0", "", true),
@@ -63,7 +63,7 @@ static CLOSED: [(&str, &str, &str, bool); 12] = [
     ("n 1 0 0 1", "n 1 0 0 2", "", false),
     ("s 1 0 0 1", "s 0 0 0 1", "", false),
     ("s 1 0 0 1", "s 1 0 0 1\ns 1 0 1 1", "", false),
-    // No list, one list twice, and the document node's behind the root's.
+    // No list, one list twice, and the document node's after the root's.
     ("list 0", "list 7", "", false),
     ("list 0", "list 0.0", "", false),
     ("list 0", "list 0", TABLE, false),

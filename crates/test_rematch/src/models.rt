@@ -50,7 +50,7 @@ pub static BOARDS: [Board; 10] = [
         pieces: &["ab", "ac"],
         others: &["a", "bc"],
     },
-    // one token more or less changes all that is behind it
+    // one token more or less changes all that is after it
     Board {
         model: "((a, a) | (b, b, b))*",
         pieces: &["aa", "bbb"],
@@ -103,7 +103,7 @@ fn token_of(byte: u8) -> Token {
     }
 }
 
-/// Puts the tokens of a text behind a word.
+/// Puts the tokens of a text after a word.
 pub fn push_tokens(word: &mut Vec<Token>, text: &str) -> Result<(), Fail> {
     for byte in text.bytes() {
         word.push(token_of(byte))?;

@@ -220,7 +220,7 @@ fn faults(rt: HostRuntime) -> Result<(), Fail> {
     check_rows(&rt, "valid", &FAULTS)
 }
 
-// What stands before and behind 5,000 times a digit.
+// What stands before and after 5,000 times a digit.
 static REFERENCES: [(&str, &str, &str, Status, &str); 8] = [
     ("<a>&#", "0", "65;</a>", DONE, "valid\n"),
     ("<a>&#x", "0", "10FFFF;</a>", DONE, "valid\n"),

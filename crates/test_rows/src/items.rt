@@ -18,7 +18,7 @@ fn sort(item: &Item<'_>) -> &'static str {
     }
 }
 
-// Whether an item of this sort stands at the front, and these bytes behind it.
+// Whether an item of this sort stands at the front, and these bytes after it.
 fn begins_with(bytes: &[u8], name: &str, rest: &[u8]) -> bool {
     match item_at(bytes) {
         Some((item, found)) => sort(&item) == name && found == rest,

@@ -13,7 +13,7 @@ fn two_sections(rt: HostRuntime) -> Result<(), Fail> {
     Ok(())
 }
 
-/// The lines at a section, one behind the other.
+/// The lines at a section, one after the other.
 static LINES: [(u32, &[u8]); 3] = [
     (0, b"wrap 0.12 0 1 br"),
     (1, b"wrap 0.12 0 1 p"),

@@ -6,7 +6,7 @@ use std::alloc::Global;
 use std::test::Fail;
 use test_fixture::rows::expect;
 
-/// Pieces of a script, one behind the other, each with what is told of it, and the line that is
+/// Pieces of a script, one after the other, each with what is told of it, and the line that is
 /// held then.
 static PIECES: [(&[u8], Took, &[u8]); 4] = [
     (b"sh", Took::More, b"sh"),

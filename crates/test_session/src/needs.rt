@@ -134,7 +134,7 @@ Cafés opened early. See <![CDATA[<menu>]]> below.
 ";
 
 // The script has these replies, in whatever pieces it comes. The input is asked no more than once
-// for each byte and once more: the call behind would fail.
+// for each byte and once more: the call after would fail.
 fn check<R: AllocGlobal + Threads + Sync>(rt: &R, row: &Row<'_>) -> Result<(), Fail> {
     let words = ["session", "a.dtd", row.1, "d.xml"];
     let files = [("a.dtd", row.0), ("d.xml", row.2)];

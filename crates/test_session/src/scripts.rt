@@ -172,7 +172,7 @@ fn faults(rt: HostRuntime) -> Result<(), Fail> {
     check_outcome(&rt, b"\nshow\n", 65_536, (&[], &[0]), unwritten)?;
     let cut_off = (Status::WriteFault, "no command\n");
     check_outcome(&rt, b"\nshow\n", 1, (&[], &[11]), cut_off)?;
-    // A byte for each call, and the end: the call behind it would fail.
+    // A byte for each call, and the end: the call after it would fail.
     let done = (Status::Done, "no history\n");
     check_outcome(&rt, b"undo\n", 1, (&[6], &[]), done)?;
     // The whole script in one call, and the end.
@@ -182,7 +182,7 @@ fn faults(rt: HostRuntime) -> Result<(), Fail> {
     check_outcome(&rt, b"undo\nquit\nshow\n", 5, (&[2], &[]), quit)
 }
 
-// These bytes, and behind them so many of a line.
+// These bytes, and after them so many of a line.
 fn with_line(alloc: Global, bytes: &[u8], count: usize) -> Result<Vec<u8>, AllocError> {
     let line = vec![in alloc; b'x'; count]?;
     let mut script = Vec::from_slice(alloc, bytes)?;

@@ -30,7 +30,7 @@ static ROWS: [(&str, &str, &str); 17] = [
         "3 4 0 b\n0 3 0 a\n4 8 0 c",
         "<doc><a>Tea</a><b> </b><c>time</c></doc>",
     ),
-    // text before, between and behind
+    // text before, between and after
     (
         "Tea time",
         "1 2 0 a\n5 6 0 b",

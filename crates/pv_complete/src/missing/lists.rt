@@ -127,7 +127,7 @@ fn spelled_word(
     })
 }
 
-/// The weight alone, where the word isn't weighed again if its weight is known; it is, behind the
+/// The weight alone, where the word isn't weighed again if its weight is known; it is, after the
 /// call.
 fn known_weight(
     alloc: Global,

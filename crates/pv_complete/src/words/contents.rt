@@ -19,7 +19,7 @@ use crate::words::spot::Spot;
 use pv_model::{NameId, is_element_over, is_text_at};
 use pv_rules::{ContentKind, FlatContent, Site};
 
-/// Whether a text stands in front of the span, and the site weighs as much behind it.
+/// Whether a text stands in front of the span, and the site weighs as much after it.
 fn is_text_move(spot: &Spot<'_>) -> bool
     requires { spot.now.from < spot.now.to }
     ensures { IsTrue result ↔

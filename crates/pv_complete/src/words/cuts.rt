@@ -9,7 +9,7 @@ use crate::words::spot::Spot;
 use pv_rules::Site;
 
 /// The first place from `low` up to `high`, which is left out, at which two sites weigh as much
-/// together, `one` before it and `two` behind.
+/// together, `one` before it and `two` after it.
 pub fn cut_of(spot: &Spot<'_>, one: Site, two: Site, low: u32, high: u32) -> Option<u32>
     requires { (spot.now.from ≤ low) × (low ≤ high) × (high ≤ suc spot.now.to) }
     ensures found { IfSome result (λ place. (low ≤ place) × (place < high) ×

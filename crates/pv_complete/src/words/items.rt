@@ -1,4 +1,4 @@
-//! What the content of a name may go on behind: an element of a listed name, or of a declared one.
+//! What the content of a name may go on after: an element of a listed name, or of a declared one.
 
 ghost use Rattle.std.specs.Prelude.{◌≤◌, ◌<◌, ◌+◌, IfSome, IfNone, Some};
 ghost use Rattle.pv_model.specs.Plain.{part};
@@ -12,7 +12,7 @@ use crate::words::spot::Spot;
 use pv_model::NameId;
 use pv_rules::Site;
 
-/// The first part from number `first` up to `end`, which is left out, behind which the content of
+/// The first part from number `first` up to `end`, which is left out, after which the content of
 /// the name may go on.
 pub fn listed_move(spot: &Spot<'_>, id: NameId, first: u32, end: u32) -> Option<Move>
     requires listed { first ≤ end }
@@ -32,7 +32,7 @@ pub fn listed_move(spot: &Spot<'_>, id: NameId, first: u32, end: u32) -> Option<
     None
 }
 
-/// The first declared name behind an element of which the content of the name may go on.
+/// The first declared name after an element of which the content of the name may go on.
 pub fn declared_move(spot: &Spot<'_>, id: NameId, count: u32) -> Option<Move>
     requires { spot.now.from < spot.now.to }
     ensures found { IfSome result (IsItem (weight_of spot.now.weights.spans.now) name_site 0 count

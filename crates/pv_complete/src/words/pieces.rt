@@ -21,7 +21,7 @@ pub enum Move {
     Kept,
     /// The element of this name is new, round its content.
     New(NameId),
-    /// The text in front, and the content behind it.
+    /// The text in front, and the content after it.
     Text,
     /// No pieces.
     Nothing,

@@ -43,7 +43,7 @@ impl Built {
         self.want(column, from, to)
     }
 
-    // Keeps the token at a place, and wants a column behind it.
+    // Keeps the token at a place, and wants a column after it.
     fn keep(&mut self, column: u32, from: u32, to: u32) -> Result<bool, NoMemory> {
         self.pieces.push(Piece::Kept)?;
         let behind = u32::saturating_add(from, 1);

@@ -40,7 +40,7 @@ fn itself(cost: u32, end: u32) -> Reach {
     }
 }
 
-// Offers to a column what it reaches behind a text.
+// Offers to a column what it reaches after a text.
 fn offer_behind(
     known: Known<'_>,
     here: &mut Here,
@@ -115,7 +115,7 @@ fn note_front(
     Ok(())
 }
 
-// Notes how far the columns that may stand behind another reach from a place.
+// Notes how far the columns that may stand after another reach from a place.
 fn note_fronts(
     alloc: Global,
     plan: &Plan<'_>,

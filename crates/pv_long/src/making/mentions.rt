@@ -70,7 +70,7 @@ pub fn mixed_of(alloc: Global, forms: &[Form]) -> Result<Vec<u32>, NoMemory> {
     Ok(mixed)
 }
 
-// Notes the column that may stand behind another in this one.
+// Notes the column that may stand after another in this one.
 fn note_behind(behind: &mut Vec<bool>, form: &Form, column: usize) {
     let next = match form {
         Form::Star(_, _) => column,
@@ -87,7 +87,7 @@ fn note_behind(behind: &mut Vec<bool>, form: &Form, column: usize) {
     }
 }
 
-/// Of each column, whether it may stand behind another.
+/// Of each column, whether it may stand after another.
 pub fn behind_of(alloc: Global, forms: &[Form]) -> Result<Vec<bool>, NoMemory> {
     let mut behind = vec![in alloc; false; forms.len()]?;
     for (column, form) in forms.iter().enumerate() {

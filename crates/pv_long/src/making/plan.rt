@@ -18,7 +18,7 @@ pub struct Plan<'a> {
     pub users: Vec<Vec<u32>>,
     /// The columns in which texts stand.
     pub mixed: Vec<u32>,
-    /// Of each column, whether it may stand behind another.
+    /// Of each column, whether it may stand after another.
     pub behind: Vec<bool>,
 }
 

@@ -38,7 +38,7 @@ fn offer_all(
     Ok(())
 }
 
-// Offers what a column reaches by another one behind the step, from near places.
+// Offers what a column reaches by another one after the step, from near places.
 fn follow_near(
     known: Known<'_>,
     here: &mut Here,
@@ -78,7 +78,7 @@ fn follow_far(
     Ok(())
 }
 
-// Offers what a column reaches by another one behind the step.
+// Offers what a column reaches by another one after the step.
 fn follow(
     known: Known<'_>,
     here: &mut Here,

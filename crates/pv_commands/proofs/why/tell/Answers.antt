@@ -31,7 +31,7 @@ explains_as root g d doc same result is are explains =
     subst (λ (h : PlainDtd). Explains root h same result) (sym is)
     (subst (λ (s : PlainDoc Mark). Explains root g s result) (sym are) explains)
 
--- what was told behind the test of the width
+-- what was told after the test of the width
 told_behind : (root : List ℕ) (g : PlainDtd) (doc : PlainDoc Mark) (vs : PlainVerdicts)
     (result : Result Response Stop) → AreVerdictsOf root g doc vs →
     TellsBy (TellsWhy root g doc) result → Explains root g doc result

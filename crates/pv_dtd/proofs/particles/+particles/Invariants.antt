@@ -16,7 +16,7 @@ decreases-particle_at l = 4 * l.depth + 1
 abbrev pub decreases-bare_at : goal.decreases-bare_at
 decreases-bare_at l = 4 * l.depth
 
--- the members so far and what is read behind them are the whole group
+-- the members so far and what is read after them are the whole group
 abbrev pub invariant-others_at-members : goal.invariant-others_at-members
 invariant-others_at-members l = record {
   read : IsGroupSoFar (particle_at l.depth) l.separator (named_part l.fn.first) l.behind (map named_part l.members.items) l.rest;

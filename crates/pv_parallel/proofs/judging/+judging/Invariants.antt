@@ -8,7 +8,7 @@ use Rattle.pv_missing.specs.Widths.{IsListForVerdict}
 use Rattle.pv_parallel.specs.Jobs.{JudgesBehind}
 use Rattle.pv_parallel.proofs.judging.+judging.Given as goal
 
--- what judges the rest behind those so far, judges all
+-- what judges the rest after those so far, judges all
 abbrev pub invariant-judge_nodes-loop-node : goal.invariant-judge_nodes-loop-node
 invariant-judge_nodes-loop-node g l = record {
   judges : (root path : List ℕ) (i : ℕ) (last : List Verdict) → JudgesBehind (dtd_of l.judge) root (g.G.Gate.entered l.gate) l.first (lists_from path (i + l.node-index) (forest (drop l.node-index l.nodes))) l.verdicts.items last →
