@@ -94,7 +94,7 @@ pub fn letter_misses_p_law()
     ensures { LetterRow }
 {}
 
-/// The same document with a title and two ps, in which nothing is missing.
+/// The document of the letter with a title and two ps more, in which nothing is missing.
 pub fn completed_letter_law()
     ensures { CompletedRow }
 {}

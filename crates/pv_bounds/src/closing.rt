@@ -44,7 +44,7 @@ fn column_holds(
     Ok(hold)
 }
 
-// The same of all columns.
+// Whether no column costs more than its rules lead to.
 fn columns_hold(alloc: Global, claim: &Claim<'_>, forms: &[Form]) -> Result<bool, NoMemory>
     requires { length forms.now ≤ no_column }
     ensures { IfOk result (λ hold. IsTrue hold → (c i : ℕ) → c < length forms.now →

@@ -43,7 +43,8 @@ fn level_holds(ones: &Ones<'_>, first: Reach, level: &Level) -> bool
     }
 }
 
-// The same as all levels tell of it.
+// Whether the column costs no more than such a reach and the second column, as all levels tell of
+// it.
 fn levels_hold(ones: &Ones<'_>, first: Reach, levels: &[Level]) -> bool
     requires { AllFalling levels.now }
     ensures { IsTrue result → (k : ℕ) (r : Reach) → k ≤ first.end → TellsReach levels.now k r →

@@ -63,7 +63,7 @@ fn bad_in(node: &Node) -> u64
     }
 }
 
-// The same of nodes side by side.
+// How many lists of nodes side by side are Impossible.
 #[cycle(count)]
 fn bad_in_all(kids: &[Node]) -> u64
     requires { nodes_in_all (forest kids.now) ≤ MAX_NODES }

@@ -27,7 +27,8 @@ fn seek_in(node: &Node, places: &mut Vec<u32>) -> Result<bool, NoMemory>
     seek_in_all(kids, places)
 }
 
-// The same of nodes side by side, at the places of their list.
+// Whether a list of nodes side by side is Impossible. The places are those of their list, and
+// become those of the first.
 #[cycle(seek)]
 fn seek_in_all(kids: &[Node], places: &mut Vec<u32>) -> Result<bool, NoMemory>
     requires { nodes_in_all (forest kids.now) ≤ MAX_NODES }

@@ -38,7 +38,7 @@ fn lay_node(node: &mut Node, verdicts: &Verdicts, number: u64) -> u64
     next
 }
 
-// The same of nodes side by side.
+// Marks the lists of nodes side by side, from this number on.
 #[cycle(lay)]
 fn lay_kids(kids: &mut Nodes, verdicts: &Verdicts, number: u64) -> u64
     requires small { number + nodes_in_all (forest kids.old.items) ≤ 2 * MAX_NODES }

@@ -78,7 +78,7 @@ impl Marked {
         Ok(Marked::build_by(alloc, grammar, root, doc, verdicts))
     }
 
-    /// The same by a grammar whose rules are laid out.
+    /// Marks a document by a grammar whose rules are laid out.
     pub fn build_by(
         alloc: Global,
         grammar: PlannedGrammar,

@@ -26,7 +26,7 @@ use std::sync::ledger::Ledger;
 
 /// A word of so many tokens is judged by the last one, where that is remembered: it takes longer to
 /// go over it than to find where it differs.
-const LONG_WORD: usize = 256;
+const REMEMBERED_TOKENS: usize = 256;
 
 /// A grammar, and its rules laid out for all words, once for whoever judges by it. A long word that
 /// was judged last is remembered, since the next one mostly differs from it by a token. Contracts
@@ -167,7 +167,7 @@ impl PlannedGrammar {
         ensures steps { steps.new ≡ steps.old + 1 }
     {
         let judge = self.judge(alloc);
-        if word.tokens.len() >= LONG_WORD {
+        if word.tokens.len() >= REMEMBERED_TOKENS {
             if let Some(last) = &self.last {
                 return last.verdict(&judge, owner, &word.tokens, word.is_bare, steps);
             }
@@ -187,7 +187,7 @@ impl PlannedGrammar {
     )
         ensures { self.new ≡ self.old }
     {
-        if word.len() < LONG_WORD {
+        if word.len() < REMEMBERED_TOKENS {
             if self.was_long(owner, word, again) {
                 drop(self.last.take());
             }

@@ -50,7 +50,7 @@ fn tell_node(alloc: Global, node: &Node, telling: &mut Telling) -> Result<(), No
     tell_kids(alloc, kids, telling)
 }
 
-// The same of nodes side by side, at the places of their list.
+// Tells of the lists of nodes side by side. The places are those of their list.
 #[cycle(tell)]
 fn tell_kids(alloc: Global, kids: &[Node], telling: &mut Telling) -> Result<(), NoMemory>
     requires small { nodes_in_all (forest kids.now) ≤ MAX_NODES }

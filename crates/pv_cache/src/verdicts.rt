@@ -22,7 +22,7 @@ fn gather_node(node: &Node, verdicts: &mut Vec<Verdict>) -> Result<(), NoMemory>
     gather_kids(kids, verdicts)
 }
 
-// The same of nodes side by side.
+// Appends the verdicts of the lists of nodes side by side.
 #[cycle(gather)]
 fn gather_kids(kids: &[Node], verdicts: &mut Vec<Verdict>) -> Result<(), NoMemory>
     ensures { OnOk result (verdicts.new.items

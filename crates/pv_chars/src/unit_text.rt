@@ -186,7 +186,7 @@ impl Units {
         has_black(self.bytes.as_slice())
     }
 
-    /// The same units.
+    /// A copy of the units.
     pub fn copy(&self, alloc: Global) -> Result<Units, NoMemory>
         ensures { IfOk result (λ u. u ≡ self.now) }
     {

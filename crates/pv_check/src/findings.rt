@@ -14,10 +14,10 @@ use pv_chars::NoMemory;
 use pv_tree::{Path, Verdict};
 use std::alloc::Global;
 
-// The fewest tokens of a list that is long.
-const LONG_LIST_TOKENS: usize = 64;
+// The fewest tokens of a list that counts for threads.
+const COUNTED_TOKENS: usize = 64;
 
-// The most tokens of long lists that aren't valid which one thread judges.
+// The most tokens of such lists, where they aren't valid, that one thread judges.
 const TOKENS_BY_ONE_THREAD: usize = 65_536;
 
 /// What is noted of lists where an element begins after them.
@@ -75,7 +75,7 @@ impl Findings {
         ensures { (g : PlainDtd) (root : List ℕ) (lists : List (Listed Mark)) →
             HasFound g root lists self.old → HasFound g root lists self.new }
     {
-        if tokens < LONG_LIST_TOKENS || matches!(judged, Some(Verdict::Valid)) {
+        if tokens < COUNTED_TOKENS || matches!(judged, Some(Verdict::Valid)) {
             return Ok(());
         }
         self.left = self.left.checked_sub(tokens).ok_or(ListError::LongLists)?;
@@ -110,7 +110,7 @@ impl Findings {
         }
     }
 
-    // The same of a list that isn't too wide.
+    // One more list, which isn't too wide and has this verdict.
     fn add_judged(
         &mut self,
         alloc: Global,

@@ -107,8 +107,8 @@ fn respond_told(alloc: Global, told: Told) -> Result<Response, Stop>
     }
 }
 
-// The same of a document that is opened first, so that threads share its lists, by the plan that is
-// there. It is never freed.
+// What is told of the lists of a document that is opened first, so that threads share its lists, by
+// the plan that is there. It is never freed.
 fn check_opened<L: Ledger>(
     rt: &(impl Threads + Sync),
     judge: &Judge<'_>,

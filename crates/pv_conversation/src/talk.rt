@@ -189,7 +189,7 @@ fn answer_within<K: Sink, L: Ledger>(
     Ok(beyond(next, &reading.lines, piece[left]))
 }
 
-// The same, and writes what is held.
+// Answers the lines that the piece ends, and writes what is held.
 fn answer_piece<K: Sink, L: Ledger>(
     rt: &(impl Threads + Sync),
     alloc: Global,

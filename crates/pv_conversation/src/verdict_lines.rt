@@ -44,7 +44,7 @@ fn lists_in(node: &Node) -> u64
     }
 }
 
-// The same of nodes side by side.
+// How many lists nodes side by side have.
 #[cycle(count)]
 fn lists_in_all(kids: &[Node]) -> u64
     requires { nodes_in_all (forest kids.now) ≤ MAX_NODES }
@@ -121,7 +121,7 @@ fn put_lists<K: Sink>(
     put_kids(kids, line, buffer, out)
 }
 
-// The same of nodes side by side, the room holding the path of their list.
+// Puts the lines of the lists of nodes side by side. The room holds the path of their list.
 #[cycle(put)]
 fn put_kids<K: Sink>(
     kids: &[Node],

@@ -24,8 +24,9 @@ fn most_at(grammar: &Grammar, barrier: &Barrier<'_>, place: usize) -> u64
     most
 }
 
-/// The same for each place of a word of so many tokens. Any content goes on after one declared
-/// name or another, so that each such content asks for this alone.
+/// One past the greatest value of the declared names, or 0, for each place of a word of so many
+/// tokens. Any content goes on after one declared name or another, so that each such content asks
+/// for this alone.
 pub fn most_of_names(
     alloc: Global,
     grammar: &Grammar,

@@ -43,7 +43,7 @@ fn denial_at(
     denial_over(alloc, grammar, &judge, root, doc, path)
 }
 
-// The same of a document of which nothing is known.
+// What denies a document of which nothing is known.
 fn deny_any(alloc: Global, grammar: &Grammar, root: &[u8], doc: &Doc) -> Result<Denial, DenyError>
     ensures denied { IfOk result (IsDenialOf (dtd_of grammar.now) root.now (plain_doc doc.now)) }
     ensures refused { IfErr result

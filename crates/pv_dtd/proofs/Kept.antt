@@ -146,7 +146,7 @@ module _ (items : List DtdItem) (r : AreRuled items) where
   pub mentioned_kept : IsTrue (are_mentioned (dtd_of_items items))
   mentioned_kept = all_in_range (λ y. list_any (nat_eq y) (mentions (dtd_of_items items).models)) (length names - length (dtd_of_items items).models) (length (dtd_of_items items).models) mentioned_at
 
--- The same of the names and models that a DTD holds.
+-- What is kept of the names and models that a DTD holds.
 module _ (keys : List (Vec ℕ Global)) (models : List ContentModel) (of : IsOfItems (as_dtd keys models)) where
   keys_count : length (as_dtd keys models).names ≡ length keys
   keys_count = length-map keys (λ (v : Vec ℕ Global). v.items)

@@ -118,7 +118,7 @@ impl Dtd {
         }
     }
 
-    /// The same, laid out for words that are matched against it.
+    /// The content model of a name, laid out for words that are matched against it.
     pub fn laid_model_of(&self, id: NameId) -> Option<&LaidModel>
         requires { id.0 < length (plain_dtd self.now).names }
         ensures { option_map plain_model (option_copied result) ≡

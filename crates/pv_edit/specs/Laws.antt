@@ -61,7 +61,7 @@ OtherListsStay M = (blank : M) (doc made : PlainDoc M) (edit : Edit) →
     IsNone path (changed_lists (makes edit)) →
     IsKeptList (change_of blank doc.root edit) doc made path
 
--- The same where an edit is taken back.
+-- A list that doesn't change where an edit is taken back stood in the document before.
 abbrev pub OtherListsStayUndone : Type 0 → Type 0
 OtherListsStayUndone M = (blank : M) (inverse : Inverse) (doc : PlainDoc M) (before : PlainDoc Unit)
     (l : LeadsBack inverse doc before) →
@@ -90,7 +90,8 @@ EditsChangeLists M = (blank : M) (doc made : PlainDoc M) (edit : Edit) → edit_
     ≡ gives made →
     lists_changed (change_of blank doc.root edit) ≡ changed_lists (makes edit)
 
--- The same of its inverse, whatever the root is on which that is made.
+-- The lists that its inverse changes are those that the change of the inverse changes, whatever the
+-- root is on which that is made.
 abbrev pub InversesChangeLists : Type 0 → Type 0
 InversesChangeLists M = (blank : M) (root : Tree M) (before edited : PlainDoc Unit) (edit : Edit) →
     edit_outcome tt before edit ≡ gives edited →

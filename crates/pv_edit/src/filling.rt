@@ -24,7 +24,7 @@ pub enum Filling {
     Around { name: Bytes, attrs: Bytes, end: End },
     /// Their own kids.
     Inner,
-    /// The same under another name.
+    /// Their own kids, under another name.
     Named(Bytes),
 }
 

@@ -37,7 +37,7 @@ pub fn other_lists_law<M>()
     ensures { OtherListsStay M }
 {}
 
-/// The same where an edit is taken back.
+/// A list that doesn't change where an edit is taken back stood in the document before.
 pub fn other_lists_undone_law<M>()
     ensures { OtherListsStayUndone M }
 {}

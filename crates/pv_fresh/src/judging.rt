@@ -75,7 +75,7 @@ pub fn judge_node(judge: &Judge<'_>, node: &Node, walk: &mut Walk) -> Result<(),
     judge_below(judge, kids, walk)
 }
 
-// The same of nodes side by side, at the places of their list.
+// Judges the lists of nodes side by side. The places are those of their list.
 #[cycle(judge)]
 fn judge_below(judge: &Judge<'_>, kids: &[Node], walk: &mut Walk) -> Result<(), NoMemory>
     requires small { nodes_in_all (forest kids.now) ≤ MAX_NODES }

@@ -96,7 +96,7 @@ impl<'a> FoundTypes<'a> {
         found
     }
 
-    /// The same, where the type may be at hand.
+    /// This type where it is at hand, or else the one that is found.
     pub fn or_find(
         &mut self,
         dtd: &Dtd,

@@ -176,7 +176,7 @@ fn bound_node(
     bound_below(alloc, plan, kids, verdicts, found)
 }
 
-// The same of nodes side by side.
+// Bounds the lists of nodes side by side.
 #[cycle(bounding)]
 fn bound_below(
     alloc: Global,

@@ -16,7 +16,7 @@ const POSITIONS_AT_ONCE: usize = 64;
 
 /// For words of at least so many tokens a large particle is laid out. Laying it out takes as long
 /// as some forty walks.
-const LONG_WORD: usize = 64;
+const MIN_LAID_TOKENS: usize = 64;
 
 /// A large particle has at least so many positions.
 pub const LARGE_PART: usize = 64;
@@ -31,7 +31,7 @@ pub fn has_children(alloc: Global, part: &Part, word: &[Token]) -> Result<bool, 
     }
     let mut positions = Vec::with_capacity(alloc, POSITIONS_AT_ONCE)?;
     push_positions(part, &mut positions)?;
-    if positions.len() >= LARGE_PART && word.len() >= LONG_WORD {
+    if positions.len() >= LARGE_PART && word.len() >= MIN_LAID_TOKENS {
         match has_long_word(alloc, part, word) {
             Ok(is_word) => return Ok(is_word),
             Err(Stop::NoMemory) => return Err(NoMemory),
@@ -41,7 +41,8 @@ pub fn has_children(alloc: Global, part: &Part, word: &[Token]) -> Result<bool, 
     Ok(walk(part, &mut positions, word))
 }
 
-/// The same by a walk of the part for each token, whatever its size.
+/// Whether each token is an element, and their names are a word of the part, by a walk of the part
+/// for each token, whatever its size.
 pub fn has_children_by_walk(alloc: Global, part: &Part, word: &[Token]) -> Result<bool, NoMemory>
     ensures { IfOk result
         (λ b. IsTrue b ↔ IsOfChildren (plain_part part.now) (map plain_token word.now)) }
@@ -51,7 +52,8 @@ pub fn has_children_by_walk(alloc: Global, part: &Part, word: &[Token]) -> Resul
     Ok(walk(part, &mut positions, word))
 }
 
-/// The same, by a walk of the part for each token. The positions are those before the first name.
+/// Whether the names of the tokens are a word of the part, by a walk of the part for each token.
+/// The positions are those before the first name.
 fn walk(part: &Part, positions: &mut [bool], word: &[Token]) -> bool
     requires { positions.old ≡ unreached_positions (plain_part part.now) }
     ensures { IsTrue result ↔ IsOfChildren (plain_part part.now) (map plain_token word.now) }

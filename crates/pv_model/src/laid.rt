@@ -10,7 +10,7 @@ use crate::children::{LARGE_PART, has_children_by_walk};
 use crate::layout::{ModelLayout, lay_out};
 use crate::long_words::has_tokens;
 use crate::matching::matches;
-use crate::mixed::{LONG_LIST, are_members, set_of};
+use crate::mixed::{MIN_SET_NAMES, are_members, set_of};
 use crate::models::{ContentModel, NameId, NoMemory, Part, Token};
 use crate::places::Places;
 use crate::positions::push_positions;
@@ -127,7 +127,7 @@ fn form_of(alloc: Global, model: &ContentModel) -> Result<Form, NoMemory>
 fn form_of_list(alloc: Global, names: &[NameId]) -> Result<Form, NoMemory>
     ensures { IfOk result (IsFormOf (mixed (numbers_of names.now))) }
 {
-    if names.len() < LONG_LIST {
+    if names.len() < MIN_SET_NAMES {
         return Ok(Form::Own);
     }
     Ok(Form::Listed(set_of(alloc, names)?))

@@ -11,19 +11,19 @@ use crate::models::{NameId, NoMemory, Token};
 use std::alloc::Global;
 use std::collections::HashSet;
 
-/// For words of at least so many tokens a long list of names is made a set. That takes as long as
+/// For words of at least so many tokens a list of many names is made a set. That takes as long as
 /// some 600 searches of it.
-const LONG_WORD: usize = 1024;
+const MIN_SET_TOKENS: usize = 1024;
 
-/// A long list has at least so many names.
-pub const LONG_LIST: usize = 256;
+/// A list of at least so many names is made a set.
+pub const MIN_SET_NAMES: usize = 256;
 
 /// Whether each token is data or an element of a listed name.
 pub fn has_mixed(alloc: Global, names: &[NameId], word: &[Token]) -> Result<bool, NoMemory>
     ensures { IfOk result (λ b. IsTrue b ↔
         AllByRecursion (IsOfMixed (numbers_of names.now)) (map plain_token word.now)) }
 {
-    if names.len() < LONG_LIST || word.len() < LONG_WORD {
+    if names.len() < MIN_SET_NAMES || word.len() < MIN_SET_TOKENS {
         return Ok(are_listed(names, word));
     }
     let numbers = set_of(alloc, names)?;

@@ -112,7 +112,8 @@ impl Moved {
         self.was_end || entered && self.may_be_empty
     }
 
-    /// The same of a repetition of the part, of which a round could end before the name or not.
+    /// What a name makes of a repetition of the part, of which a round could end before the name or
+    /// not.
     fn repetition(self, was_end: bool) -> Moved
         ensures next { result.next ≡ self.next }
         ensures was_end { result.was_end ≡ was_end }
@@ -127,7 +128,7 @@ impl Moved {
         }
     }
 
-    /// The same of the parts so far and the one that follows them.
+    /// What a name makes of the parts so far and the one that follows them.
     fn followed_by(self, part: Moved) -> Moved
         ensures next { result.next ≡ part.next }
         ensures was_end { result.was_end ≡ (part.was_end || self.was_end && part.may_be_empty) }
@@ -144,7 +145,7 @@ impl Moved {
         }
     }
 
-    /// The same of the parts so far and one more to choose from.
+    /// What a name makes of the parts so far and one more to choose from.
     fn or(self, part: Moved) -> Moved
         ensures next { result.next ≡ part.next }
         ensures was_end { result.was_end ≡ (self.was_end || part.was_end) }

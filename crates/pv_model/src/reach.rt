@@ -57,7 +57,7 @@ impl Ends {
         self.was_end || entered && may_be_empty
     }
 
-    /// The same of the particle and one after it.
+    /// What stands at the ends of the particle and one after it.
     fn followed_by(self, second: Ends, second_may_be_empty: bool) -> Ends
         ensures was_end { result.was_end ≡
             (second.was_end || self.was_end && second_may_be_empty) }
@@ -69,7 +69,7 @@ impl Ends {
         }
     }
 
-    /// The same of the particle and one beside it to choose from.
+    /// What stands at the ends of the particle or one beside it to choose from.
     fn or(self, second: Ends) -> Ends
         ensures was_end { result.was_end ≡ (self.was_end || second.was_end) }
         ensures is_end { result.is_end ≡ (self.is_end || second.is_end) }

@@ -60,7 +60,8 @@ pub fn narrow_verdicts<L: Ledger>(
     }
 }
 
-/// The same by a judge, which has the plan of a grammar where its rules are laid out.
+/// The verdicts of a document's lists, in one step for each, by a judge, which has the plan of a
+/// grammar where its rules are laid out.
 pub fn narrow_verdicts_by<L: Ledger>(
     rt: &(impl Threads + Sync),
     judge: &Judge<'_>,

@@ -66,7 +66,8 @@ pub fn check_doc_par<G: Gate + Sync, L: Ledger>(
 }
 
 // Whether the document is valid, where it has no more nodes than the DTD has columns: to find that
-// takes a small part of the time that a plan takes. The verdicts of a valid document rarely need one.
+// takes a small part of the time that a plan takes. The verdicts of a valid document rarely need
+// one.
 fn is_valid_and_small(alloc: Global, dtd: &Dtd, root: &[u8], doc: &Doc) -> Result<bool, NoMemory> {
     if !has_few_nodes(&doc.root, dtd.columns()) {
         return Ok(false);
@@ -75,7 +76,7 @@ fn is_valid_and_small(alloc: Global, dtd: &Dtd, root: &[u8], doc: &Doc) -> Resul
     Ok(invalid.is_none())
 }
 
-/// The same by a grammar whose rules are laid out.
+/// The check of a document by several threads, by a grammar whose rules are laid out.
 pub fn check_doc_par_by<G: Gate + Sync, L: Ledger>(
     rt: &(impl Threads + Sync),
     judge: &Judge<'_>,

@@ -84,7 +84,7 @@ fn judge_node<G: Gate>(
     judge_nodes(judge, kids, first, gate, verdicts)
 }
 
-// The same of nodes side by side.
+// Judges the lists of nodes side by side.
 #[cycle(judging)]
 fn judge_nodes<G: Gate>(
     judge: &Judge<'_>,

@@ -76,7 +76,8 @@ fn go_to(node: &Node, left: &mut u64, places: &mut Vec<u32>) -> Result<bool, NoM
     go_to_kid(kids, left, places)
 }
 
-// The same among those of nodes side by side, at the places of their list.
+// Goes on to the list of this number among those of nodes side by side, if it is there. The places
+// are those of their list.
 #[cycle(numbers)]
 fn go_to_kid(kids: &[Node], left: &mut u64, places: &mut Vec<u32>) -> Result<bool, NoMemory>
     requires { nodes_in_all (forest kids.now) ≤ MAX_NODES }

@@ -41,7 +41,7 @@ fn count_node(node: &Node, tally: &mut Tally) -> bool
     count_kids(kids, tally)
 }
 
-// The same of nodes side by side.
+// Counts the lists of nodes side by side, unless they are more than may be counted.
 #[cycle(sizes)]
 fn count_kids(kids: &[Node], tally: &mut Tally) -> bool
     requires { tally.old.lists + tally.old.left < 2 ^ 64 }

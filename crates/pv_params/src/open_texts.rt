@@ -43,7 +43,7 @@ impl OpenText {
         text.split_at(text.len().saturating_sub(self.left)).1
     }
 
-    /// The same text, read on in this mode with so many bytes left.
+    /// This text, read on in this mode with so many bytes left.
     pub fn behind(self, mode: TextMode, left: usize) -> OpenText
         ensures { plain_open_text result ≡ record {
           mode = plain_mode mode;

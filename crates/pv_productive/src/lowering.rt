@@ -25,7 +25,7 @@ fn lower_part(layout: &Layout, number: u32, sizes: &mut Sizes) -> bool
     lower(&mut sizes.parts, number, size)
 }
 
-/// The same for the members of a sequence from this one on.
+/// Lowers the size of the members of a sequence from this one on.
 fn lower_rest(layout: &Layout, number: u32, sizes: &mut Sizes) -> bool
     requires attained { IsAttained (plain_dtd layout.now.dtd) (table_of sizes.old) }
     requires within { number < parts_in_models (plain_dtd layout.now.dtd).models }
@@ -37,7 +37,7 @@ fn lower_rest(layout: &Layout, number: u32, sizes: &mut Sizes) -> bool
     lower(&mut sizes.rests, number, size)
 }
 
-/// The same for an element of a name.
+/// Lowers the size of an element of a name.
 fn lower_name(layout: &Layout, name: u32, sizes: &mut Sizes) -> bool
     requires attained { IsAttained (plain_dtd layout.now.dtd) (table_of sizes.old) }
     requires within { name < length (plain_dtd layout.now.dtd).names }
@@ -49,8 +49,8 @@ fn lower_name(layout: &Layout, name: u32, sizes: &mut Sizes) -> bool
     lower(&mut sizes.names, name, size)
 }
 
-/// The same for the parts from number `first` up to `end`, which is left out. What is within a part
-/// has higher numbers, and so have the members after it; so the last part comes first.
+/// Lowers the sizes of the parts from number `first` up to `end`, which is left out. What is within
+/// a part has higher numbers, and so have the members after it; so the last part comes first.
 fn lower_parts(layout: &Layout, first: u32, end: u32, sizes: &mut Sizes) -> bool
     requires attained { IsAttained (plain_dtd layout.now.dtd) (table_of sizes.old) }
     requires within { end ≤ parts_in_models (plain_dtd layout.now.dtd).models }
@@ -67,7 +67,7 @@ fn lower_parts(layout: &Layout, first: u32, end: u32, sizes: &mut Sizes) -> bool
     changed
 }
 
-/// The same for all names.
+/// Lowers the sizes of all names.
 fn lower_names(layout: &Layout, sizes: &mut Sizes) -> bool
     requires { IsAttained (plain_dtd layout.now.dtd) (table_of sizes.old) }
     ensures { IsLowering (plain_dtd layout.now.dtd)
@@ -81,7 +81,7 @@ fn lower_names(layout: &Layout, sizes: &mut Sizes) -> bool
     changed
 }
 
-/// The same for all sites of the DTD, each once.
+/// Lowers the sizes of all sites of the DTD, each once.
 pub fn lower_all(layout: &Layout, sizes: &mut Sizes) -> bool
     requires { IsAttained (plain_dtd layout.now.dtd) (table_of sizes.old) }
     ensures { IsLowering (plain_dtd layout.now.dtd)
@@ -93,7 +93,8 @@ pub fn lower_all(layout: &Layout, sizes: &mut Sizes) -> bool
     parts | names
 }
 
-/// The same for one site. A content has no size of its own, and a site that the DTD hasn't has none.
+/// Lowers the size of one site. A content has no size of its own, and a site that the DTD hasn't
+/// has none.
 pub fn lower_site(layout: &Layout, site: Site, sizes: &mut Sizes) -> bool
     requires { IsAttained (plain_dtd layout.now.dtd) (table_of sizes.old) }
     ensures attained { IsAttained (plain_dtd layout.now.dtd) (table_of sizes.new) }

@@ -88,7 +88,7 @@ fn no_kids(alloc: Global, rooms: &mut Vec<Nodes>) -> Nodes
     room
 }
 
-// The same kids, with no more room than they take. A few are moved, so that other kids can have
+// These kids, with no more room than they take. A few are moved, so that other kids can have
 // their room.
 fn exact_kids(alloc: Global, kids: Nodes, rooms: &mut Vec<Nodes>) -> Result<Nodes, NoMemory>
     ensures { IfOk result (λ exact. exact.items ≡ kids.items) }

@@ -28,7 +28,7 @@ pub fn refused_count(
     Ok(count)
 }
 
-/// The same after a change of the word, by the number before.
+/// The number of such tokens after a change of the word, by the number before.
 pub fn count_after(
     alloc: Global,
     model: &LaidModel,

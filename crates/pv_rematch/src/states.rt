@@ -39,7 +39,7 @@ impl State {
         })
     }
 
-    /// The same once more.
+    /// A copy of it.
     pub fn copy(&self, alloc: Global) -> Result<State, NoMemory>
         ensures start { IfOk result (λ s. s.is_start ≡ self.now.is_start) }
         ensures end { IfOk result (λ s. s.is_end ≡ self.now.is_end) }

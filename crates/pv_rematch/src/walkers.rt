@@ -21,7 +21,7 @@ const LARGE_PART: usize = 64;
 /// About so many tokens stand between points under a small particle.
 const FAR: usize = 64;
 
-/// The same under a large one, for which a token takes long.
+/// About so many tokens stand between points under a large particle, for which a token takes long.
 const NEAR: usize = 16;
 
 /// A walk over tokens of a word.

@@ -85,7 +85,7 @@ impl Session {
         Ok(Session::begin_by(alloc, grammar, root, doc, verdicts))
     }
 
-    /// The same by a grammar whose rules are laid out.
+    /// The session on a document as it was opened, by a grammar whose rules are laid out.
     pub fn begin_by(
         alloc: Global,
         grammar: PlannedGrammar,

@@ -86,7 +86,7 @@ fn fill(
     Ok(chart)
 }
 
-/// The same, where the word has fewer than 8,192 tokens.
+/// The values of all columns over all spans of a word that has fewer than 8,192 tokens.
 pub fn chart_of(
     alloc: Global,
     forms: &[Form],

@@ -104,7 +104,7 @@ fn extend_line(last: &Finished<'_>, line: &mut Line)
     }
 }
 
-/// The same on all lines.
+/// Takes in the cuts at the last place of a span that is done, on all lines.
 pub fn extend_lines(last: &Finished<'_>, lines: &mut [Line])
     requires { AreSpanLines last.now.tokens (rows_done last.now.done.now) last.now.from last.now.to
         lines.old }
@@ -125,7 +125,7 @@ fn forget_line(line: &mut Line)
     }
 }
 
-/// The same on all lines.
+/// Forgets what is known on all lines.
 pub fn forget_lines(lines: &mut [Line])
     ensures { AreBlank lines.new }
 {

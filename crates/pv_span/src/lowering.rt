@@ -47,7 +47,7 @@ pub fn lower_column(forms: &[Form], word: &[Token], number: u32, chart: &mut Cha
     lower(&mut chart.row, number as usize, least)
 }
 
-/// The same for the columns of numbers from `first` up to `end`, each once.
+/// Lowers the values of the columns of numbers from `first` up to `end`, each once.
 fn lower_some(forms: &[Form], word: &[Token], first: usize, end: usize, chart: &mut Chart) -> bool
     requires attained { IsAttainedChart (plain_all forms.now) (map plain_token word.now)
         chart.old.from
@@ -67,8 +67,8 @@ fn lower_some(forms: &[Form], word: &[Token], first: usize, end: usize, chart: &
     changed
 }
 
-/// The same for all columns. The first ones, of names, come last: what stands in the others, and
-/// within them, was made before them, so that few rounds are needed.
+/// Lowers the values of all columns, each once. The first ones, of names, come last: what stands in
+/// the others, and within them, was made before them, so that few rounds are needed.
 fn lower_all(forms: &[Form], names: u32, word: &[Token], chart: &mut Chart) -> bool
     requires { IsAttainedChart (plain_all forms.now) (map plain_token word.now) chart.old.from
         chart.old.to (plain_chart chart.old) }

@@ -82,7 +82,7 @@ fn count_mentioned(form: &Form, counts: &mut [u32]) {
     }
 }
 
-/// The same for all columns.
+/// Counts what all columns mention.
 fn count_all(forms: &[Form], counts: &mut [u32]) {
     for form in forms.iter() {
         count_mentioned(form, counts);
@@ -141,7 +141,7 @@ fn put_mentioned(
     }
 }
 
-/// The same for all columns.
+/// Puts all columns with what they mention, and their places.
 fn put_all(forms: &[Form], starts: &mut [u32], above: &mut [u32], places: &mut [u32]) {
     let mut number = 0;
     for form in forms.iter() {
@@ -276,7 +276,7 @@ fn tells_form(mentions: &Mentions, form: &Form, number: u32, ends: &mut [u32]) -
     false
 }
 
-/// The same of all columns.
+/// Whether all mentions of all columns are told.
 fn tells_all(mentions: &Mentions, forms: &[Form], ends: &mut [u32]) -> bool
     requires few { length forms.now < 2 ^ 32 }
     ensures { IsTrue result → AreToldAll (plain_all forms.now) (length ends.old) mentions.now }

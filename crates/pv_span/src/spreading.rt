@@ -105,7 +105,8 @@ fn lower_first(
     waiting.push(number, value)
 }
 
-/// The same for all columns, each once.
+/// Lowers the values of all columns but those that are told by others, each once, and has them wait
+/// where they fell.
 fn begin(
     forms: &[Form],
     word: &[Token],
@@ -192,7 +193,8 @@ fn lower_from(
     lower(&mut chart.row, number as usize, sum)
 }
 
-/// The same where it is more than the source's; the column waits where it fell.
+/// Lowers the value of a column where it is more than the source's and these values give less; the
+/// column waits where it fell.
 #[inline(always)]
 fn lower_next(
     forms: &[Form],
@@ -260,7 +262,8 @@ fn lower_above(
     Ok(())
 }
 
-/// The same for the column of the least value of those that wait, and tells whether there is one.
+/// Lowers the values of the columns that mention the one of the least value of those that wait, and
+/// tells whether there is one.
 fn spread_next(
     forms: &[Form],
     mentions: &Mentions,

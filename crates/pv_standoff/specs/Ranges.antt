@@ -22,7 +22,7 @@ abbrev pub AreSorted : List Range → Type 0
 AreSorted [] = Unit {0}
 AreSorted (r ∷ rs) = AllByRecursion (λ q. IsRangeBefore q r → ⊥) rs × AreSorted rs
 
--- The same ranges, each as often, in sorted order.
+-- These ranges, each as often, in sorted order.
 pub record IsSortedFrom (ranges sorted : List Range) : Type 0 where
   pub permutation : IsPermutation ranges sorted
   pub in_order : AreSorted sorted

@@ -43,7 +43,8 @@ fn names_closed(tested: &Tested<'_>, declared: &[Entry]) -> bool
     true
 }
 
-/// The same, by the least values of the declared names, which are found once.
+/// Whether a table is closed at the names of the DTD, by the least values of the declared names,
+/// which are found once.
 fn all_names_closed(tested: &Tested<'_>) -> bool
     requires { CanBeTested tested.now }
     ensures { IsTrue result ↔ ((x : ℕ) → x < length (dtd_in tested.now).names →

@@ -105,7 +105,8 @@ pub fn members_hold(tested: &Tested<'_>, left: Site, low: Site, high: Site, foun
     sums_hold(tested, &pair, found)
 }
 
-/// The same, by entries that are found for it.
+/// Whether a site weighs no more than each of some members and itself after it, by entries that are
+/// found for it.
 pub fn each_member_holds(tested: &Tested<'_>, left: Site, low: Site, high: Site) -> bool
     requires sound { CanBeTested tested.now }
     requires kind { kind_rank (plain_site low) ≡ kind_rank (plain_site high) }

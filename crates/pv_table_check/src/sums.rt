@@ -74,7 +74,8 @@ fn behind_holds(
     true
 }
 
-// The same, unless the entry takes no token and has to.
+// Whether a site weighs no more than an entry and a second site after it, unless the entry takes no
+// token and has to.
 fn first_holds(
     lefts: &[Entry],
     left: Site,
@@ -185,7 +186,8 @@ fn laid_sum_holds(
     row_holds(one, pair.inner, left, second)
 }
 
-// The same of each of some entries.
+// Whether the site weighs no more than each of some entries and the second site after it, by their
+// values.
 fn laid_sums_hold(
     entries: &[Entry],
     pair: &Pair,
@@ -208,7 +210,8 @@ fn laid_sums_hold(
     true
 }
 
-// The same, by values that are laid out for it; none where there is no memory for them.
+// Whether the site weighs no more than the entries of a row and the second site after it, by values
+// that are laid out for it; none where there is no memory for them.
 fn row_sums_hold(tested: &Tested<'_>, pair: &Pair, firsts: &[Entry]) -> Option<bool>
     requires sound { CanBeTested tested.now }
     requires firsts { (e : Entry) → Contains firsts.now e → Contains tested.now.entries.now e }

@@ -17,7 +17,7 @@ use std::sync::ledger::Ledger;
 
 /// A word from which more tokens are gone, or into which more came, is judged anew: by the last
 /// word it takes steps of those, and the last word may be far longer.
-const FEW: usize = 1024;
+const MAX_CHANGED_TOKENS: usize = 1024;
 
 /// The word of the list that was judged last, with its owner and what is kept of it.
 #[derive(Debug, Drop)]
@@ -83,7 +83,7 @@ impl LastWord {
             return word_verdict(judge, owner, word, is_bare, steps);
         }
         let change = change_between(&self.tokens, word);
-        if change.gone.len() > FEW || change.came > FEW {
+        if change.gone.len() > MAX_CHANGED_TOKENS || change.came > MAX_CHANGED_TOKENS {
             return word_verdict(judge, owner, word, is_bare, steps);
         }
         let (verdict, _turned) = self
@@ -106,7 +106,7 @@ impl LastWord {
             mut judged,
         } = self;
         let change = change_between(&tokens, word);
-        if change.gone.len() > FEW || change.came > FEW {
+        if change.gone.len() > MAX_CHANGED_TOKENS || change.came > MAX_CHANGED_TOKENS {
             return Ok(None);
         }
         let turned = judged.turned(judge, owner, &change)?;
@@ -140,7 +140,7 @@ impl LastWord {
             mut judged,
         } = self;
         let to = from.saturating_add(gone);
-        if to > tokens.len() || gone > FEW || came.len() > FEW {
+        if to > tokens.len() || gone > MAX_CHANGED_TOKENS || came.len() > MAX_CHANGED_TOKENS {
             return Ok(None);
         }
         let gone = exchange(judge.alloc(), &mut tokens, from, to, came)?;

@@ -2,7 +2,8 @@
 //! `pvlong` answers, whatever the devices are. It tells how many elements are missing in a
 //! document, also where a list is too wide to weigh, and prints a completed document
 //! (`specs/Telling.antt`): by two bounds, which mostly meet (of `pv_long`). By its words it opens
-//! the files in the order of work (of `pv_opening`); `specs/Answering.antt` says what comes of them.
+//! the files in the order of work (of `pv_opening`); `specs/Answering.antt` says what comes of
+//! them.
 #![tactic(auto)]
 
 mod answering;
@@ -50,8 +51,8 @@ fn run<H: Shelf, K: Sink>(alloc: Global, words: &[String], shelf: &mut H, out: &
     ExitCode::from(status.code())
 }
 
-// The same over the machine's files and its output: what these hold isn't told, but what their
-// counts show is that of an answer.
+// Runs the program over the machine's files and its output: what these hold isn't told, but what
+// their counts show is that of an answer.
 fn run_here<R: Files + AllocGlobal + Print>(rt: &R, words: &[String]) -> ExitCode
     ensures { (status : Status) × (exit_status result ≡ code_of status)
         × AnswersHere (byte_lists words.now) status }

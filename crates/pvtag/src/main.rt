@@ -58,8 +58,8 @@ fn run<H: Shelf, S: Source, K: Sink, L: Ledger>(
     ExitCode::from(status.code())
 }
 
-// The same over the machine's files, its input and its output: what these hold isn't told, but what
-// their counts show is that of a run.
+// Runs the program over the machine's files, its input and its output: what these hold isn't told,
+// but what their counts show is that of a run.
 fn run_here<L: Ledger, R: Files + AllocGlobal + Input + Print + Threads + Sync>(
     rt: &R,
     words: &[String],

@@ -56,7 +56,7 @@ fn word_entries(
     }
 }
 
-/// The same, where the word isn't weighed again if its table is known.
+/// All entries of a word of productive names, which isn't weighed again if its table is known.
 fn known_entries(
     alloc: Global,
     owner: &ListOwner<'_>,
@@ -179,7 +179,7 @@ fn table_node(
     }
 }
 
-/// The same of nodes side by side, at the places of their list.
+/// Adds the tables of the Possible lists of nodes side by side. The places are those of their list.
 #[cycle(table)]
 fn table_kids(
     alloc: Global,

@@ -209,14 +209,14 @@ impl KnownWeights {
         KnownWeights::keeping(alloc, false, 0, MAX_BYTES)
     }
 
-    /// The same, and pieces are kept.
+    /// No weight is known, and pieces will be kept.
     pub fn with_pieces(alloc: Global) -> KnownWeights
         ensures { (g : PlainDtd) → AreKnown g result }
     {
         KnownWeights::keeping(alloc, true, 0, MAX_PIECE_BYTES)
     }
 
-    /// The same, and pieces and tables are kept.
+    /// No weight is known, and pieces and tables will be kept.
     pub fn with_tables(alloc: Global) -> KnownWeights
         ensures { (g : PlainDtd) → AreKnown g result }
     {

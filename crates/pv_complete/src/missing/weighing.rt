@@ -94,7 +94,8 @@ fn weigh_node(
     weigh_kids(alloc, layout, kids, verdicts, known, load)
 }
 
-/// The same of nodes side by side, at the places of their list.
+/// Adds the weights of the Possible lists of nodes side by side. The places are those of their
+/// list.
 #[cycle(weigh)]
 fn weigh_kids(
     alloc: Global,

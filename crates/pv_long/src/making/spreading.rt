@@ -54,7 +54,8 @@ fn follow_near(
     Ok(())
 }
 
-// The same from all places, by the furthest of each cost.
+// Offers what a column reaches by another one after the step, from all places, by the furthest of
+// each cost.
 fn follow_far(
     known: Known<'_>,
     here: &mut Here,

@@ -12,7 +12,8 @@ pub fn one_list_law()
     ensures { OneList }
 {}
 
-/// The same of the document node.
+/// The live word of the document node is possible exactly where elements inserted at its level make
+/// it fit.
 pub fn root_list_law()
     ensures { RootList }
 {}

@@ -52,7 +52,8 @@ pub fn content_derives_law()
     ensures { ContentDerives }
 {}
 
-/// The same of the document node and the root's name.
+/// A word of productive names is possible for the document node exactly where the root's name
+/// derives it.
 pub fn root_derives_law()
     ensures { RootDerives }
 {}

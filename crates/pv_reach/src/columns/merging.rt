@@ -122,7 +122,7 @@ fn add_behind(
     Ok(())
 }
 
-/// The same, where the rule reads nothing and its column has a further one.
+/// Adds rules of the further column, where the rule reads nothing and its column has a further one.
 fn add_followers(
     alloc: Global,
     rules: &[ColumnRule],

@@ -30,7 +30,8 @@ fn reaches_by_cut(alloc: Global, plan: &Plan, cut: &Cut, word: &[Token]) -> Resu
     Ok(reaches)
 }
 
-/// The same of a column of a plan, by its cut, which is made where none is kept.
+/// Whether a column of a plan reaches the end of the word from its beginning, by its cut, which is
+/// made where none is kept.
 fn reaches_cut(alloc: Global, plan: &Plan, word: &[Token], column: usize) -> Result<bool, Uncut>
     requires cuts { AreCuts plan.now.rules.items plan.now.width plan.now.cuts }
     requires sets { AreOwnSets plan.now.rules.items plan.now.width plan.now.free }

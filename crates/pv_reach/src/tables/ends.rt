@@ -34,14 +34,14 @@ impl Ends {
         self.table.get(at).copied().unwrap_or(0)
     }
 
-    /// The same of the content of a name.
+    /// One past the furthest place of the content of a name, or 0.
     pub fn content_past(&self, id: NameId, from: u32) -> u32
         ensures { result ≡ past_column self.now id.0 from }
     {
         self.column_past(id.0 as usize, from)
     }
 
-    /// The same of a part.
+    /// One past the furthest place of a part, or 0.
     pub fn part_past(&self, number: u32, from: u32) -> u32
         ensures { result ≡ past_column self.now (self.now.names + number) from }
     {

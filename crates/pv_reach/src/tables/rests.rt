@@ -30,7 +30,7 @@ pub fn rest_past(ends: &Ends, rests: &[u32], number: u32, from: u32) -> u32
         .unwrap_or(0)
 }
 
-/// The same by the rows of the members after this one.
+/// One past the furthest place of such members, by the rows of those after this one.
 fn members_past(grammar: &Grammar, ends: &Ends, rests: &[u32], number: u32, from: u32) -> u32
     requires within { from ≤ length ends.now.word.items }
     requires names { ends.now.names ≡ length (dtd_of grammar.now).names }
