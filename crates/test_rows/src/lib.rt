@@ -1,26 +1,17 @@
-//! Worked rows of DTDs, of documents and of `valid`, and of words and faults of the outside,
-//! through the top call; and of documents through the calls that read, write and go over them.
+//! Worked rows of the program, through the top call: DTDs, documents, `valid`, words and faults of
+//! the outside; `check`; sessions, packs and completions; offers; ranges, reasons and denials; each
+//! command on devices that fail. Beside them, calls of the crates of documents and of offers.
 #![tactic(auto)]
 
 #[cfg(test)]
-mod documents;
+mod certificates;
 #[cfg(test)]
-mod items;
+mod check;
 #[cfg(test)]
-mod listing;
+mod offers;
 #[cfg(test)]
-mod one_pass;
+mod runs;
 #[cfg(test)]
-mod outside;
+mod session;
 #[cfg(test)]
-mod params;
-#[cfg(test)]
-mod reading;
-#[cfg(test)]
-mod trees;
-#[cfg(test)]
-mod valid;
-#[cfg(test)]
-mod words;
-#[cfg(test)]
-mod writing;
+mod texts;

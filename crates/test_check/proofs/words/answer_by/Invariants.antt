@@ -1,4 +1,0 @@
-use Rattle.test_check.proofs.words.answer_by.Given as goal
-
-abbrev pub ghosts-answer : goal.ghosts-answer
-ghosts-answer a = record { name = a.blank.name; parts = a.blank.parts }

@@ -1,4 +1,0 @@
-use Rattle.test_games.proofs.judging.judged_and_made.Given as goal
-
-abbrev pub ghosts-judge_all : goal.ghosts-judge_all
-ghosts-judge_all a = record { name = a.blank.name; parts = a.blank.parts }

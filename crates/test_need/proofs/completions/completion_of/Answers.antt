@@ -1,4 +1,0 @@
-use Rattle.test_need.proofs.completions.completion_of.Goals as goal
-
-pub complete-requires : goal.complete-requires
-complete-requires c = record { names = let t = c.in_ok-doc.ensures.read in let s = t.spelled in s.is_prolog }

@@ -1,4 +1,0 @@
-use Rattle.test_need.proofs.spans.is_possible.Given as goal
-
-abbrev pub ghosts-is_member : goal.ghosts-is_member
-ghosts-is_member a = record { name = a.blank.name; parts = a.blank.parts }

@@ -1,4 +1,0 @@
-use Rattle.test_need.proofs.spans.verdict_of.Given as goal
-
-abbrev pub ghosts-verdict : goal.ghosts-verdict
-ghosts-verdict a = record { name = a.blank.name; parts = a.blank.parts }

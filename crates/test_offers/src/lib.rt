@@ -1,8 +1,0 @@
-//! Offers: rows of `offer` in a session, through the top call; and by calls, each declared name
-//! tried as an edit.
-#![tactic(auto)]
-
-#[cfg(test)]
-mod rows;
-#[cfg(test)]
-mod tries;

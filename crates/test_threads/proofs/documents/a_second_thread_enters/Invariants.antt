@@ -1,4 +1,0 @@
-use Rattle.test_threads.proofs.documents.a_second_thread_enters.Given as goal
-
-abbrev pub ghosts-by_plan : goal.ghosts-by_plan
-ghosts-by_plan g a = record { name = a.blank.name; parts = a.blank.parts }
