@@ -43,8 +43,9 @@ use Rattle.pv_verify.specs.Tests.{IsRejected}
 use Rattle.pv_verify.specs.declared.answers.Why.{Why}
 use Rattle.pv_cli.specs.CommandLine.{PlainCommandLine, drill, files_named, on_certificate}
 use Rattle.pv_cli.specs.CommandLine.{on_document, on_dtd, on_ranges}
-use Rattle.law_program.specs.Tests.{Test, validity, width, possibility, impossibility, test_of}
-use Rattle.law_program.specs.Tests.{makes_tables, reads_script, tests_width}
+use Rattle.law_program.specs.Tests.{
+  Test, validity, width, possibility, impossibility, needs_of_verb, tests_width
+}
 use Rattle.pv_opening.specs.Devices.{Devices}
 use Rattle.pv_cli.specs.Drill.{DRILL_ROOT}
 use Rattle.pv_opening.specs.Opening.{Files, file_at}
@@ -165,7 +166,7 @@ pub record ReadsDenial (line : Option PlainCommandLine) (files : Files) (root : 
 abbrev pub TestsFor : Option PlainCommandLine → Test → Type 0
 TestsFor None test = ⊥
 TestsFor (Some (on_dtd dtd)) test = ⊥
-TestsFor (Some (on_document verb dtd root doc)) test = test ≡ test_of verb
+TestsFor (Some (on_document verb dtd root doc)) test = test ≡ (needs_of_verb verb).test
 TestsFor (Some (on_certificate checker dtd root doc file)) test = ⊥
 TestsFor (Some (on_ranges dtd root text ranges)) test = ⊥
 TestsFor (Some (drill n)) test = test ≡ width
@@ -174,7 +175,7 @@ TestsFor (Some (drill n)) test = test ≡ width
 abbrev pub ReadsScript : Option PlainCommandLine → Type 0
 ReadsScript None = ⊥
 ReadsScript (Some (on_dtd dtd)) = ⊥
-ReadsScript (Some (on_document verb dtd root doc)) = reads_script verb ≡ true
+ReadsScript (Some (on_document verb dtd root doc)) = (needs_of_verb verb).script ≡ true
 ReadsScript (Some (on_certificate checker dtd root doc file)) = ⊥
 ReadsScript (Some (on_ranges dtd root text ranges)) = ⊥
 ReadsScript (Some (drill n)) = ⊥
@@ -183,7 +184,7 @@ ReadsScript (Some (drill n)) = ⊥
 abbrev pub NeedsTables : Option PlainCommandLine → Type 0
 NeedsTables None = ⊥
 NeedsTables (Some (on_dtd dtd)) = ⊥
-NeedsTables (Some (on_document verb dtd root doc)) = makes_tables verb ≡ true
+NeedsTables (Some (on_document verb dtd root doc)) = (needs_of_verb verb).tables ≡ true
 NeedsTables (Some (on_certificate checker dtd root doc file)) = ⊥
 NeedsTables (Some (on_ranges dtd root text ranges)) = ⊥
 NeedsTables (Some (drill n)) = ⊥

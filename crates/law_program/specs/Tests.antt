@@ -1,5 +1,4 @@
--- What each verb tests of its document, and whether it reads a script and makes tables: a line for
--- each verb in each table.
+-- What each verb needs of the order of work: a line for each verb.
 use Rattle.std.specs.Prelude.{Bool, true, false}
 use Rattle.pv_cli.specs.declared.verb.Verb.{Verb}
 use Rattle.pv_cli.specs.declared.verb.Verb.TheVariants.{Valid, Check, Session, Complete, Why}
@@ -12,13 +11,20 @@ pub data Test : Type 0 where
   possibility : Test
   impossibility : Test
 
--- what each verb tests of its document
-abbrev pub test_of : Verb → Test
-test_of Valid = validity
-test_of Check = possibility
-test_of Session = width
-test_of Complete = possibility
-test_of Why = impossibility
+-- what a verb needs of the order of work: what it tests of its document, whether it reads a script,
+-- and so asks its input, and whether it weighs the lists of its document, and makes their tables
+pub record VerbNeeds : Type 0 where
+  pub test : Test
+  pub script : Bool
+  pub tables : Bool
+
+-- what each verb needs
+abbrev pub needs_of_verb : Verb → VerbNeeds
+needs_of_verb Valid = record { test = validity; script = false; tables = false }
+needs_of_verb Check = record { test = possibility; script = false; tables = false }
+needs_of_verb Session = record { test = width; script = true; tables = false }
+needs_of_verb Complete = record { test = possibility; script = false; tables = true }
+needs_of_verb Why = record { test = impossibility; script = false; tables = false }
 
 -- whether a test looks at the width of lists
 abbrev pub tests_width : Test → Bool
@@ -26,13 +32,3 @@ tests_width validity = false
 tests_width width = true
 tests_width possibility = true
 tests_width impossibility = true
-
--- whether a verb reads a script, and so asks its input
-abbrev pub reads_script : Verb → Bool
-reads_script Session = true
-reads_script other = false
-
--- whether a verb weighs the lists of its document, and makes their tables
-abbrev pub makes_tables : Verb → Bool
-makes_tables Complete = true
-makes_tables other = false
