@@ -5,15 +5,21 @@ Words: PROGRAM, and names of cases, all where there are none. Needs Chromium, it
 on a document of its own. Prints each difference, and how many cases passed; ends with 1 where one failed. Where SHOTS
 is set, a failed case leaves a picture of the page in that folder.
 """
+import contextlib
 import os
 import random
 import shutil
 import subprocess
 import sys
+import traceback
 
 sys.dont_write_bytecode = True
 
 from lib.annotate.fixture import Fault, same  # noqa: E402
+
+# Where cases stand, and what they share.
+CASES = os.path.join("lib", "annotate")
+SHARED = ("fixture.py", "browser.py")
 
 
 def python_with_selenium():
@@ -34,23 +40,33 @@ def cases():
 def run(case, program):
     """Runs one case in a browser of its own; whether it passed."""
     from lib.annotate.browser import browser
-    from selenium.common.exceptions import WebDriverException
 
-    driver = browser()
+    driver = None
     try:
+        driver = browser()
         case(driver, program)
         # A server that is ended answers no more; a page in which nobody has clicked may not ask before it closes.
         told = [entry["message"] for entry in driver.get_log("browser")]
         faults = [message for message in told if "net::ERR_" not in message and "'beforeunload'" not in message]
         same(faults, [], "the browser's log")
         return True
-    except (Fault, OSError, WebDriverException, subprocess.SubprocessError) as fault:
-        print(f"{case.__name__}: {fault}", flush=True)
-        if "SHOTS" in os.environ:
-            driver.save_screenshot(os.path.join(os.environ["SHOTS"], f"{case.__name__}.png"))
+    except Exception as fault:
+        # Whatever a case raises, the others are run.
+        print(f"{case.__name__}: {fault if isinstance(fault, Fault) else repr(fault)}{where(fault)}", flush=True)
+        if driver is not None and "SHOTS" in os.environ:
+            with contextlib.suppress(Exception):
+                driver.save_screenshot(os.path.join(os.environ["SHOTS"], f"{case.__name__}.png"))
         return False
     finally:
-        driver.quit()
+        if driver is not None:
+            with contextlib.suppress(Exception):
+                driver.quit()
+
+
+def where(fault):
+    """The line of the case that has failed."""
+    lines = [frame for frame in traceback.extract_tb(fault.__traceback__) if CASES in frame.filename and not frame.filename.endswith(SHARED)]
+    return f" ({os.path.basename(lines[-1].filename)}, line {lines[-1].lineno})" if lines else ""
 
 
 def main():

@@ -7,7 +7,7 @@ import sys
 
 sys.dont_write_bytecode = True
 
-from .fixture import need, soon  # noqa: E402
+from .fixture import soon  # noqa: E402
 from lib.waiting import PATIENCE  # noqa: E402
 from selenium import webdriver  # noqa: E402
 from selenium.common.exceptions import WebDriverException  # noqa: E402
@@ -101,41 +101,51 @@ class Page:
 
     def select(self, words, until=None, nth=0, nth_until=0):
         """Selects text with the mouse, from the first words up to the end of others."""
-        place = self.js(WHERE, words, nth)
-        need(place, f"{words!r} isn't on the page")
-        end = self.js(WHERE, until, nth_until) if until else place
-        place = self.js(WHERE, words, nth)
+        place = end = self.place_of(words, nth)
+        if until:
+            end, place = self.place_of(until, nth_until), self.place_of(words, nth)
         actions, pointer = self.pointer()
         pointer.move_to_location(*map(round, place[:2])).pointer_down()
         pointer.move_to_location(*map(round, end[2:])).pointer_up()
         actions.perform()
 
+    def place_of(self, words, nth=0):
+        """Where words stand, as soon as they are there and the page has come to rest."""
+        self.rest()
+        return soon(lambda: self.js(WHERE, words, nth), bool, f"{words!r} is on the page")
+
     def click_text(self, words, nth=0):
         """Puts the caret before these words."""
-        x, y, _, _ = self.js(WHERE, words, nth)
+        x, y, _, _ = self.place_of(words, nth)
         actions, pointer = self.pointer()
         pointer.move_to_location(round(x), round(y)).click()
         actions.perform()
         self.rest()
 
     def rest(self):
-        """Waits for what the page does behind an event, and until all that moves has come to rest."""
+        """Waits for what the page does behind an event, until it has all its answers, and all that moves has come to
+        rest."""
         self.driver.execute_async_script(RESTED)
 
     def right_click_text(self, words):
-        x, y, _, _ = self.js(WHERE, words, 0)
+        x, y, _, _ = self.place_of(words)
         actions, pointer = self.pointer()
         pointer.move_to_location(round(x) + 2, round(y)).context_click()
         actions.perform()
 
     def click_tag(self, name, nth=0):
-        tags = [tag for tag in self.all("#document .tag:not(.end)") if tag.text.split(" ")[0] == name]
-        need(len(tags) > nth, f"there is no tag {name}")
-        tags[nth].click()
+        self.rest()
+        soon(lambda: self.js(TAGS, name)[nth].click(), None, f"a click on the tag {name}")
 
     def shift_click_tag(self, name):
-        tag = next(tag for tag in self.all("#document .tag:not(.end)") if tag.text.split(" ")[0] == name)
+        self.rest()
+        tag = soon(lambda: self.js(TAGS, name)[0], bool, f"a tag {name}")
         ActionChains(self.driver).key_down(Keys.SHIFT).click(tag).key_up(Keys.SHIFT).perform()
+
+    def press(self, css, nth=0):
+        """Clicks with the mouse on one of what is there, as soon as it is there and nothing lies over it."""
+        self.rest()
+        soon(lambda: self.all(css)[nth].click(), None, f"a click on {css}")
 
     def keys(self, *keys):
         chain = ActionChains(self.driver)
@@ -150,6 +160,11 @@ class Page:
     def menu(self):
         """The choices of the menu; none where it is closed."""
         return None if not self.find("#menu").is_displayed() else self.js(CHOICES)
+
+    def see_menu(self, want, what):
+        """Waits for these choices at the front of the menu, also where what they cost comes in later."""
+        self.open_menu()
+        soon(lambda: self.menu()[:len(want)], want, what)
 
     def open_menu(self):
         soon(lambda: self.menu() is not None and self.find("#menu h2").text, lambda name: name, "the menu opens")
@@ -218,7 +233,8 @@ class Page:
 RESTED = """
 const [done] = arguments
 const moves = () => document.getAnimations().some((each) => each.playState === 'running' && each.effect.getComputedTiming().endTime < Infinity)
-const look = () => (moves() ? requestAnimationFrame(look) : setTimeout(done))
+const isBusy = () => document.body.ariaBusy === 'true'
+const look = () => (isBusy() ? setTimeout(look, 20) : moves() ? requestAnimationFrame(look) : setTimeout(done))
 setTimeout(() => requestAnimationFrame(() => setTimeout(look)))
 """
 SETTLED = "return import('./type.js').then(({ settled }) => settled()).then(() => true)"
@@ -231,6 +247,7 @@ for (const item of document.querySelectorAll('#choices li')) {
 }
 return rows
 """
+TAGS = "return [...document.querySelectorAll('#document .tag:not(.end)')].filter((tag) => tag.firstChild.data === arguments[0])"
 # The labels of the choices, without their notes and groups.
 CHOICES = "return [...document.querySelectorAll('#choices [role=option]')].map((each) => each.firstChild.data)"
 # What the page shows, as text: a box as a pair of tags.

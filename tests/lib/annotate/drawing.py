@@ -69,9 +69,10 @@ def draws_what_changed(driver, program):
             page.js("return import('./app.js').then((page) => page.catchUp())")
             for got, want in itertools.zip_longest(page.js(TREE), tree_told(server)):
                 need(got == want, f"a node: {told_short(got)} for {told_short(want)}")
+            page.rest()
             boxes = page.js(BOXES)
             page = Page(driver, server.url)
-            need(page.js(BOXES) == boxes, f"the boxes: {page.written()!r}")
+            soon(lambda: page.js(BOXES) == boxes, True, f"the boxes: {page.written()!r}")
         need(page.moves() > 5, "some moves were made")
 
 
@@ -89,7 +90,7 @@ def draws_what_is_seen(driver, program):
         soon(lambda: len([text for text in page.texts("#document .text") if text.startswith("Section")]), lambda count: count > 10, "the middle is drawn")
         page.js("const all = document.getElementById('document'); all.scrollTop = all.scrollHeight")
         soon(lambda: page.texts("#document .text")[-3:-2], ["Text of section 12499, "], "so is the end")
-        need(page.drawn() < 5000, f"and what is out of sight isn't any more: {page.drawn()}")
+        soon(page.drawn, lambda drawn: drawn < 5000, "and what is out of sight isn't any more")
 
 
 CASES = [draws_what_changed, draws_what_is_seen]

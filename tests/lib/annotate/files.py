@@ -43,17 +43,17 @@ def asks_how_to_save(driver, program):
         soon(lambda: page.find("#ways").is_displayed(), True, "it is asked")
         need("1 more name" in page.find("#ways .about").text, "why")
         same(page.texts("#ways .choices button:not([hidden])"), ["Write into the file that is there", "Put another file in its place", "Save as another file"], "the ways")
-        page.find("#ways .close").click()
+        page.press("#ways .close")
         same((server.text(), page.find("#save").text), (LETTER, "Save"), "nothing is written")
         page.keys(Keys.CONTROL, "s")
         soon(lambda: page.find("#ways").is_displayed(), True, "it is asked again")
-        page.find("#ways button[value=into]").click()
+        page.press("#ways button[value=into]")
         soon(lambda: page.find("#save").text, "Saved", "it is written")
         same(server.text(), server.text("other.xml"), "under both names")
         page.wrap("date", "met")
         page.keys(Keys.CONTROL, "s")
         soon(lambda: page.find("#ways").is_displayed(), True, "and again")
-        page.find("#ways button[value=replace]").click()
+        page.press("#ways button[value=replace]")
         soon(lambda: page.find("#save").text, "Saved", "it is written")
         need("<date>" in server.text() and "<date>" not in server.text("other.xml"), "another file in its place")
 
@@ -89,10 +89,12 @@ def goes_on_behind_dialogs(driver, program):
     with Server(program, LETTER) as server:
         page = Page(driver, server.url)
         for button, dialog in (("#preview", "#completed"), ("#help", "#keys")):
-            page.find(button).click()
+            page.press(button)
             soon(lambda: page.find(dialog).is_displayed(), True, dialog)
             page.keys(Keys.ENTER)
             soon(lambda: page.find(dialog).is_displayed(), False, f"{dialog} is closed")
+            # The focus goes back behind the event of its closing.
+            page.rest()
             page.keys(Keys.CONTROL, "a")
             page.keys(Keys.ENTER)
             page.open_menu()
@@ -108,7 +110,7 @@ def names_wide_lists(driver, program):
             soon(page.status, lambda text: "⟨letter⟩ holds too much" in text, "the head")
             page.keys(Keys.F8)
             soon(lambda: page.find("#reason").text, lambda text: "too wide to tell" in text, "at the tag")
-            page.find("#preview").click()
+            page.press("#preview")
             soon(lambda: page.find("#completed .view").text, lambda text: "⟨letter⟩ holds too much" in text, "the preview")
 
 
@@ -121,7 +123,7 @@ def counts_wide_lists(driver, program):
             soon(page.status, lambda text: "1 to 2 elements missing" in text and "in 1 place" in text, "the head")
             page.keys(Keys.F8)
             soon(lambda: page.find("#reason").text, lambda text: text.startswith("Missing here, though fewer may do: ⟨"), "at the tag")
-            page.find("#preview").click()
+            page.press("#preview")
             soon(lambda: page.find("#completed h2").text, lambda text: "Valid with 2 new elements; fewer may do." in text, "the preview")
 
 

@@ -13,6 +13,11 @@ import time
 from lib.counting import Fault, need, same
 from lib.waiting import PATIENCE
 
+try:
+    from selenium.common import exceptions as browsers
+except ImportError:
+    browsers = None
+
 TOP = os.path.abspath(os.path.join(__file__, *[os.pardir] * 4))
 FOLDER = os.path.join(TOP, "clients", "annotate")
 EXAMPLES = os.path.join(TOP, "examples")
@@ -21,14 +26,25 @@ ARTICLE = os.path.join(EXAMPLES, "article.dtd")
 DRAFT = "<letter><opener>Dear brother,</opener>\n<body><p>I have met Mr Adams in Delft.</p></body></letter>\n"
 
 
+# What is raised where something isn't there yet, or is just being drawn anew.
+NOT_YET = (LookupError, TypeError, ValueError, AttributeError, FileNotFoundError)
+if browsers is not None:
+    NOT_YET += (browsers.NoSuchElementException, browsers.StaleElementReferenceException, browsers.ElementNotInteractableException,
+                browsers.ElementClickInterceptedException, browsers.MoveTargetOutOfBoundsException, browsers.JavascriptException)
+
+
 def soon(get, want, what, seconds=PATIENCE):
-    """Waits until this is so."""
+    """Waits until this is so; what raises for what isn't there yet isn't so yet."""
     end = time.monotonic() + seconds
     while True:
-        got = get()
-        if got == want or callable(want) and want(got):
-            return got
-        need(time.monotonic() < end, f"{what}: {got!r}{'' if callable(want) else f' for {want!r}'}")
+        try:
+            got = get()
+            if got == want or callable(want) and want(got):
+                return got
+            told = repr(got)
+        except NOT_YET as fault:
+            told = f"{type(fault).__name__}: {str(fault).strip().splitlines()[:1]}"
+        need(time.monotonic() < end, f"{what}: {told}{'' if callable(want) else f' for {want!r}'}")
         time.sleep(0.03)
 
 

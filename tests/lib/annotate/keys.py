@@ -105,19 +105,19 @@ def tags_again_before_keys(driver, program):
                 page.keys("i")
             soon(lambda: page.js("return document.body.ariaBusy"), "false", "all of it is done")
         soon(lambda: page.find("#everywhere .about").text, lambda text: "without this tag" in text, "the places")
-        page.find("#everywhere .close").click()
+        page.press("#everywhere .close")
         need("his <place>candlehi</place> for" in page.written() and "Delft is." in page.written(), f"the texts are there: {page.written()}")
         page.select("brother")
         page.open_menu()
         page.keys(Keys.ESCAPE, Keys.F4)
         soon(lambda: page.find("#reason").text, lambda text: "Refused" in text, "it is refused")
-        same(page.js("return import('./choose.js').then(({ chosen }) => import('./place.js').then(({ plainTextOf }) => plainTextOf(chosen().run)))"), "brother", "it is selected again")
+        soon(lambda: page.js("return import('./choose.js').then(({ chosen }) => import('./place.js').then(({ plainTextOf }) => plainTextOf(chosen().run)))"), "brother", "it is selected again")
         page.click_tag("place")
         page.open_menu()
         page.keys("the same", Keys.ENTER)
         soon(lambda: page.find("#everywhere").is_displayed(), True, "by the menu of a tag")
         same(page.menu(), None, "which is closed then")
-        page.find("#everywhere .close").click()
+        page.press("#everywhere .close")
         same(page.menu(), None, "and stays so")
 
 
@@ -147,12 +147,12 @@ def locks_the_text(driver, program):
         page.wrap("date", "candle")
         page.keys(Keys.CONTROL, "z")
         soon(page.moves, 0, "a tag, and its undo")
-        page.find("#lock").click()
+        page.press("#lock")
         same(page.find("#lock").text, "Text unlocked", "it is unlocked")
         page.click_text("candle")
         page.type("big ")
         soon(lambda: "his big candle" in page.written(), True, "then keys type")
-        page.find("#lock").click()
+        page.press("#lock")
         page.keys("x")
         soon(locked, True, "it is locked again")
         page.keys(Keys.CONTROL, "z")
@@ -185,7 +185,7 @@ def keeps_a_menu_open(driver, program):
         page.keys("per")
         other("wrap", "Delft", "place")
         same(page.js(TYPED), [True, "per"], "the menu and its input stay")
-        same(page.open_menu()[0], "person", "its rows are asked for again")
+        page.see_menu(["person"], "its rows are asked for again")
         page.keys("son", Keys.ENTER)
         soon(lambda: "<person>Mr Adams</person> in <place>Delft</place>" in page.written(), True, "and go to the place that was selected")
         same(page.tell(), "", "nothing is told")
@@ -243,7 +243,7 @@ def selects_with_the_mouse(driver, program):
     """A word by two clicks, a click into what is selected, and a scrollbar, which holds nothing up."""
     with Server(program, LETTER.replace("</p>", "</p>" + "<p>More of it.</p>" * 60)) as server:
         page = Page(driver, server.url, unlocked=True)
-        x, y, _, _ = page.js(WHERE, "candle", 0)
+        x, y, _, _ = page.place_of("candle")
         # Two clicks are two, however slow the machine is.
         for count in (1, 2):
             for kind in ("mousePressed", "mouseReleased"):

@@ -47,16 +47,17 @@ def refuses_where_it_was_asked(driver, program):
     with Server(program, LETTER) as server:
         page = Page(driver, server.url)
         page.select("met")
-        same(page.open_menu(), ["place", "date", "person"], "what is offered in a paragraph")
+        page.see_menu(["place", "date", "person"], "what is offered in a paragraph")
+        same(len(page.menu()), 3, "no other name")
         page.keys("body", Keys.ENTER)
         soon(lambda: page.find("#menu .refusal").is_displayed(), True, "the refusal")
         need("p can't hold body" in page.find("#menu .refusal").text, "it tells why")
         same(page.texts(".refusing > .tag"), ["p"], "the list is shown")
         page.keys(Keys.ESCAPE)
-        same((page.texts(".refusing > .tag"), page.menu(), page.moves()), (["p"], None, 0), "behind it, until the next move")
-        need("p can't hold body" in page.find("#reason").text, "the sentence stands at the tag")
+        soon(lambda: (page.texts(".refusing > .tag"), page.menu(), page.moves()), (["p"], None, 0), "behind it, until the next move")
+        soon(lambda: page.find("#reason").text, lambda text: "p can't hold body" in text, "the sentence stands at the tag")
         page.keys(Keys.ESCAPE)
-        same((page.texts(".refusing"), page.find("#reason").is_displayed()), ([], False), "it is closed")
+        soon(lambda: (page.texts(".refusing"), page.find("#reason").is_displayed()), ([], False), "it is closed")
         page.select("met")
         page.open_menu()
         page.keys("lb", Keys.ENTER)
@@ -96,20 +97,20 @@ def edits_elements(driver, program):
             soon(page.moves, left, "undo")
         same(page.written(), before, "all undone")
         for made in (1, 2, 3):
-            page.find("#redo").click()
+            page.press("#redo")
             soon(page.moves, made, "redo")
         page.select("regards")
         page.open_menu()
         page.keys(Keys.ESCAPE)
-        page.find("#history").click()
+        page.press("#history")
         soon(lambda: len(page.texts("#moves li")), 6, "the history, with what was undone")
-        same(page.texts("#moves .now"), ["new ⟨person⟩"], "where it stands")
+        soon(lambda: page.texts("#moves .now"), ["new ⟨person⟩"], "where it stands")
         same(page.texts("#moves li")[1], "renamed: ⟨place⟩ round “Mr Adams”", "a move in words")
         page.click("#moves li button", 1)
         soon(page.moves, 1, "back to a move")
         page.click("#moves li button", 5)
         soon(page.moves, 5, "forth again, also behind a menu")
-        page.find("#history").click()
+        page.press("#history")
 
 
 def marks_up_by_keys(driver, program):
@@ -182,7 +183,7 @@ def goes_to_the_next(driver, program):
         for k in (999, 1999, 2999, 3999, 999):
             page.keys(Keys.F8)
             soon(lambda: [text for text in page.texts(".chosen .text") if text.isdigit()], [str(k)], "the next one")
-            need(page.find(".chosen").is_displayed(), "it is in sight")
+            soon(lambda: page.find(".chosen").is_displayed(), True, "it is in sight")
         page.keys(Keys.SHIFT, Keys.F8)
         soon(lambda: [text for text in page.texts(".chosen .text") if text.isdigit()], ["3999"], "the one before")
 
@@ -223,7 +224,7 @@ def keeps_windows_together(driver, program):
         page.keys(Keys.CONTROL, "z")
         soon(page.tell, lambda text: "another window" in text, "a window that is behind is told so")
         same((page.moves(), page.version()), (0, version + 1), "it has caught up")
-        page.find("#redo").click()
+        page.press("#redo")
         soon(page.moves, 1, "it goes on")
 
 
@@ -233,16 +234,16 @@ def finds_everything_again(driver, program):
         page = Page(driver, server.url)
         page.wrap("date", "regards")
         page.wrap("place", "sends")
-        page.find("#undo").click()
+        page.press("#undo")
         soon(page.moves, 1, "undo")
         server.process.kill()
         server.process.wait()
-        page.find("#redo").click()
+        page.press("#redo")
         soon(page.tell, lambda text: "has ended" in text, "a server that is gone is told")
         server.start()
         page = Page(driver, server.url)
         need("<date>regards</date>" in page.written(), "what was made is there")
-        page.find("#redo").click()
+        page.press("#redo")
         soon(lambda: "<place>sends</place>" in page.written(), True, "what was undone can be made again")
         same(page.moves(), 2, "the moves")
         server.write("<letter/>")
@@ -254,11 +255,11 @@ def finds_everything_again(driver, program):
 def previews(driver, program):
     with Server(program, "<letter><opener>Dear brother,</opener>\n<body><p>I have met Mr Adams.</p></body></letter>\n") as server:
         page = Page(driver, server.url)
-        page.find("#preview").click()
+        page.press("#preview")
         soon(lambda: page.find("#completed h2").text, lambda text: text.startswith("Valid with 1 new element,"), "a preview")
         same(page.texts("#completed .new > .tag.start"), ["salute"], "what is new in it")
         same(page.texts("#document .element > .tag:not(.end)"), ["letter", "opener", "body", "p"], "the document is as it was")
-        page.find("#completed .close").click()
+        page.press("#completed .close")
         same(page.moves(), 0, "no move was made")
 
 
@@ -267,7 +268,7 @@ def opens_what_is_impossible(driver, program):
         source = file.read()
     with Server(program, source) as server:
         page = Page(driver, server.url)
-        same(page.status(), "1 place can't be finished", "it is told")
+        soon(page.status, "1 place can't be finished", "it is told")
         same(page.texts("[data-verdict=impossible] > .tag"), ["letter"], "it is marked")
         page.click_tag("closer")
         page.open_menu()

@@ -102,7 +102,7 @@ class User:
         self.page.keys(Keys.SHIFT, Keys.F4)
         soon(lambda: self.page.find("#everywhere").is_displayed(), True, "the places")
         soon(lambda: len(self.page.texts("#everywhere li")), count, "so many places")
-        self.page.find("#everywhere .tag-all").click()
+        self.page.press("#everywhere .tag-all")
         self.done(moves + 1)
 
     def missing(self, name):
@@ -114,7 +114,7 @@ class User:
             soon(lambda: self.page.js(TAKES), True, "what is missing is told")
             if self.page.texts(".chosen > .tag:not(.end)") == [name]:
                 break
-        self.page.find("#reason .take").click()
+        self.page.press("#reason .take")
         self.done(moves + 1)
 
     def attribute(self, tag, nth, name, value):
@@ -124,7 +124,7 @@ class User:
         self.page.keys("attributes", Keys.ENTER)
         soon(lambda: self.page.find("#attributes").is_displayed(), True, "the form")
         self.page.keys(name, Keys.TAB, value)
-        self.page.find("#attributes .set").click()
+        self.page.press("#attributes .set")
         self.done(moves + 1)
 
     def key(self, moves, *keys):
@@ -168,10 +168,10 @@ class User:
 
     def preview(self, title):
         """A look at what is missing in all."""
-        self.page.find("#preview").click()
+        self.page.press("#preview")
         soon(lambda: self.page.find("#completed h2").text, lambda text: text.startswith(title), "the preview")
         self.steps += 1
-        self.page.find("#completed .close").click()
+        self.page.press("#completed .close")
         self.done(self.page.moves())
 
     def insert(self, before, name):
@@ -246,7 +246,7 @@ def finish(user):
     user.find("know why")
     user.type("why.", Keys.SHIFT, Keys.ENTER)
     user.missing("teiHeader")
-    page.find("#document .list.nothing").click()
+    page.press("#document .list.nothing")
     page.type("Jan")
     user.steps += 1
 
