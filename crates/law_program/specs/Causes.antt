@@ -43,9 +43,8 @@ use Rattle.pv_verify.specs.Tests.{IsRejected}
 use Rattle.pv_verify.specs.declared.answers.Why.{Why}
 use Rattle.pv_cli.specs.CommandLine.{PlainCommandLine, drill, files_named, on_certificate}
 use Rattle.pv_cli.specs.CommandLine.{on_document, on_dtd, on_ranges}
-use Rattle.law_program.specs.Tests.{
-  Test, validity, width, possibility, impossibility, needs_of_verb, tests_width
-}
+use Rattle.law_program.specs.Tests.{Test, validity, width, possibility, impossibility}
+use Rattle.law_program.specs.Tests.{needs_of_verb, tests_width}
 use Rattle.pv_opening.specs.Devices.{Devices}
 use Rattle.pv_cli.specs.Drill.{DRILL_ROOT}
 use Rattle.pv_opening.specs.Opening.{Files, file_at}

@@ -12,6 +12,10 @@ use crate::declarations::after_text_decl;
 use crate::markup::{after_comment, after_instruction};
 
 /// Whether it is one of these bytes.
+///
+/// ```rust
+/// assert!(rt; is_one_of(b"ab", b'b') && !is_one_of(b"ab", b'c'));
+/// ```
 pub fn is_one_of(bytes: &[u8], b: u8) -> bool
     ensures { result ≡ is_one_of bytes.now b }
 {
@@ -24,6 +28,10 @@ pub fn is_one_of(bytes: &[u8], b: u8) -> bool
 }
 
 /// Whether all of it is Chars (XML 1.0, section 2.2).
+///
+/// ```rust
+/// assert!(rt; is_chars("текст €\t".as_bytes()) && !is_chars(b"a\x00"));
+/// ```
 pub fn is_chars(bytes: &[u8]) -> bool
     ensures { result ≡ is_chars bytes.now }
 {
@@ -31,6 +39,10 @@ pub fn is_chars(bytes: &[u8]) -> bool
 }
 
 /// The longest name at the front (XML 1.0, section 2.3), and what stands after it.
+///
+/// ```rust
+/// assert!(rt; name_at(b"a:b c") == Some((b"a:b".as_slice(), b" c".as_slice())));
+/// ```
 pub fn name_at(bytes: &[u8]) -> Option<(&[u8], &[u8])>
     ensures name { option_map (λ r. (r.0.now, r.1.now)) result ≡ name_at bytes.now }
     ensures within { IfSome result (λ r. length r.1.now < length bytes.now) }
@@ -39,6 +51,10 @@ pub fn name_at(bytes: &[u8]) -> Option<(&[u8], &[u8])>
 }
 
 /// The value in quotes at the front, without its quotes, and what stands after it.
+///
+/// ```rust
+/// assert!(rt; quoted_at(b"'a\"b'c") == Some((b"a\"b".as_slice(), b"c".as_slice())));
+/// ```
 pub fn quoted_at(bytes: &[u8]) -> Option<(&[u8], &[u8])>
     ensures { option_map (λ r. (r.0.now, r.1.now)) result ≡ quoted_at bytes.now }
 {
@@ -46,6 +62,10 @@ pub fn quoted_at(bytes: &[u8]) -> Option<(&[u8], &[u8])>
 }
 
 /// What stands after the comment at the front (XML 1.0, section 2.5).
+///
+/// ```rust
+/// assert!(rt; comment_at(b"<!--a-b-->c") == Some(b"c".as_slice()));
+/// ```
 pub fn comment_at(bytes: &[u8]) -> Option<&[u8]>
     ensures read { option_map (λ r. r.now) result ≡ comment_at bytes.now }
     ensures within { IfSome result (λ r. length r.now < length bytes.now) }
@@ -54,6 +74,10 @@ pub fn comment_at(bytes: &[u8]) -> Option<&[u8]>
 }
 
 /// What stands after the processing instruction at the front (XML 1.0, section 2.6).
+///
+/// ```rust
+/// assert!(rt; instruction_at(b"<?a?>c") == Some(b"c".as_slice()));
+/// ```
 pub fn instruction_at(bytes: &[u8]) -> Option<&[u8]>
     ensures read { option_map (λ r. r.now) result ≡ instruction_at bytes.now }
     ensures within { IfSome result (λ r. length r.now < length bytes.now) }
@@ -63,6 +87,11 @@ pub fn instruction_at(bytes: &[u8]) -> Option<&[u8]>
 
 /// What stands after the text declaration at the front (XML 1.0, section 4.3.1, in this project's
 /// profile).
+///
+/// ```rust
+/// let text = b"<?xml encoding = 'us-ASCII'?>c";
+/// assert!(rt; text_declaration_at(text) == Some(b"c".as_slice()));
+/// ```
 pub fn text_declaration_at(bytes: &[u8]) -> Option<&[u8]>
     ensures read { option_map (λ r. r.now) result ≡ text_declaration_at bytes.now }
     ensures within { IfSome result (λ r. length r.now < length bytes.now) }

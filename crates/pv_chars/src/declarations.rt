@@ -20,6 +20,11 @@ fn is_quote(b: u8) -> bool
 }
 
 /// The value in quotes at the front, without its quotes, and what stands after it.
+///
+/// ```rust
+/// // test_base: fronts_with_parts
+/// assert!(rt; quoted_at(b"'a\"b'c") == Some((b"a\"b".as_slice(), b"c".as_slice())));
+/// ```
 pub fn quoted_at(bytes: &[u8]) -> Option<(&[u8], &[u8])>
     ensures { MatchOption result (BeginsNoQuoted bytes.now)
         (λ r. Begins (IsQuoted r.0.now) bytes.now r.1.now) }
@@ -31,6 +36,11 @@ pub fn quoted_at(bytes: &[u8]) -> Option<(&[u8], &[u8])>
 }
 
 /// The value of the part with this word at the front, and what stands after it.
+///
+/// ```rust
+/// let part = declaration_part_at(b"version", b" version = '1.0'?>");
+/// assert!(rt; part == Some((b"1.0".as_slice(), b"?>".as_slice())));
+/// ```
 pub fn declaration_part_at<'a>(word: &[u8], bytes: &'a [u8]) -> Option<(&'a [u8], &'a [u8])>
     requires some { word.now ≢ [] }
     requires black { begins is_space word.now ≡ false }
@@ -73,6 +83,10 @@ fn is_yes_or_no(value: &[u8]) -> bool
 }
 
 /// What stands after the version at the front (XML 1.0, section 2.8, VersionInfo).
+///
+/// ```rust
+/// assert!(rt; after_version(b" version='1.0'?>") == Some(b"?>".as_slice()));
+/// ```
 pub fn after_version(bytes: &[u8]) -> Option<&[u8]>
     ensures { MatchOption result (BeginsNone IsVersionInfo bytes.now)
         (λ r. Begins IsVersionInfo bytes.now r.now) }
@@ -85,6 +99,10 @@ pub fn after_version(bytes: &[u8]) -> Option<&[u8]>
 }
 
 /// What stands after the encoding at the front (XML 1.0, section 4.3.3, EncodingDecl).
+///
+/// ```rust
+/// assert!(rt; after_encoding(b" encoding='UTF-8'?>") == Some(b"?>".as_slice()));
+/// ```
 pub fn after_encoding(bytes: &[u8]) -> Option<&[u8]>
     ensures { MatchOption result (BeginsNone IsEncodingDecl bytes.now)
         (λ r. Begins IsEncodingDecl bytes.now r.now) }
@@ -97,6 +115,10 @@ pub fn after_encoding(bytes: &[u8]) -> Option<&[u8]>
 }
 
 /// What stands after the standalone part at the front (XML 1.0, section 2.9, SDDecl).
+///
+/// ```rust
+/// assert!(rt; after_standalone(b" standalone='no'?>") == Some(b"?>".as_slice()));
+/// ```
 pub fn after_standalone(bytes: &[u8]) -> Option<&[u8]>
     ensures { MatchOption result (BeginsNone IsStandaloneDecl bytes.now)
         (λ r. Begins IsStandaloneDecl bytes.now r.now) }
@@ -110,6 +132,11 @@ pub fn after_standalone(bytes: &[u8]) -> Option<&[u8]>
 
 /// What stands after the text declaration at the front (XML 1.0, section 4.3.1, in this project's
 /// profile).
+///
+/// ```rust
+/// // test_base: fronts
+/// assert!(rt; after_text_decl(b"<?xml encoding = 'us-ASCII'?>") == Some(b"".as_slice()));
+/// ```
 pub fn after_text_decl(bytes: &[u8]) -> Option<&[u8]>
     ensures { MatchOption result (BeginsNone IsTextDecl bytes.now)
         (λ r. Begins IsTextDecl bytes.now r.now) }
@@ -125,6 +152,12 @@ pub fn after_text_decl(bytes: &[u8]) -> Option<&[u8]>
 }
 
 /// What stands after the XML declaration at the front (XML 1.0, section 2.8).
+///
+/// ```rust
+/// // test_base: fronts
+/// assert!(rt; after_xml_decl(b"<?xml version='1.10'?>c") == Some(b"c".as_slice()));
+/// assert!(rt; after_xml_decl(b"<?xml?>").is_none());
+/// ```
 pub fn after_xml_decl(bytes: &[u8]) -> Option<&[u8]>
     ensures { MatchOption result (BeginsNone IsXmlDecl bytes.now)
         (λ r. Begins IsXmlDecl bytes.now r.now) }

@@ -6,6 +6,10 @@ ghost use Rattle.pv_chars.specs.Fronts.{ContainsBytes, EndsAt};
 use memchr::{memchr, memmem};
 
 /// What stands before the first place of the delimiter, and what stands after it.
+///
+/// ```rust
+/// assert!(rt; up_to(b"--", b"a-b--c") == Some((b"a-b".as_slice(), b"c".as_slice())));
+/// ```
 pub fn up_to<'a>(delimiter: &[u8], bytes: &'a [u8]) -> Option<(&'a [u8], &'a [u8])>
     ensures { MatchOption result (ContainsBytes bytes.now delimiter.now → ⊥)
         (λ r. EndsAt delimiter.now bytes.now r.0.now r.1.now) }
@@ -16,6 +20,10 @@ pub fn up_to<'a>(delimiter: &[u8], bytes: &'a [u8]) -> Option<(&'a [u8], &'a [u8
 }
 
 /// What stands before the first place of the byte, and what stands after it.
+///
+/// ```rust
+/// assert!(rt; up_to_byte(b';', b"lt;c") == Some((b"lt".as_slice(), b"c".as_slice())));
+/// ```
 pub fn up_to_byte(byte: u8, bytes: &[u8]) -> Option<(&[u8], &[u8])>
     ensures { MatchOption result (ContainsBytes bytes.now (byte ∷ []) → ⊥)
         (λ r. EndsAt (byte ∷ []) bytes.now r.0.now r.1.now) }

@@ -2,6 +2,12 @@
 
 /// Why bytes are no text: nothing at all, or the first thing from the left that is no unit, by its
 /// place in bytes.
+///
+/// ```rust
+/// // test_base: texts
+/// assert!(rt; matches!(text_units(alloc, b"a<b"), Err(TextError::BadChar(1))));
+/// assert!(rt; matches!(text_units(alloc, b"&lt;&nbsp;"), Err(TextError::Entity(4))));
+/// ```
 #[derive(Clone, Copy, Debug, PartialEq, Eq)]
 pub enum TextError {
     /// There are no bytes.

@@ -7,6 +7,11 @@ use std::alloc::Global;
 use std::marker::Model;
 
 /// Values in order, seen as their list.
+///
+/// ```rust
+/// let numbers = Numbers::of([1, 2].to_vec(alloc)?); // test_base: lists
+/// assert!(rt; numbers.as_slice() == [1, 2].as_slice());
+/// ```
 #[derive(Debug, Drop)]
 pub struct List<T> {
     items: Vec<T>,
@@ -43,9 +48,19 @@ pub type Bytes = List<u8>;
 pub type Numbers = List<u32>;
 
 /// A list of names.
+///
+/// ```rust
+/// // test_base: labels
+/// let labels = Labels::of(vec![in alloc; bytes_of(alloc, b"em")?]?);
+/// assert!(rt; labels.as_slice()[0].as_slice() == b"em".as_slice());
+/// ```
 pub type Labels = List<Bytes>;
 
 /// A copy of the bytes.
+///
+/// ```rust
+/// assert!(rt; bytes_of(alloc, b"xyz")?.as_slice() == b"xyz".as_slice()); // test_base: lists
+/// ```
 pub fn bytes_of(alloc: Global, bytes: &[u8]) -> Result<Bytes, NoMemory>
     ensures { IfOk result (λ b. b ≡ bytes.now) }
 {

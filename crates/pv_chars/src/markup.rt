@@ -10,6 +10,11 @@ use crate::names::name_at;
 use crate::scan::{after_bytes, is_space};
 
 /// What stands after the comment at the front (XML 1.0, section 2.5).
+///
+/// ```rust
+/// assert!(rt; after_comment(b"<!--a-b-->c") == Some(b"c".as_slice())); // test_base: fronts
+/// assert!(rt; after_comment(b"<!--a--b-->").is_none());
+/// ```
 pub fn after_comment(bytes: &[u8]) -> Option<&[u8]>
     ensures { MatchOption result (BeginsNone IsComment bytes.now)
         (λ r. Begins IsComment bytes.now r.now) }
@@ -33,6 +38,11 @@ fn is_behind_target(bytes: &[u8]) -> bool
 }
 
 /// What stands after the processing instruction at the front (XML 1.0, section 2.6).
+///
+/// ```rust
+/// assert!(rt; after_instruction(b"<?a?>c") == Some(b"c".as_slice())); // test_base: fronts
+/// assert!(rt; after_instruction(b"<?XmL?>").is_none());
+/// ```
 pub fn after_instruction(bytes: &[u8]) -> Option<&[u8]>
     ensures { MatchOption result (BeginsNone IsInstruction bytes.now)
         (λ r. Begins IsInstruction bytes.now r.now) }
@@ -50,6 +60,11 @@ pub fn after_instruction(bytes: &[u8]) -> Option<&[u8]>
 }
 
 /// What stands after the CDATA section at the front (XML 1.0, section 2.7).
+///
+/// ```rust
+/// // test_base: fronts
+/// assert!(rt; after_cdata(b"<![CDATA[a]]]>c") == Some(b"c".as_slice()));
+/// ```
 pub fn after_cdata(bytes: &[u8]) -> Option<&[u8]>
     ensures { MatchOption result (BeginsNone IsCdata bytes.now)
         (λ r. Begins IsCdata bytes.now r.now) }

@@ -23,6 +23,11 @@ fn after_name_chars(bytes: &[u8]) -> &[u8]
 }
 
 /// The longest Name at the front (XML 1.0, section 2.3), and what stands after it.
+///
+/// ```rust
+/// assert!(rt; name_at(b"a:b c") == Some((b"a:b".as_slice(), b" c".as_slice())));
+/// assert!(rt; name_at(b"1a").is_none());
+/// ```
 pub fn name_at(bytes: &[u8]) -> Option<(&[u8], &[u8])>
     ensures found { MatchOption result (BeginsNoName bytes.now)
         (λ r. TakesName bytes.now r.0.now r.1.now) }
@@ -37,6 +42,10 @@ pub fn name_at(bytes: &[u8]) -> Option<(&[u8], &[u8])>
 }
 
 /// Whether the bytes are a Name (XML 1.0, section 2.3).
+///
+/// ```rust
+/// assert!(rt; is_name(b"_a.1-B") && !is_name(b"1a")); // test_base: names
+/// ```
 pub fn is_name(bytes: &[u8]) -> bool
     ensures exact { IsTrue result ↔ IsName bytes.now }
     ensures value { result ≡ is_name bytes.now }

@@ -14,6 +14,10 @@ const PAST_CHARS: u32 = 0x110000;
 
 /// The number that the digits at the front write, or more than any code point where it is more,
 /// and what stands after them.
+///
+/// ```rust
+/// assert!(rt; digits_at(16, b"1F;") == (31, b";".as_slice()));
+/// ```
 pub fn digits_at(base: u32, bytes: &[u8]) -> (u32, &[u8])
     requires some { 2 ≤ base }
     requires known { base ≤ 36 }
@@ -50,6 +54,11 @@ fn after_ref_in<'a>(base: u32, front: &[u8], bytes: &'a [u8]) -> Option<&'a [u8]
 
 /// What stands after the character reference at the front (XML 1.0, section 4.1, CharRef), which
 /// may have any number of leading zeros.
+///
+/// ```rust
+/// assert!(rt; after_char_ref(b"&#00065;c") == Some(b"c".as_slice())); // test_base: fronts
+/// assert!(rt; after_char_ref(b"&#0;").is_none());
+/// ```
 pub fn after_char_ref(bytes: &[u8]) -> Option<&[u8]>
     ensures { MatchOption result (BeginsNone IsCharRef bytes.now)
         (λ r. Begins IsCharRef bytes.now r.now) }
@@ -62,6 +71,11 @@ pub fn after_char_ref(bytes: &[u8]) -> Option<&[u8]>
 
 /// The name in the entity reference at the front (XML 1.0, section 4.1, EntityRef), and what
 /// stands after it.
+///
+/// ```rust
+/// // test_base: fronts_with_parts
+/// assert!(rt; entity_ref_at(b"&lt;c") == Some((b"lt".as_slice(), b"c".as_slice())));
+/// ```
 pub fn entity_ref_at(bytes: &[u8]) -> Option<(&[u8], &[u8])>
     ensures { MatchOption result (BeginsNoEntityRef bytes.now)
         (λ r. Begins (IsEntityRef r.0.now) bytes.now r.1.now) }

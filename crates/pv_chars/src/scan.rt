@@ -8,6 +8,10 @@ ghost use Rattle.pv_chars.specs.Spaces.{is_space, begins, IsOptionalSpace, Takes
 ghost use Rattle.pv_chars.specs.Scan.{space_length, after_space, after_blank, after_bytes};
 
 /// White space of XML 1.0, section 2.3.
+///
+/// ```rust
+/// assert!(rt; is_space(b'\t') && !is_space(b'x'));
+/// ```
 pub fn is_space(b: u8) -> bool
     ensures { result ≡ is_space b }
 {
@@ -15,6 +19,10 @@ pub fn is_space(b: u8) -> bool
 }
 
 /// How many bytes at the front are white space.
+///
+/// ```rust
+/// assert!(rt; space_length(b" \t\r\nx ") == 4); // test_base: scans
+/// ```
 #[tactic(auto, using(crate::proofs::Scanning::space_ends))]
 pub fn space_length(bytes: &[u8]) -> usize
     ensures front { IsOptionalSpace (take result bytes.now) }
@@ -33,6 +41,10 @@ pub fn space_length(bytes: &[u8]) -> usize
 }
 
 /// What stands after the white space at the front.
+///
+/// ```rust
+/// assert!(rt; after_space(b" \tx ") == b"x ".as_slice());
+/// ```
 #[tactic(auto, using(crate::proofs::Scanning::drop_space))]
 pub fn after_space(bytes: &[u8]) -> &[u8]
     ensures taken { TakesSpace bytes.now result.now }
@@ -43,6 +55,11 @@ pub fn after_space(bytes: &[u8]) -> &[u8]
 }
 
 /// What stands after the white space at the front, where there is some.
+///
+/// ```rust
+/// assert!(rt; after_blank(b" x") == Some(b"x".as_slice())); // test_base: fronts
+/// assert!(rt; after_blank(b"x").is_none());
+/// ```
 #[tactic(auto, unfolding(crate::specs::Scan::after_blank))]
 pub fn after_blank(bytes: &[u8]) -> Option<&[u8]>
     ensures found { MatchOption result (begins is_space bytes.now ≡ false)
@@ -57,6 +74,10 @@ pub fn after_blank(bytes: &[u8]) -> Option<&[u8]>
 }
 
 /// What stands after these bytes, where they stand at the front.
+///
+/// ```rust
+/// assert!(rt; after_bytes(b"<?", b"<?a?>") == Some(b"a?>".as_slice()));
+/// ```
 pub fn after_bytes<'a>(front: &[u8], bytes: &'a [u8]) -> Option<&'a [u8]>
     ensures found { MatchOption result ((rest : List ℕ) → bytes.now ≢ front.now ++ rest)
         (λ r. bytes.now ≡ front.now ++ r.now) }

@@ -25,6 +25,10 @@ const AMPERSAND: u32 = 0x26;
 const LESS_THAN: u32 = 0x3C;
 
 /// Whether it is one of the five names that need no declaration (XML 1.0, section 4.6).
+///
+/// ```rust
+/// assert!(rt; is_predefined(b"lt") && !is_predefined(b"nbsp"));
+/// ```
 pub fn is_predefined(name: &[u8]) -> bool
     ensures { IsTrue result ↔ IsPredefined name.now }
 {
@@ -129,6 +133,10 @@ fn is_simple(b: u8) -> bool
 
 /// Whether each byte is a character that stands for itself and isn't `>`. All are looked at, so
 /// that many can be at a time.
+///
+/// ```rust
+/// assert!(rt; are_simple(b"plain") && !are_simple(b"a>b"));
+/// ```
 pub fn are_simple(bytes: &[u8]) -> bool
     ensures { result ≡ list_all is_simple bytes.now }
 {
@@ -144,6 +152,12 @@ pub fn are_simple(bytes: &[u8]) -> bool
 /// A unit is one literal character, or one whole reference: to a Char by its code point, or to one
 /// of the five predefined names. It is white where it is a literal space, tab, CR or LF, and else
 /// data.
+///
+/// ```rust
+/// // test_base: texts
+/// let units = text_units(alloc, "a &#32;é".as_bytes())?; // `a`, a space, `&#32;` and `é`
+/// assert!(rt; units.len() == 4 && units.has_data());
+/// ```
 #[derive(Debug, Drop)]
 pub struct Units {
     bytes: Vec<u8>,
@@ -180,6 +194,11 @@ impl Units {
     }
 
     /// Whether a data unit is among them.
+    ///
+    /// ```rust
+    /// assert!(rt; !text_units(alloc, b" \t\r\n")?.has_data()); // test_base: texts
+    /// assert!(rt; text_units(alloc, b"&#32;")?.has_data());
+    /// ```
     pub fn has_data(&self) -> bool
         ensures { result ≡ has_data self.now }
     {
@@ -197,6 +216,12 @@ impl Units {
     }
 
     /// The units from number `from` up to but not including `to`.
+    ///
+    /// ```rust
+    /// let units = text_units(alloc, "a &#32;é".as_bytes())?; // test_base: parts_of_texts
+    /// assert!(rt; units.len() == 4);
+    /// assert!(rt; units.part(alloc, 1, 3)?.bytes() == b" &#32;".as_slice());
+    /// ```
     pub fn part(&self, alloc: Global, from: usize, to: usize) -> Result<Units, NoMemory>
         requires some { from < to }
         requires within { to ≤ length self.now }
@@ -208,6 +233,13 @@ impl Units {
     }
 
     /// The units before number `at`, and the others.
+    ///
+    /// ```rust
+    /// let units = text_units(alloc, "a &#32;é".as_bytes())?; // test_base: halves_of_texts
+    /// assert!(rt; units.len() == 4);
+    /// let (front, back) = units.cut(alloc, 3)?;
+    /// assert!(rt; front.bytes() == b"a &#32;".as_slice() && back.bytes() == "é".as_bytes());
+    /// ```
     pub fn cut(&self, alloc: Global, at: usize) -> Result<(Units, Units), NoMemory>
         requires some { 0 < at }
         requires within { at < length self.now }
@@ -229,6 +261,12 @@ impl Units {
     }
 
     /// The units of both, this text's first.
+    ///
+    /// ```rust
+    /// let (front, back) = (text_units(alloc, b"a")?, text_units(alloc, b"&lt;")?);
+    /// let both = front.join(alloc, &back)?;
+    /// assert!(rt; both.len() == 2 && both.bytes() == b"a&lt;".as_slice());
+    /// ```
     pub fn join(&self, alloc: Global, other: &Units) -> Result<Units, NoMemory>
         ensures { IfOk result (λ u. u ≡ self.now ++ other.now) }
     {
@@ -275,6 +313,11 @@ fn text_count(bytes: &[u8]) -> Result<usize, TextError>
 }
 
 /// The units of a text, or the first fault from the left.
+///
+/// ```rust
+/// assert!(rt; text_units(alloc, b"plain")?.len() == 5); // test_base: texts
+/// assert!(rt; matches!(text_units(alloc, b"a]]>b"), Err(TextError::CloseMark(1))));
+/// ```
 pub fn text_units(alloc: Global, bytes: &[u8]) -> Result<Units, TextError>
     ensures { MatchResult result
         (λ u. TextMeans bytes.now (Ok u))

@@ -12,6 +12,12 @@ use pv_model::{ContentModel, LaidModel, NameId};
 
 /// Names and content models, each laid out once. The declared names come first, in order of
 /// declaration, and then those that are only mentioned.
+///
+/// ```rust
+/// let dtd = read_dtd(alloc, b"<!ELEMENT a (b, c?)><!ELEMENT b (#PCDATA)>")?;
+/// assert!(rt; dtd.count() == 2 && dtd.names() == 3);
+/// assert!(rt; dtd.name_id(b"c") == Some(NameId(2)));
+/// ```
 #[derive(Debug, Drop)]
 pub struct Dtd {
     names: IndexSet<Vec<u8>>,
@@ -55,6 +61,11 @@ impl Dtd {
     }
 
     /// The number of declared names.
+    ///
+    /// ```rust
+    /// let dtd = read_dtd(alloc, b"<!ELEMENT a (b, c?)><!ELEMENT b (#PCDATA)>")?;
+    /// assert!(rt; dtd.count() == 2);
+    /// ```
     pub fn count(&self) -> u32
         ensures { result ≡ declared (plain_dtd self.now) }
     {
@@ -62,6 +73,11 @@ impl Dtd {
     }
 
     /// The number of all names.
+    ///
+    /// ```rust
+    /// let dtd = read_dtd(alloc, b"<!ELEMENT a (b, c?)><!ELEMENT b (#PCDATA)>")?;
+    /// assert!(rt; dtd.names() == 3);
+    /// ```
     pub fn names(&self) -> u32
         ensures { result ≡ length (plain_dtd self.now).names }
     {
@@ -70,6 +86,12 @@ impl Dtd {
 
     /// The number of parts of all content models: nodes of content particles, and names listed in
     /// mixed models.
+    ///
+    /// ```rust
+    /// // the sequence, `b`, `c?` and its `c`; `#PCDATA` is none
+    /// let dtd = read_dtd(alloc, b"<!ELEMENT a (b, c?)><!ELEMENT b (#PCDATA)>")?;
+    /// assert!(rt; dtd.parts() == 4);
+    /// ```
     pub fn parts(&self) -> u32
         ensures { result ≡ parts_in_models (plain_dtd self.now).models }
     {
@@ -77,6 +99,11 @@ impl Dtd {
     }
 
     /// The number of parts and names.
+    ///
+    /// ```rust
+    /// let dtd = read_dtd(alloc, b"<!ELEMENT a (b, c?)><!ELEMENT b (#PCDATA)>")?;
+    /// assert!(rt; dtd.columns() == dtd.parts() + dtd.names());
+    /// ```
     pub fn columns(&self) -> u32
         ensures { result ≡
             parts_in_models (plain_dtd self.now).models + length (plain_dtd self.now).names }
@@ -85,6 +112,11 @@ impl Dtd {
     }
 
     /// The number of a name.
+    ///
+    /// ```rust
+    /// let dtd = read_dtd(alloc, b"<!ELEMENT a (b, c?)><!ELEMENT b (#PCDATA)>")?;
+    /// assert!(rt; dtd.name_id(b"b") == Some(NameId(1)) && dtd.name_id(b"x").is_none());
+    /// ```
     pub fn name_id(&self, name: &[u8]) -> Option<NameId>
         ensures { option_map (λ (id : NameId). id.0) result ≡
             number_of (plain_dtd self.now) name.now }
@@ -96,6 +128,11 @@ impl Dtd {
     }
 
     /// The name of a number.
+    ///
+    /// ```rust
+    /// let dtd = read_dtd(alloc, b"<!ELEMENT a (b, c?)><!ELEMENT b (#PCDATA)>")?;
+    /// assert!(rt; dtd.names() == 3 && dtd.name_of(NameId(2)) == b"c".as_slice());
+    /// ```
     pub fn name_of(&self, id: NameId) -> &[u8]
         requires { id.0 < length (plain_dtd self.now).names }
         ensures { slice_get (plain_dtd self.now).names id.0 ≡ Some result.now }
@@ -107,6 +144,13 @@ impl Dtd {
     }
 
     /// The content model of a name, where it is declared.
+    ///
+    /// ```rust
+    /// let dtd = read_dtd(alloc, b"<!ELEMENT a (b, c?)><!ELEMENT b (#PCDATA)>")?;
+    /// assert!(rt; dtd.names() == 3);
+    /// assert!(rt; matches!(dtd.model_of(NameId(0)), Some(ContentModel::Children(_))));
+    /// assert!(rt; dtd.model_of(NameId(2)).is_none());
+    /// ```
     pub fn model_of(&self, id: NameId) -> Option<&ContentModel>
         requires { id.0 < length (plain_dtd self.now).names }
         ensures { option_map plain_model (option_copied result) ≡

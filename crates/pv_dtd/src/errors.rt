@@ -9,6 +9,14 @@ use thiserror::Error;
 
 /// Why there is no DTD: the first item in fault, by its kind and the number of whole items before
 /// it, or want of memory.
+///
+/// ```rust
+/// // test_dtd: faults
+/// let text = b"<!--x--><!ELEMENT a>";
+/// assert!(rt; matches!(read_dtd(alloc, text), Err(DtdError::Syntax(1))));
+/// let text = b"<!ELEMENT a (#PCDATA|b|b)*>";
+/// assert!(rt; matches!(read_dtd(alloc, text), Err(DtdError::MixedTwice(0))));
+/// ```
 #[derive(Debug, Drop, Error)]
 pub enum DtdError {
     /// No item stands there.

@@ -138,6 +138,12 @@ fn dtd_of(alloc: Global, bytes: &[u8]) -> Result<Dtd, DtdError>
 
 /// The DTD that the bytes are, or their first item in fault, by its kind and the number of whole
 /// items before it.
+///
+/// ```rust
+/// let text = b"<!ELEMENT a ANY><!ELEMENT a EMPTY>"; // test_dtd: faults
+/// assert!(rt; matches!(read_dtd(alloc, text), Err(DtdError::Twice(1))));
+/// assert!(rt; read_dtd(alloc, b"<!ELEMENT a (b)>")?.names() == 2);
+/// ```
 pub fn read_dtd(alloc: Global, bytes: &[u8]) -> Result<Dtd, DtdError>
     ensures read { IfOk result (λ dtd. DtdTextMeans bytes.now (is_dtd (plain_dtd dtd))) }
     ensures refused { IfErr result (λ error. Refuses bytes.now error) }

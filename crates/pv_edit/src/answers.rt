@@ -9,6 +9,8 @@ use pv_chars::{List, NoMemory};
 use pv_tree::{Path, Verdict};
 
 /// What an accepted change cost, and what it left.
+///
+/// A session prints them as `ok 2 1 0`.
 #[derive(Clone, Copy, Debug, PartialEq, Eq)]
 pub struct Done {
     /// The lists that were checked.
@@ -20,6 +22,8 @@ pub struct Done {
 }
 
 /// Why an edit isn't accepted.
+///
+/// A session prints the first three as `no shape not-element`, `no impossible 0.3` and `no limit`.
 #[derive(Debug, Drop)]
 pub enum EditAnswer {
     /// It can't be made; this is the first reason.
@@ -53,6 +57,8 @@ impl From<EditError> for EditAnswer {
 }
 
 /// What is known of one list.
+///
+/// A session prints one as `0.3 valid 6`.
 #[derive(Debug, Drop)]
 pub struct VerdictRow {
     pub path: Path,

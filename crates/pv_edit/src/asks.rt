@@ -4,6 +4,8 @@ use pv_tree::Path;
 
 /// An edit but for its name, of which it is asked what names it may have. Places are numbers of
 /// kids, counted from 0.
+///
+/// The lines `offer 0 0 1` and `offer 0.1` of a script ask them.
 #[derive(Debug, Drop)]
 pub enum Ask {
     /// Which names a new element may have that holds the kids from `from` up to but not including

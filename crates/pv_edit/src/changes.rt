@@ -30,6 +30,18 @@ use std::alloc::Global;
 /// is touched.
 ///
 /// The inverse leads back from each document that the change makes, whatever its marks are.
+///
+/// ```rust
+/// // test_edit: steps_of_an_edit
+/// let mut doc = read_doc(alloc, b"<doc>Hello</doc>", b"doc")?;
+/// let path = Path::new(alloc, &[0])?;
+/// let edit = Edit::Insert { path, at: 0, name: bytes_of(alloc, b"head")? };
+/// let Preparation { task, inverse } = prepare(alloc, &doc, &edit)?;
+/// make(alloc, &mut doc, task)?;
+/// let back = prepare_back(alloc, &doc, &inverse)?;
+/// make(alloc, &mut doc, back)?;
+/// assert!(rt; doc.nodes() == 2);
+/// ```
 pub fn prepare(alloc: Global, doc: &Doc, edit: &Edit) -> Result<Preparation, EditError>
     ensures prepared { IfOk result (IsPreparation (plain_doc doc.now).root edit.now) }
     ensures given { IfOk result (λ _. reason_of blank_mark (plain_doc doc.now).root edit.now
@@ -53,6 +65,8 @@ pub fn prepare(alloc: Global, doc: &Doc, edit: &Edit) -> Result<Preparation, Edi
 
 /// What an inverse is going to do: it makes the document that the inverse leads to, whatever the
 /// marks are.
+///
+/// See `prepare`, whose example takes an edit back.
 pub fn prepare_back(alloc: Global, doc: &Doc, inverse: &Inverse) -> Result<Task, NoMemory>
     requires { (before : PlainDoc Unit) × LeadsBack inverse.now (plain_doc doc.now) before }
     ensures task { IfOk result (IsTask (plain_doc doc.now).root inverse.now) }
@@ -75,6 +89,8 @@ pub fn prepare_back(alloc: Global, doc: &Doc, inverse: &Inverse) -> Result<Task,
 /// as it was.
 ///
 /// A restored element has a blank mark, and all other marks stay.
+///
+/// See `apply`, whose example takes its edit back.
 pub fn revert(alloc: Global, doc: &mut Doc, inverse: &Inverse) -> Result<(), NoMemory>
     requires { (before : PlainDoc Unit) × LeadsBack inverse.now (plain_doc doc.old) before }
     ensures made { OnOk result (plain_doc doc.new
@@ -88,6 +104,8 @@ pub fn revert(alloc: Global, doc: &mut Doc, inverse: &Inverse) -> Result<(), NoM
 }
 
 /// Makes a change that has been made ready, or leaves the document as it is.
+///
+/// See `prepare`, whose example makes a change.
 pub fn make(alloc: Global, doc: &mut Doc, task: Task) -> Result<(), NoMemory>
     requires can { CanChange task.list (plain_task task) (plain_doc doc.old).root }
     requires kept { IsKept (root_after task.list (plain_task task) (plain_doc doc.old).root) }

@@ -7,6 +7,11 @@ use crate::edits::Edit;
 
 impl Edit {
     /// How many nodes a document gets by it.
+    ///
+    /// ```rust
+    /// let edit = Edit::Join { path: Path::new(alloc, &[0, 0])? };
+    /// assert!(rt; edit.nodes_made() == 0);
+    /// ```
     pub fn nodes_made(&self) -> u64
         ensures { result ≡ nodes_made self.now }
     {
@@ -22,6 +27,11 @@ impl Edit {
     }
 
     /// How many nodes a document loses by it.
+    ///
+    /// ```rust
+    /// let edit = Edit::Join { path: Path::new(alloc, &[0, 0])? };
+    /// assert!(rt; edit.nodes_taken() == 1);
+    /// ```
     pub fn nodes_taken(&self) -> u64
         ensures { result ≡ nodes_taken self.now }
     {

@@ -105,6 +105,14 @@ fn placeholder(alloc: Global) -> Node {
 }
 
 /// Takes an element's kids out.
+///
+/// ```rust
+/// let mut doc = read_doc(alloc, b"<a> <b/>x</a>", b"a")?;
+/// let kids = take_kids(alloc, &mut doc.root); // three nodes, and the root has none
+/// assert!(rt; kids.len() == 3);
+/// put_kids(alloc, &mut doc.root, kids);
+/// assert!(rt; doc.nodes() == 4);
+/// ```
 pub fn take_kids(alloc: Global, node: &mut Node) -> Vec<Node>
     requires { IsTrue (is_element (plain node.old)) }
     ensures taken { plain_all result.items ≡ kids_of (plain node.old) }
@@ -132,6 +140,8 @@ pub fn take_kids(alloc: Global, node: &mut Node) -> Vec<Node>
 }
 
 /// Gives an element kids, in place of those it has.
+///
+/// See `take_kids`, whose example puts them back.
 pub fn put_kids(alloc: Global, node: &mut Node, kids: Vec<Node>)
     requires { IsTrue (is_element (plain node.old)) }
     ensures { plain node.new ≡ with_kids (plain_all kids.items) (plain node.old) }

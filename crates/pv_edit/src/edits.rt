@@ -8,9 +8,13 @@ use pv_tree::Path;
 use std::alloc::Global;
 
 /// A change that a user can make. Places are numbers of kids, counted from 0.
+///
+/// The examples are lines of scripts, as the tests of test_edit read them. They are on
+/// `<doc>Hello</doc>` but where another document is named.
 #[derive(Debug, Drop)]
 pub enum Edit {
     /// Puts the kids from `from` up to but not including `to` into a new element.
+    /// `wrap 0 0 1 p` gives `<doc><p>Hello</p></doc>`.
     Wrap {
         path: Path,
         from: u32,
@@ -18,41 +22,49 @@ pub enum Edit {
         name: Bytes,
     },
     /// Puts a new element without kids before kid `at`.
+    /// `insert 0 0 p` gives `<doc><p/>Hello</doc>`.
     Insert {
         path: Path,
         at: u32,
         name: Bytes,
     },
     /// Puts an element's kids in its place.
+    /// On `<doc><p>Hello</p></doc>`, `unwrap 0.0` gives `<doc>Hello</doc>`.
     Unwrap {
         path: Path,
     },
     /// Gives an element another name.
+    /// `rename 0 root` gives `<root>Hello</root>`.
     Rename {
         path: Path,
         name: Bytes,
     },
     /// Cuts a text before unit `at`.
+    /// `split 0.0 2` gives the texts `He` and `llo`.
     Split {
         path: Path,
         at: u32,
     },
     /// Joins a text and the text after it.
+    /// With the texts `He` and `llo`, `join 0.0` gives `Hello`.
     Join {
         path: Path,
     },
     /// Gives a text other bytes.
+    /// `text 0.0 Hi &amp; bye` gives `<doc>Hi &amp; bye</doc>`.
     SetText {
         path: Path,
         text: Bytes,
     },
     /// Puts a new text before kid `at`.
+    /// `addtext 0 1 , you` gives `<doc>Hello, you</doc>`, with two texts.
     AddText {
         path: Path,
         at: u32,
         text: Bytes,
     },
     /// Takes a text away.
+    /// `deltext 0.0` gives `<doc></doc>`.
     DelText {
         path: Path,
     },
@@ -60,6 +72,12 @@ pub enum Edit {
 
 impl Edit {
     /// An equal edit.
+    ///
+    /// ```rust
+    /// let edit = Edit::Unwrap { path: Path::new(alloc, &[0, 1])? };
+    /// assert!(rt; matches!(edit.copy(alloc)?, Edit::Unwrap { path }
+    ///     if path.places() == [0, 1].as_slice()));
+    /// ```
     pub fn copy(&self, alloc: Global) -> Result<Edit, NoMemory>
         ensures { IfOk result (λ e. e ≡ self.now) }
     {

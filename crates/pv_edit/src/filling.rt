@@ -16,6 +16,8 @@ use pv_tree::{End, Mark, Node};
 use std::alloc::Global;
 
 /// What comes in place of some kids.
+///
+/// An insertion has `Others`, a wrap `Around`, an unwrap `Inner` and a renaming `Named`.
 #[derive(Debug, Drop)]
 pub enum Filling {
     /// These nodes.

@@ -20,6 +20,13 @@ use std::alloc::Global;
 
 /// Whether an edit can be made on a document: `Ok` exactly where it gives one, and else its first
 /// reason.
+///
+/// ```rust
+/// let doc = read_doc(alloc, b"<doc>Hello</doc>", b"doc")?;
+/// let edit = Edit::Join { path: Path::new(alloc, &[0, 0])? };
+/// let reason = shape(alloc, &doc, &edit);
+/// assert!(rt; matches!(reason, Err(EditError::Shape(Reason::NotText))));
+/// ```
 pub fn shape(alloc: Global, doc: &Doc, edit: &Edit) -> Result<(), EditError>
     ensures { MatchResult result (λ _. IsGiven
         (edit_outcome blank_mark (plain_doc doc.now) edit.now))
@@ -31,6 +38,17 @@ pub fn shape(alloc: Global, doc: &Doc, edit: &Edit) -> Result<(), EditError>
 /// Makes an edit on a document, and gives what undoes it. After an error the document is as it was.
 ///
 /// New elements have blank marks, and all other marks stay.
+///
+/// ```rust
+/// // test_edit: edits_alone
+/// let mut doc = read_doc(alloc, b"<doc>Hello</doc>", b"doc")?;
+/// let path = Path::new(alloc, &[0])?;
+/// let edit = Edit::Insert { path, at: 0, name: bytes_of(alloc, b"head")? };
+/// let inverse = apply(alloc, &mut doc, &edit)?; // `<doc><head/>Hello</doc>`
+/// assert!(rt; doc.nodes() == 3);
+/// revert(alloc, &mut doc, &inverse)?;
+/// assert!(rt; doc.nodes() == 2);
+/// ```
 pub fn apply(alloc: Global, doc: &mut Doc, edit: &Edit) -> Result<Inverse, EditError>
     requires { nodes_in (plain_doc doc.old).root < MAX_NODES }
     ensures made { OnOk result (edit_outcome blank_mark (plain_doc doc.old) edit.now

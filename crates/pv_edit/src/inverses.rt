@@ -5,6 +5,9 @@ use pv_tree::{End, Path};
 
 /// What undoes an edit. Paths are those of the edited document. `short` tells that the element
 /// whose list was changed ended by `/>` before.
+///
+/// That of `wrap 0 0 1 p` is `TakeOut` at `[0, 0]`, and that of `split 0.0 2` is `Merge` at
+/// `[0, 0]`.
 #[derive(Debug, Drop)]
 pub enum Inverse {
     /// Puts an element's kids in its place.

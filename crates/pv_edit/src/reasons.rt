@@ -8,29 +8,44 @@ use std::alloc::{AllocError, AllocFailed};
 use thiserror::Error;
 
 /// Why an edit can't be made on a document.
+///
+/// The examples are lines of scripts on `<doc><head/><sec><p><em>]]</em>></p></sec></doc>` but
+/// where another document is named; `reasons_at_elements` and `reasons_at_texts` of test_edit have
+/// them.
 #[derive(Clone, Copy, Debug, PartialEq, Eq)]
 pub enum Reason {
     /// Nothing stands at the path.
+    /// Example: `unwrap 9`.
     NoNode,
     /// No element stands there.
+    /// Example: `unwrap 0.1.0.0.0`.
     NotElement,
     /// No text stands there, or none after it.
+    /// Example: `split 0.1 0`.
     NotText,
     /// A number is past the last kid or unit, or two are in the wrong order.
+    /// Example: `wrap 0 2 1 p`.
     Range,
     /// The new name is no Name (XML 1.0, section 2.3).
+    /// Example: `rename 0.1 1x`.
     BadName,
     /// The new text is empty, no character data, or holds a literal CR or LF.
+    /// Example: `text 0.1 a<b`, where a text stands at `0.1`.
     BadText,
     /// The document would not have one element as its root.
+    /// Example: `unwrap 0`.
     RootShape,
     /// More than 512 elements would stand one inside another.
+    /// Example: `insert P 0 em`, where P is the path of the innermost of 512 elements.
     Deep,
     /// Texts that stand side by side would spell `]]>` (XML 1.0, section 2.4).
+    /// Example: `unwrap 0.1.0.0`.
     CloseMark,
 }
 
 /// Why an edit isn't made.
+///
+/// A session prints the first as `no shape range`.
 #[derive(Debug, Drop, Error)]
 pub enum EditError {
     /// It can't be made; this is the first reason.

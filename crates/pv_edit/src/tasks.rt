@@ -17,6 +17,8 @@ use pv_tree::{Doc, End, Found, Node, Path};
 use std::alloc::Global;
 
 /// A change of one list: others come in place of the kids from one place up to another.
+///
+/// By `insert 0 0 head` no kid gives way: `from` and `to` are 0, and the filling is a new `head`.
 #[derive(Debug, Drop)]
 pub struct Change {
     pub from: usize,
@@ -27,6 +29,8 @@ pub struct Change {
 }
 
 /// A change of the list at a path.
+///
+/// By `rename 0.2 p` the list is that of the root, at `[0]`, and the change is of its third kid.
 #[derive(Debug, Drop)]
 pub struct Task {
     pub list: Path,
@@ -34,6 +38,9 @@ pub struct Task {
 }
 
 /// What an edit does, and what undoes it.
+///
+/// That of `wrap 0 0 1 p` puts a `p` around the first kid, and its inverse takes out the node at
+/// `[0, 0]`.
 #[derive(Debug, Drop)]
 pub struct Preparation {
     pub task: Task,
@@ -89,6 +96,11 @@ pub(crate) fn last_place(path: &[u32]) -> u32
 }
 
 /// The path of a kid.
+///
+/// ```rust
+/// let path = kid_path(alloc, &Path::new(alloc, &[0])?, 2)?;
+/// assert!(rt; path.places() == [0, 2].as_slice());
+/// ```
 pub fn kid_path(alloc: Global, path: &Path, place: u32) -> Result<Path, NoMemory>
     ensures { IfOk result (λ p. p ≡ path.now ++ place ∷ []) }
 {

@@ -36,6 +36,20 @@ use std::marker::Model;
 use std::sync::ledger::Ledger;
 
 /// A document under edits that leave no more of its lists impossible than before.
+///
+/// ```rust
+/// // as test_games begins its games
+/// let dtd = read_dtd(alloc, b"<!ELEMENT doc (head)><!ELEMENT head (#PCDATA)>")?;
+/// let grammar = build(alloc, dtd)?;
+/// let doc = read_doc(alloc, b"<doc>Hello</doc>", b"doc")?;
+/// let verdicts = check_doc(alloc, &grammar, b"doc", &doc, &mut steps)?;
+/// let root = bytes_of(alloc, b"doc")?;
+/// let mut session = Session::begin(alloc, grammar, root, doc, verdicts)?;
+/// assert!(rt; session.open_count() == 1);
+/// let path = Path::new(alloc, &[0])?;
+/// let edit = Edit::Wrap { path, from: 0, to: 1, name: bytes_of(alloc, b"head")? };
+/// assert!(rt; matches!(session.edit(&edit, &mut steps), Ok(done) if done.left == 0));
+/// ```
 #[derive(Drop)]
 pub struct Session {
     alloc: Global,
@@ -113,6 +127,9 @@ impl Session {
     /// Makes an edit, where it is accepted. After a refusal the session is as it was.
     ///
     /// Without memory the document is as it was. At most two lists are checked.
+    ///
+    /// On test_fixture's REALISTIC `wrap 0.3 0 3 p` checks two lists and leaves one Possible, and
+    /// `wrap 0.3 1 2 head` is refused (test_games, `a_realistic_document`).
     pub fn edit<L: Ledger>(&mut self, edit: &Edit, steps: &mut Steps<L>) -> Result<Done, EditAnswer>
         ensures stepped { MatchOption (edit_answer result) (self.new ≡ self.old)
             (λ answer. IsEditStep self.old edit.now answer self.new) }
@@ -139,6 +156,9 @@ impl Session {
 
     /// Takes the last edit of the past back, and keeps it for `redo`. At most two lists are
     /// checked.
+    ///
+    /// After `rename 0.3.2 list`, which leaves one list Possible, it checks two lists and leaves
+    /// none Possible (test_games, `a_realistic_document`).
     pub fn undo<L: Ledger>(&mut self, steps: &mut Steps<L>) -> Result<Done, BackAnswer>
         ensures stepped { MatchOption (back_answer result) (self.new ≡ self.old)
             (λ answer. IsUndoStep self.old answer self.new) }
@@ -168,6 +188,9 @@ impl Session {
     }
 
     /// Makes the last undone edit again. At most two lists are checked.
+    ///
+    /// With `wrap 0.3 0 3 p` undone first, it checks two lists and leaves one Possible, as the edit
+    /// did (test_games, `a_realistic_document`).
     pub fn redo<L: Ledger>(&mut self, steps: &mut Steps<L>) -> Result<Done, BackAnswer>
         ensures stepped { MatchOption (back_answer result) (self.new ≡ self.old)
             (λ answer. IsRedoStep self.old answer self.new) }
@@ -205,6 +228,8 @@ impl Session {
     }
 
     /// The edits since the document was opened, but for those that are undone, the oldest first.
+    ///
+    /// After `split 0.0 2` and `wrap 0 0 1 head` these two (test_session, `scripts`).
     pub fn history(&self) -> &[Edit]
         ensures { result.now ≡ self.now.past }
     {
@@ -219,6 +244,8 @@ impl Session {
     }
 
     /// The document as it is now; its marks tell the verdicts of its lists.
+    ///
+    /// After `wrap 0 0 1 head`, on `<doc>Hello</doc>`, it is `<doc><head>Hello</head></doc>`.
     pub fn doc(&self) -> &Doc
         ensures doc { stamps_of (plain_doc result.now) ≡ self.now.doc }
         ensures marked { ∥ IsWellMarked self.now.dtd self.now.root (plain_doc result.now) ∥₁ }
@@ -227,6 +254,8 @@ impl Session {
     }
 
     /// The root's name.
+    ///
+    /// That of a document `<doc>Hello</doc>` is `doc`.
     pub fn root(&self) -> &[u8]
         ensures { result.now ≡ self.now.root }
     {
@@ -241,6 +270,8 @@ impl Session {
     }
 
     /// How many lists of the document are Possible.
+    ///
+    /// On `<doc>Hello</doc>`, whose `doc` needs a `head`, 1; after `wrap 0 0 1 head` 0.
     pub fn open_count(&self) -> u64
         ensures { HasOpen (stamped_document self.now) result }
     {
@@ -248,6 +279,8 @@ impl Session {
     }
 
     /// How many lists of the document are Impossible.
+    ///
+    /// On `<doc><sec/><head/></doc>`, where a `head` has to come first, 1.
     pub fn bad_count(&self) -> u64
         ensures { HasBad (stamped_document self.now) result }
     {
@@ -255,6 +288,8 @@ impl Session {
     }
 
     /// The verdict of the list at a path; none where no list stands there.
+    ///
+    /// On `<doc>Hello</doc>` Possible at `[0]`, and none at `[0, 0]`, where a text stands.
     pub fn verdict_at(&self, path: &Path) -> Option<Verdict>
         ensures { MatchOption result (list_at path.now self.now.doc.root ≡ None)
             (IsVerdictAt self.now.dtd self.now.root self.now.doc path.now) }
@@ -263,6 +298,9 @@ impl Session {
     }
 
     /// The path, the verdict and the stamp of each list, in document order.
+    ///
+    /// After `split 0.0 2` and `wrap 0 0 1 head` the verdicts and stamps are Valid 0 at `[]`,
+    /// Possible 2 at `[0]` and Valid 2 at `[0, 0]` (test_session, `scripts`).
     pub fn verdict_rows(&self) -> Result<VerdictRows, NoMemory>
         ensures { IfOk result (AreRows (stamped_document self.now)) }
     {
@@ -270,6 +308,8 @@ impl Session {
     }
 
     /// The verdicts of all its lists, in document order, and the path of the first Impossible one.
+    ///
+    /// On `<doc><sec/><head/></doc>` the path of the first Impossible list is `[0]`.
     pub fn verdicts(&self) -> Result<Verdicts, NoMemory>
         ensures { IfOk result (TellVerdicts (stamped_document self.now)) }
     {

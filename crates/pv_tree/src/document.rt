@@ -15,6 +15,12 @@ use pv_chars::{Bytes, NoMemory, bytes_of};
 use std::alloc::Global;
 
 /// A document: the bytes before the root's tag, the root element, and the bytes after its end.
+///
+/// ```rust
+/// let doc = read_doc(alloc, b"<a/>\n", b"a")?; // test_rows: tells_the_smallest_document
+/// assert!(rt; doc.depth() == 1 && doc.nodes() == 1);
+/// assert!(rt; doc.after.as_slice() == b"\n".as_slice());
+/// ```
 #[derive(Debug, Drop)]
 pub struct Doc {
     pub before: Bytes,
@@ -40,6 +46,12 @@ impl Doc {
     ghost use Rattle.pv_tree.specs.PlainDocs.{plain_doc, plain_found};
 
     /// What stands at a path.
+    ///
+    /// ```rust
+    /// let doc = read_doc(alloc, b"<a> <b/>x</a>", b"a")?;
+    /// let path = Path::new(alloc, &[0, 2])?;
+    /// assert!(rt; matches!(doc.node_at(&path), Some(Found::Inner(Node::Text(_)))));
+    /// ```
     pub fn node_at(&self, path: &Path) -> Option<Found<'_>>
         ensures { option_map plain_found result ≡ spot_at path.now (plain_doc self.now).root }
     {
@@ -51,6 +63,12 @@ impl Doc {
     }
 
     /// The list at a path: that of the document node, or of an element.
+    ///
+    /// ```rust
+    /// let doc = read_doc(alloc, b"<a> <b/>x</a>", b"a")?;
+    /// let path = Path::new(alloc, &[0])?;
+    /// assert!(rt; doc.kids_at(&path).is_some_and(|kids| kids.len() == 3));
+    /// ```
     pub fn kids_at(&self, path: &Path) -> Option<&[Node]>
         ensures { option_map (λ kids. plain_all kids.now) result
             ≡ list_at path.now (plain_doc self.now).root }
@@ -63,6 +81,10 @@ impl Doc {
     }
 
     /// How many elements stand one inside another, the root included.
+    ///
+    /// ```rust
+    /// assert!(rt; read_doc(alloc, b"<a> <b/>x</a>", b"a")?.depth() == 2);
+    /// ```
     pub fn depth(&self) -> u32
         ensures { result ≡ depth_of (plain_doc self.now).root }
     {
@@ -70,6 +92,10 @@ impl Doc {
     }
 
     /// The number of nodes below the document node, the root included.
+    ///
+    /// ```rust
+    /// assert!(rt; read_doc(alloc, b"<a> <b/>x</a>", b"a")?.nodes() == 4);
+    /// ```
     pub fn nodes(&self) -> u64
         ensures { result ≡ nodes_in (plain_doc self.now).root }
     {
@@ -77,6 +103,11 @@ impl Doc {
     }
 
     /// An equal document with equal marks.
+    ///
+    /// ```rust
+    /// let doc = read_doc(alloc, b"<a> <b/>x</a>", b"a")?;
+    /// assert!(rt; doc.copy(alloc)?.nodes() == doc.nodes());
+    /// ```
     pub fn copy(&self, alloc: Global) -> Result<Doc, NoMemory>
         ensures { IfOk result (λ doc. plain_doc doc ≡ plain_doc self.now) }
     {

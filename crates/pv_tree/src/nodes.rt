@@ -16,6 +16,10 @@ use std::alloc::Global;
 
 /// What is known of a list. `Impossible` is asked first: a list may be valid by itself and
 /// be no part of any valid document, as that of an element whose name isn't productive.
+///
+/// With `<!ELEMENT doc (head, sec+)>`, where `head` holds text, the list of `doc` is Valid in
+/// `<doc><head/><sec/></doc>`, Possible in `<doc>Hello</doc>`, which a `head` around the text and a
+/// `sec` after it make valid, and Impossible in `<doc><sec/><head/></doc>`.
 #[derive(Clone, Copy, Debug, PartialEq, Eq)]
 pub enum Verdict {
     /// The list isn't `Impossible`, and it is valid by itself.
@@ -27,6 +31,10 @@ pub enum Verdict {
 }
 
 /// What an element's list was found to be. A mark is no part of a document's meaning.
+///
+/// ```rust
+/// assert!(rt; Mark::BLANK.verdict == Verdict::Valid && Mark::BLANK.nodes == 0);
+/// ```
 #[derive(Clone, Copy, Debug, PartialEq, Eq)]
 pub struct Mark {
     pub verdict: Verdict,
@@ -49,6 +57,8 @@ impl Mark {
 }
 
 /// How an element ends.
+///
+/// `<a/>` is `Short`, and `<a></a >` is `Tagged`, with one blank.
 #[derive(Debug, Drop)]
 pub enum End {
     /// By the `/>` of an empty-element tag.
@@ -61,6 +71,12 @@ pub enum End {
 pub type Nodes = Vec<Node>;
 
 /// A node of a document.
+///
+/// ```rust
+/// let doc = read_doc(alloc, b"<a id='1'><b/>x</a >", b"a")?;
+/// assert!(rt; matches!(&doc.root, Node::Elem { attrs, kids, .. }
+///     if attrs.as_slice() == b" id='1'".as_slice() && kids.len() == 2));
+/// ```
 #[derive(Debug, Drop)]
 pub enum Node {
     /// An element. `attrs` are the bytes between its name and `>` or `/>`.
@@ -81,6 +97,13 @@ pub enum Node {
 
 impl Node {
     /// Whether the node is a token in the word of its list.
+    ///
+    /// ```rust
+    /// let doc = read_doc(alloc, b"<a> <b/>x</a>", b"a")?;
+    /// let path = Path::new(alloc, &[0])?;
+    /// let kids = doc.kids_at(&path).unwrap_or(&[]);
+    /// assert!(rt; !kids[0].has_token() && kids[1].has_token() && kids[2].has_token());
+    /// ```
     pub fn has_token(&self) -> bool
         ensures shown { result ≡ has_token (head_of (plain self.now)) }
         ensures counted { (g : PlainDtd) (rest : List PlainToken) →

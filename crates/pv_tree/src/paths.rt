@@ -9,6 +9,11 @@ use std::marker::Model;
 /// A place, seen as the list of the numbers of the kids that lead to it from the document node.
 ///
 /// The empty path is the document node, `[0]` the root, and `[0, 2]` the root's third child node.
+///
+/// ```rust
+/// let path = Path::new(alloc, &[0, 2])?; // test_rows: keeps_places
+/// assert!(rt; path.places() == [0, 2].as_slice());
+/// ```
 #[derive(Debug, Drop)]
 pub struct Path {
     places: Vec<u32>,

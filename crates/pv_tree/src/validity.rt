@@ -25,6 +25,14 @@ use std::alloc::Global;
 
 /// The path of the first list, in document order, that isn't valid by itself; none where the
 /// document is valid.
+///
+/// ```rust
+/// // test_rows: a_word_and_an_invalid_list
+/// let dtd = read_dtd(alloc, b"<!ELEMENT a (#PCDATA|b)*><!ELEMENT b ANY>")?;
+/// let doc = read_doc(alloc, b"<a> <b/>x<c/></a>", b"a")?;
+/// let found = first_invalid(alloc, &dtd, b"a", &doc)?;
+/// assert!(rt; found.is_some_and(|path| path.places() == [0].as_slice()));
+/// ```
 pub fn first_invalid(
     alloc: Global,
     dtd: &Dtd,

@@ -14,6 +14,8 @@ use pv_chars::NoMemory;
 use std::alloc::Global;
 
 /// Whose list it is.
+///
+/// In `<a><b/></a>` the owners are the document node, `a` and `b`, in this order.
 #[derive(Clone, Copy, Debug)]
 pub enum OwnerName<'a> {
     /// That of the document node.
@@ -23,6 +25,8 @@ pub enum OwnerName<'a> {
 }
 
 /// A list of a document.
+///
+/// In `<a> <b/>x</a>` that of `a` has three kids: a text, `b` and a text.
 #[derive(Clone, Copy, Debug)]
 pub struct DocList<'a> {
     pub owner: OwnerName<'a>,
@@ -94,6 +98,14 @@ impl<'a> Levels<'a> {
 ///
 /// It keeps the levels above a list and no lists, so that its memory grows with the depth of the
 /// document alone.
+///
+/// ```rust
+/// let doc = read_doc(alloc, b"<a> <b/>x</a>", b"a")?;
+/// let mut lists = Lists::of(alloc, &doc);
+/// assert!(rt; matches!(lists.next()?, Some(DocList { owner: OwnerName::Document, .. })));
+/// assert!(rt; matches!(lists.next()?, Some(DocList { owner: OwnerName::Element(b"a"), .. })));
+/// assert!(rt; lists.path(alloc)?.places() == [0].as_slice());
+/// ```
 #[derive(Drop)]
 pub struct Lists<'a> {
     levels: Levels<'a>,

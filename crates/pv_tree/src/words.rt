@@ -21,6 +21,15 @@ pub type Tokens = List<Token>;
 
 /// The word of some nodes: an element by its name, data for a text with a data unit and for a
 /// CDATA section, and nothing for others.
+///
+/// ```rust
+/// // test_rows: a_word_and_an_invalid_list
+/// let dtd = read_dtd(alloc, b"<!ELEMENT a (#PCDATA|b)*><!ELEMENT b ANY>")?;
+/// let doc = read_doc(alloc, b"<a> <b/>x<c/></a>", b"a")?;
+/// let kids = doc.kids_at(&Path::new(alloc, &[0])?).unwrap_or(&[]);
+/// let tokens = [Token::Name(NameId(1)), Token::Text, Token::Other];
+/// assert!(rt; word(alloc, &dtd, kids)?.as_slice() == tokens.as_slice());
+/// ```
 pub fn word(alloc: Global, dtd: &Dtd, kids: &[Node]) -> Result<Tokens, NoMemory>
     ensures { IfOk result (λ tokens. map plain_token tokens
         ≡ word_of (plain_dtd dtd.now) (forest kids.now)) }
@@ -57,6 +66,12 @@ fn token_of(dtd: &Dtd, node: &Node) -> Option<Token>
 }
 
 /// The token of an element of this name.
+///
+/// ```rust
+/// let dtd = read_dtd(alloc, b"<!ELEMENT a (b)>")?;
+/// assert!(rt; name_token(&dtd, b"b") == Token::Name(NameId(1)));
+/// assert!(rt; name_token(&dtd, b"c") == Token::Other);
+/// ```
 pub fn name_token(dtd: &Dtd, name: &[u8]) -> Token
     ensures { plain_token result ≡ token (number_of (plain_dtd dtd.now) name.now) }
 {
