@@ -10,7 +10,7 @@ use crate::utf8::char_at;
 /// Whether the code point is a Char (XML 1.0, section 2.2).
 ///
 /// ```rust
-/// assert!(rt; is_char(0x41) && !is_char(0xFFFE)); // test_base: sets
+/// assert!(rt; is_char(0x41) && !is_char(0xFFFE)); // test_layers: sets
 /// ```
 pub fn is_char(c: u32) -> bool
     ensures { result ≡ is_char c }
@@ -21,7 +21,7 @@ pub fn is_char(c: u32) -> bool
 /// Whether a Name may begin with the code point (XML 1.0, section 2.3, NameStartChar).
 ///
 /// ```rust
-/// assert!(rt; is_name_start(0x5F) && !is_name_start(0x2D)); // test_base: sets
+/// assert!(rt; is_name_start(0x5F) && !is_name_start(0x2D)); // test_layers: sets
 /// ```
 pub fn is_name_start(c: u32) -> bool
     ensures { result ≡ is_name_start c }
@@ -38,7 +38,7 @@ pub fn is_name_start(c: u32) -> bool
 /// Whether the code point may stand in a Name (XML 1.0, section 2.3, NameChar).
 ///
 /// ```rust
-/// assert!(rt; is_name_char(0x2D) && !is_name_char(0x20)); // test_base: sets
+/// assert!(rt; is_name_char(0x2D) && !is_name_char(0x20)); // test_layers: sets
 /// ```
 pub fn is_name_char(c: u32) -> bool
     ensures { result ≡ is_name_char c }
@@ -82,7 +82,7 @@ fn are_ascii_chars(bytes: &[u8]) -> bool
 /// Whether the bytes are Chars, one after the other, in UTF-8 (XML 1.0, section 2.2).
 ///
 /// ```rust
-/// assert!(rt; are_chars("текст €\t".as_bytes()) && !are_chars(b"a\x00")); // test_base: scans
+/// assert!(rt; are_chars("текст €\t".as_bytes()) && !are_chars(b"a\x00")); // test_layers: scans
 /// ```
 pub fn are_chars(bytes: &[u8]) -> bool
     ensures { IsTrue result ↔ IsChars bytes.now }

@@ -22,7 +22,7 @@ fn is_quote(b: u8) -> bool
 /// The value in quotes at the front, without its quotes, and what stands after it.
 ///
 /// ```rust
-/// // test_base: fronts_with_parts
+/// // test_layers: fronts_with_parts
 /// assert!(rt; quoted_at(b"'a\"b'c") == Some((b"a\"b".as_slice(), b"c".as_slice())));
 /// ```
 pub fn quoted_at(bytes: &[u8]) -> Option<(&[u8], &[u8])>
@@ -134,7 +134,7 @@ pub fn after_standalone(bytes: &[u8]) -> Option<&[u8]>
 /// profile).
 ///
 /// ```rust
-/// // test_base: fronts
+/// // test_layers: fronts
 /// assert!(rt; after_text_decl(b"<?xml encoding = 'us-ASCII'?>") == Some(b"".as_slice()));
 /// ```
 pub fn after_text_decl(bytes: &[u8]) -> Option<&[u8]>
@@ -154,7 +154,7 @@ pub fn after_text_decl(bytes: &[u8]) -> Option<&[u8]>
 /// What stands after the XML declaration at the front (XML 1.0, section 2.8).
 ///
 /// ```rust
-/// // test_base: fronts
+/// // test_layers: fronts
 /// assert!(rt; after_xml_decl(b"<?xml version='1.10'?>c") == Some(b"c".as_slice()));
 /// assert!(rt; after_xml_decl(b"<?xml?>").is_none());
 /// ```

@@ -4,7 +4,7 @@
 /// place in bytes.
 ///
 /// ```rust
-/// // test_base: texts
+/// // test_layers: texts
 /// assert!(rt; matches!(text_units(alloc, b"a<b"), Err(TextError::BadChar(1))));
 /// assert!(rt; matches!(text_units(alloc, b"&lt;&nbsp;"), Err(TextError::Entity(4))));
 /// ```

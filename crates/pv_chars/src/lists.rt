@@ -9,7 +9,7 @@ use std::marker::Model;
 /// Values in order, seen as their list.
 ///
 /// ```rust
-/// let numbers = Numbers::of([1, 2].to_vec(alloc)?); // test_base: lists
+/// let numbers = Numbers::of([1, 2].to_vec(alloc)?); // test_layers: lists
 /// assert!(rt; numbers.as_slice() == [1, 2].as_slice());
 /// ```
 #[derive(Debug, Drop)]
@@ -50,7 +50,7 @@ pub type Numbers = List<u32>;
 /// A list of names.
 ///
 /// ```rust
-/// // test_base: labels
+/// // test_layers: labels
 /// let labels = Labels::of(vec![in alloc; bytes_of(alloc, b"em")?]?);
 /// assert!(rt; labels.as_slice()[0].as_slice() == b"em".as_slice());
 /// ```
@@ -59,7 +59,7 @@ pub type Labels = List<Bytes>;
 /// A copy of the bytes.
 ///
 /// ```rust
-/// assert!(rt; bytes_of(alloc, b"xyz")?.as_slice() == b"xyz".as_slice()); // test_base: lists
+/// assert!(rt; bytes_of(alloc, b"xyz")?.as_slice() == b"xyz".as_slice()); // test_layers: lists
 /// ```
 pub fn bytes_of(alloc: Global, bytes: &[u8]) -> Result<Bytes, NoMemory>
     ensures { IfOk result (λ b. b ≡ bytes.now) }

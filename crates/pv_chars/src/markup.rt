@@ -12,7 +12,7 @@ use crate::scan::{after_bytes, is_space};
 /// What stands after the comment at the front (XML 1.0, section 2.5).
 ///
 /// ```rust
-/// assert!(rt; after_comment(b"<!--a-b-->c") == Some(b"c".as_slice())); // test_base: fronts
+/// assert!(rt; after_comment(b"<!--a-b-->c") == Some(b"c".as_slice())); // test_layers: fronts
 /// assert!(rt; after_comment(b"<!--a--b-->").is_none());
 /// ```
 pub fn after_comment(bytes: &[u8]) -> Option<&[u8]>
@@ -40,7 +40,7 @@ fn is_behind_target(bytes: &[u8]) -> bool
 /// What stands after the processing instruction at the front (XML 1.0, section 2.6).
 ///
 /// ```rust
-/// assert!(rt; after_instruction(b"<?a?>c") == Some(b"c".as_slice())); // test_base: fronts
+/// assert!(rt; after_instruction(b"<?a?>c") == Some(b"c".as_slice())); // test_layers: fronts
 /// assert!(rt; after_instruction(b"<?XmL?>").is_none());
 /// ```
 pub fn after_instruction(bytes: &[u8]) -> Option<&[u8]>
@@ -62,7 +62,7 @@ pub fn after_instruction(bytes: &[u8]) -> Option<&[u8]>
 /// What stands after the CDATA section at the front (XML 1.0, section 2.7).
 ///
 /// ```rust
-/// // test_base: fronts
+/// // test_layers: fronts
 /// assert!(rt; after_cdata(b"<![CDATA[a]]]>c") == Some(b"c".as_slice()));
 /// ```
 pub fn after_cdata(bytes: &[u8]) -> Option<&[u8]>

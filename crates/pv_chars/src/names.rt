@@ -44,7 +44,7 @@ pub fn name_at(bytes: &[u8]) -> Option<(&[u8], &[u8])>
 /// Whether the bytes are a Name (XML 1.0, section 2.3).
 ///
 /// ```rust
-/// assert!(rt; is_name(b"_a.1-B") && !is_name(b"1a")); // test_base: names
+/// assert!(rt; is_name(b"_a.1-B") && !is_name(b"1a")); // test_layers: names
 /// ```
 pub fn is_name(bytes: &[u8]) -> bool
     ensures exact { IsTrue result ↔ IsName bytes.now }

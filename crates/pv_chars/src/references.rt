@@ -56,7 +56,7 @@ fn after_ref_in<'a>(base: u32, front: &[u8], bytes: &'a [u8]) -> Option<&'a [u8]
 /// may have any number of leading zeros.
 ///
 /// ```rust
-/// assert!(rt; after_char_ref(b"&#00065;c") == Some(b"c".as_slice())); // test_base: fronts
+/// assert!(rt; after_char_ref(b"&#00065;c") == Some(b"c".as_slice())); // test_layers: fronts
 /// assert!(rt; after_char_ref(b"&#0;").is_none());
 /// ```
 pub fn after_char_ref(bytes: &[u8]) -> Option<&[u8]>
@@ -73,7 +73,7 @@ pub fn after_char_ref(bytes: &[u8]) -> Option<&[u8]>
 /// stands after it.
 ///
 /// ```rust
-/// // test_base: fronts_with_parts
+/// // test_layers: fronts_with_parts
 /// assert!(rt; entity_ref_at(b"&lt;c") == Some((b"lt".as_slice(), b"c".as_slice())));
 /// ```
 pub fn entity_ref_at(bytes: &[u8]) -> Option<(&[u8], &[u8])>

@@ -21,7 +21,7 @@ pub fn is_space(b: u8) -> bool
 /// How many bytes at the front are white space.
 ///
 /// ```rust
-/// assert!(rt; space_length(b" \t\r\nx ") == 4); // test_base: scans
+/// assert!(rt; space_length(b" \t\r\nx ") == 4); // test_layers: scans
 /// ```
 #[tactic(auto, using(crate::proofs::Scanning::space_ends))]
 pub fn space_length(bytes: &[u8]) -> usize
@@ -57,7 +57,7 @@ pub fn after_space(bytes: &[u8]) -> &[u8]
 /// What stands after the white space at the front, where there is some.
 ///
 /// ```rust
-/// assert!(rt; after_blank(b" x") == Some(b"x".as_slice())); // test_base: fronts
+/// assert!(rt; after_blank(b" x") == Some(b"x".as_slice())); // test_layers: fronts
 /// assert!(rt; after_blank(b"x").is_none());
 /// ```
 #[tactic(auto, unfolding(crate::specs::Scan::after_blank))]

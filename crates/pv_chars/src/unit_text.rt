@@ -154,7 +154,7 @@ pub fn are_simple(bytes: &[u8]) -> bool
 /// data.
 ///
 /// ```rust
-/// // test_base: texts
+/// // test_layers: texts
 /// let units = text_units(alloc, "a &#32;é".as_bytes())?; // `a`, a space, `&#32;` and `é`
 /// assert!(rt; units.len() == 4 && units.has_data());
 /// ```
@@ -196,7 +196,7 @@ impl Units {
     /// Whether a data unit is among them.
     ///
     /// ```rust
-    /// assert!(rt; !text_units(alloc, b" \t\r\n")?.has_data()); // test_base: texts
+    /// assert!(rt; !text_units(alloc, b" \t\r\n")?.has_data()); // test_layers: texts
     /// assert!(rt; text_units(alloc, b"&#32;")?.has_data());
     /// ```
     pub fn has_data(&self) -> bool
@@ -218,7 +218,7 @@ impl Units {
     /// The units from number `from` up to but not including `to`.
     ///
     /// ```rust
-    /// let units = text_units(alloc, "a &#32;é".as_bytes())?; // test_base: parts_of_texts
+    /// let units = text_units(alloc, "a &#32;é".as_bytes())?; // test_layers: parts_of_texts
     /// assert!(rt; units.len() == 4);
     /// assert!(rt; units.part(alloc, 1, 3)?.bytes() == b" &#32;".as_slice());
     /// ```
@@ -235,7 +235,7 @@ impl Units {
     /// The units before number `at`, and the others.
     ///
     /// ```rust
-    /// let units = text_units(alloc, "a &#32;é".as_bytes())?; // test_base: halves_of_texts
+    /// let units = text_units(alloc, "a &#32;é".as_bytes())?; // test_layers: halves_of_texts
     /// assert!(rt; units.len() == 4);
     /// let (front, back) = units.cut(alloc, 3)?;
     /// assert!(rt; front.bytes() == b"a &#32;".as_slice() && back.bytes() == "é".as_bytes());
@@ -315,7 +315,7 @@ fn text_count(bytes: &[u8]) -> Result<usize, TextError>
 /// The units of a text, or the first fault from the left.
 ///
 /// ```rust
-/// assert!(rt; text_units(alloc, b"plain")?.len() == 5); // test_base: texts
+/// assert!(rt; text_units(alloc, b"plain")?.len() == 5); // test_layers: texts
 /// assert!(rt; matches!(text_units(alloc, b"a]]>b"), Err(TextError::CloseMark(1))));
 /// ```
 pub fn text_units(alloc: Global, bytes: &[u8]) -> Result<Units, TextError>

@@ -99,7 +99,7 @@ fn read_char(bytes: &[u8]) -> Option<(u32, &[u8])>
 /// The code point at the front, in UTF-8's shortest form, and what stands after it.
 ///
 /// ```rust
-/// // test_base: shortest_forms
+/// // test_layers: shortest_forms
 /// assert!(rt; char_at(b"\xDF\xBFx") == Some((0x7FF, b"x".as_slice())));
 /// assert!(rt; char_at(b"\xC0\x80").is_none());
 /// ```

@@ -11,7 +11,7 @@ use thiserror::Error;
 /// it, or want of memory.
 ///
 /// ```rust
-/// // test_dtd: faults
+/// // test_layers: faults
 /// let text = b"<!--x--><!ELEMENT a>";
 /// assert!(rt; matches!(read_dtd(alloc, text), Err(DtdError::Syntax(1))));
 /// let text = b"<!ELEMENT a (#PCDATA|b|b)*>";

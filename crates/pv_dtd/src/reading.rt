@@ -140,7 +140,7 @@ fn dtd_of(alloc: Global, bytes: &[u8]) -> Result<Dtd, DtdError>
 /// items before it.
 ///
 /// ```rust
-/// let text = b"<!ELEMENT a ANY><!ELEMENT a EMPTY>"; // test_dtd: faults
+/// let text = b"<!ELEMENT a ANY><!ELEMENT a EMPTY>"; // test_layers: faults
 /// assert!(rt; matches!(read_dtd(alloc, text), Err(DtdError::Twice(1))));
 /// assert!(rt; read_dtd(alloc, b"<!ELEMENT a (b)>")?.names() == 2);
 /// ```

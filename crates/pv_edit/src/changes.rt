@@ -32,7 +32,7 @@ use std::alloc::Global;
 /// The inverse leads back from each document that the change makes, whatever its marks are.
 ///
 /// ```rust
-/// // test_edit: steps_of_an_edit
+/// // test_layers: steps_of_an_edit
 /// let mut doc = read_doc(alloc, b"<doc>Hello</doc>", b"doc")?;
 /// let path = Path::new(alloc, &[0])?;
 /// let edit = Edit::Insert { path, at: 0, name: bytes_of(alloc, b"head")? };

@@ -9,7 +9,7 @@ use std::alloc::Global;
 
 /// A change that a user can make. Places are numbers of kids, counted from 0.
 ///
-/// The examples are lines of scripts, as the tests of test_edit read them. They are on
+/// The examples are lines of scripts, as the tests of test_layers read them. They are on
 /// `<doc>Hello</doc>` but where another document is named.
 #[derive(Debug, Drop)]
 pub enum Edit {

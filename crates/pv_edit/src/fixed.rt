@@ -40,7 +40,7 @@ pub fn shape(alloc: Global, doc: &Doc, edit: &Edit) -> Result<(), EditError>
 /// New elements have blank marks, and all other marks stay.
 ///
 /// ```rust
-/// // test_edit: edits_alone
+/// // test_layers: edits_alone
 /// let mut doc = read_doc(alloc, b"<doc>Hello</doc>", b"doc")?;
 /// let path = Path::new(alloc, &[0])?;
 /// let edit = Edit::Insert { path, at: 0, name: bytes_of(alloc, b"head")? };

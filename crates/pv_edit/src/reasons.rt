@@ -10,8 +10,8 @@ use thiserror::Error;
 /// Why an edit can't be made on a document.
 ///
 /// The examples are lines of scripts on `<doc><head/><sec><p><em>]]</em>></p></sec></doc>` but
-/// where another document is named; `reasons_at_elements` and `reasons_at_texts` of test_edit have
-/// them.
+/// where another document is named; `reasons_at_elements` and `reasons_at_texts` of test_layers
+/// have them.
 #[derive(Clone, Copy, Debug, PartialEq, Eq)]
 pub enum Reason {
     /// Nothing stands at the path.

@@ -38,7 +38,7 @@ use std::sync::ledger::Ledger;
 /// A document under edits that leave no more of its lists impossible than before.
 ///
 /// ```rust
-/// // as test_games begins its games
+/// // as test_lists begins its games
 /// let dtd = read_dtd(alloc, b"<!ELEMENT doc (head)><!ELEMENT head (#PCDATA)>")?;
 /// let grammar = build(alloc, dtd)?;
 /// let doc = read_doc(alloc, b"<doc>Hello</doc>", b"doc")?;
@@ -129,7 +129,7 @@ impl Session {
     /// Without memory the document is as it was. At most two lists are checked.
     ///
     /// On test_fixture's REALISTIC `wrap 0.3 0 3 p` checks two lists and leaves one Possible, and
-    /// `wrap 0.3 1 2 head` is refused (test_games, `a_realistic_document`).
+    /// `wrap 0.3 1 2 head` is refused (test_lists, `a_realistic_document`).
     pub fn edit<L: Ledger>(&mut self, edit: &Edit, steps: &mut Steps<L>) -> Result<Done, EditAnswer>
         ensures stepped { MatchOption (edit_answer result) (self.new ≡ self.old)
             (λ answer. IsEditStep self.old edit.now answer self.new) }
@@ -158,7 +158,7 @@ impl Session {
     /// checked.
     ///
     /// After `rename 0.3.2 list`, which leaves one list Possible, it checks two lists and leaves
-    /// none Possible (test_games, `a_realistic_document`).
+    /// none Possible (test_lists, `a_realistic_document`).
     pub fn undo<L: Ledger>(&mut self, steps: &mut Steps<L>) -> Result<Done, BackAnswer>
         ensures stepped { MatchOption (back_answer result) (self.new ≡ self.old)
             (λ answer. IsUndoStep self.old answer self.new) }
@@ -190,7 +190,7 @@ impl Session {
     /// Makes the last undone edit again. At most two lists are checked.
     ///
     /// With `wrap 0.3 0 3 p` undone first, it checks two lists and leaves one Possible, as the edit
-    /// did (test_games, `a_realistic_document`).
+    /// did (test_lists, `a_realistic_document`).
     pub fn redo<L: Ledger>(&mut self, steps: &mut Steps<L>) -> Result<Done, BackAnswer>
         ensures stepped { MatchOption (back_answer result) (self.new ≡ self.old)
             (λ answer. IsRedoStep self.old answer self.new) }
@@ -229,7 +229,7 @@ impl Session {
 
     /// The edits since the document was opened, but for those that are undone, the oldest first.
     ///
-    /// After `split 0.0 2` and `wrap 0 0 1 head` these two (test_session, `scripts`).
+    /// After `split 0.0 2` and `wrap 0 0 1 head` these two (test_rows, `scripts`).
     pub fn history(&self) -> &[Edit]
         ensures { result.now ≡ self.now.past }
     {
@@ -300,7 +300,7 @@ impl Session {
     /// The path, the verdict and the stamp of each list, in document order.
     ///
     /// After `split 0.0 2` and `wrap 0 0 1 head` the verdicts and stamps are Valid 0 at `[]`,
-    /// Possible 2 at `[0]` and Valid 2 at `[0, 0]` (test_session, `scripts`).
+    /// Possible 2 at `[0]` and Valid 2 at `[0, 0]` (test_rows, `scripts`).
     pub fn verdict_rows(&self) -> Result<VerdictRows, NoMemory>
         ensures { IfOk result (AreRows (stamped_document self.now)) }
     {
