@@ -11,14 +11,14 @@ use Rattle.pv_rules.specs.Derivations.{IsClosed, heaviest, sum_of}
 use Rattle.pv_rules.specs.Rules.{IsSpan}
 use Rattle.pv_rules.proofs.Derived.{closed_below}
 use Rattle.pv_productive.specs.PlainForms.{dtd_of}
-use Rattle.pv_span.specs.Columns.{column_of}
-use Rattle.pv_span.specs.ColumnRules.{Cell, ColumnRule, FormRule, ToOne, ToText, ToTwo, cell}
-use Rattle.pv_span.specs.Forms.{PlainForm, form_at, of_element, of_none, of_nothing, of_one, of_opt, of_plus, of_star, of_two}
-use Rattle.pv_span.specs.FormForms.{plain_all, plain_form}
-use Rattle.pv_span.specs.Laws.{ColumnsDerive}
-use Rattle.pv_span.specs.SiteForms.{plain_sites}
-use Rattle.pv_span.specs.declared.layout.ColumnLayout.{ColumnLayout}
-use Rattle.pv_span.proofs.ColumnFacts.{column_spans}
+use Rattle.pv_layout.specs.Columns.{column_of}
+use Rattle.pv_layout.specs.ColumnRules.{Cell, ColumnRule, FormRule, ToOne, ToText, ToTwo, cell}
+use Rattle.pv_layout.specs.Forms.{PlainForm, form_at, of_element, of_none, of_nothing, of_one, of_opt, of_plus, of_star, of_two}
+use Rattle.pv_layout.specs.FormForms.{plain_all, plain_form}
+use Rattle.pv_layout.specs.Laws.{ColumnsDerive}
+use Rattle.pv_layout.specs.SiteForms.{plain_sites}
+use Rattle.pv_layout.specs.declared.layout.ColumnLayout.{ColumnLayout}
+use Rattle.pv_layout.proofs.ColumnFacts.{column_spans}
 use Rattle.pv_bounds.specs.Bounds.{IsBelowSites}
 use Rattle.pv_bounds.specs.Fronts.{cost_from, empty_cost, front_cost, front_value, reaches_at}
 use Rattle.pv_bounds.specs.HoldingForms.{ColumnHolds, CostsNoMore, CutsHold, EmptyHolds, FormCutsHold, TextsHold}

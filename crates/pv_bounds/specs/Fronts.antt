@@ -3,10 +3,10 @@ use Rattle.std.specs.Prelude.{List, None, Option, Some, [], length, min, nat_le,
 use Rattle.std.specs.Prelude.{slice_index_or, slice_range, suc, ℕ, if◌then◌else◌, ◌&&◌, ◌∷◌}
 use Rattle.pv_rules.specs.Derivations.{heaviest}
 use Rattle.pv_rules.specs.Rules.{Goal}
-use Rattle.pv_span.specs.ColumnRules.{Cell, cell}
-use Rattle.pv_span.specs.Columns.{column_of}
-use Rattle.pv_span.specs.SiteForms.{plain_sites}
-use Rattle.pv_span.specs.declared.layout.ColumnLayout.{ColumnLayout}
+use Rattle.pv_layout.specs.ColumnRules.{Cell, cell}
+use Rattle.pv_layout.specs.Columns.{column_of}
+use Rattle.pv_layout.specs.SiteForms.{plain_sites}
+use Rattle.pv_layout.specs.declared.layout.ColumnLayout.{ColumnLayout}
 use Rattle.pv_bounds.specs.declared.fronts.Fronts.{Fronts}
 use Rattle.pv_bounds.specs.declared.fronts.Reach.{Reach}
 use Rattle.pv_bounds.specs.declared.fronts.Row.{Row}

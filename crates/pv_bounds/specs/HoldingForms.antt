@@ -3,9 +3,9 @@
 -- tokens from one place up to another, or farther.
 use Rattle.std.specs.Prelude.{List, Some, length, slice_get, suc, true, ℕ, ◌+◌, ◌<◌, ◌≡◌, ◌≤◌}
 use Rattle.pv_model.specs.Plain.{PlainToken, named, text}
-use Rattle.pv_span.specs.ColumnRules.{IsOneOf}
-use Rattle.pv_span.specs.Forms.{PlainForm, of_element, of_none, of_nothing, of_one, of_opt, of_plus}
-use Rattle.pv_span.specs.Forms.{of_star, of_two}
+use Rattle.pv_layout.specs.ColumnRules.{IsOneOf}
+use Rattle.pv_layout.specs.Forms.{PlainForm, of_element, of_none, of_nothing, of_one, of_opt, of_plus}
+use Rattle.pv_layout.specs.Forms.{of_star, of_two}
 
 -- column c, over no tokens
 abbrev pub EmptyHolds : (ℕ → ℕ) → ℕ → PlainForm → Type 0

@@ -6,8 +6,8 @@ ghost use Rattle.pv_rules.specs.Rules.{over};
 ghost use Rattle.pv_bounds.specs.Fronts.{front_value};
 
 use crate::fronts::Fronts;
+use pv_layout::ColumnLayout;
 use pv_rules::Site;
-use pv_span::ColumnLayout;
 
 /// What fronts tell of a site over a whole word of so many tokens: where they are closed, how many
 /// elements are missing there at least. It is 1,000,001 where they tell of no way.

@@ -3,9 +3,9 @@
 ghost use Rattle.std.specs.Prelude.{◌≡◌, ◌≤◌, ◌<◌, ℕ, IfOk, IsTrue, length, map};
 ghost use Rattle.pv_model.specs.PlainForms.{plain_token};
 ghost use Rattle.pv_productive.specs.PlainForms.{dtd_of};
-ghost use Rattle.pv_span.specs.Columns.{no_column};
-ghost use Rattle.pv_span.specs.FormForms.{plain_all, plain_form};
-ghost use Rattle.pv_span.specs.Forms.{form_at};
+ghost use Rattle.pv_layout.specs.Columns.{no_column};
+ghost use Rattle.pv_layout.specs.FormForms.{plain_all, plain_form};
+ghost use Rattle.pv_layout.specs.Forms.{form_at};
 ghost use Rattle.pv_bounds.specs.Bounds.{IsBelowSites};
 ghost use Rattle.pv_bounds.specs.Fronts.{cost_from, empty_cost, front_value};
 ghost use Rattle.pv_bounds.specs.HoldingForms.{ColumnHolds, FormCutsHold};
@@ -16,9 +16,9 @@ use crate::cuts::form_cuts_hold;
 use crate::empties::empties_hold;
 use crate::fronts::Fronts;
 use pv_chars::NoMemory;
+use pv_layout::laws::columns_derive_law;
+use pv_layout::{ColumnLayout, Form};
 use pv_model::Token;
-use pv_span::laws::columns_derive_law;
-use pv_span::{ColumnLayout, Form};
 use std::alloc::Global;
 
 // Whether a column, in which this stands, costs no more than its rules lead to over the tokens from

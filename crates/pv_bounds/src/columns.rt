@@ -3,16 +3,16 @@
 ghost use Rattle.std.specs.Prelude.{◌≡◌, ◌<◌, ℕ, IsTrue, Some, map, slice_get, suc};
 ghost use Rattle.pv_model.specs.Plain.{named};
 ghost use Rattle.pv_model.specs.PlainForms.{plain_token};
-ghost use Rattle.pv_span.specs.ColumnRules.{IsOneOf};
-ghost use Rattle.pv_span.specs.FormForms.{plain_form};
-ghost use Rattle.pv_span.specs.Forms.{of_star, of_two};
+ghost use Rattle.pv_layout.specs.ColumnRules.{IsOneOf};
+ghost use Rattle.pv_layout.specs.FormForms.{plain_form};
+ghost use Rattle.pv_layout.specs.Forms.{of_star, of_two};
 ghost use Rattle.pv_bounds.specs.Fronts.{cost_from, empty_cost};
 ghost use Rattle.pv_bounds.specs.HoldingForms.{ColumnHolds, CostsNoMore, TextsHold};
 
 use crate::claim::Claim;
 use crate::covers::covers;
+use pv_layout::Form;
 use pv_model::{NameId, is_element_over, is_text_at};
-use pv_span::Form;
 
 // Whether a column costs no more than another over the same tokens, and so much.
 fn costs_no_more(claim: &Claim<'_>, column: u32, other: u32, extra: u32, place: u32) -> bool

@@ -2,7 +2,7 @@
 
 ghost use Rattle.std.specs.Prelude.{◌≡◌, ◌≤◌, ◌+◌, ◌<◌, ℕ, IfOk, IsTrue, length, map, suc};
 ghost use Rattle.pv_model.specs.PlainForms.{plain_token};
-ghost use Rattle.pv_span.specs.FormForms.{plain_form};
+ghost use Rattle.pv_layout.specs.FormForms.{plain_form};
 ghost use Rattle.pv_bounds.specs.Fronts.{cost_from, empty_cost, least_to};
 ghost use Rattle.pv_bounds.specs.HoldingForms.{CutsHold, FormCutsHold};
 ghost use Rattle.pv_bounds.specs.Windows.{AllFalling, AreFalling, IsWindow, TellsEnd, TellsReach};
@@ -13,7 +13,7 @@ use crate::covers::is_within;
 use crate::fronts::{Reach, least_to};
 use crate::windows::{Level, end_by, furthest, tell_all};
 use pv_chars::NoMemory;
-use pv_span::Form;
+use pv_layout::Form;
 use std::alloc::Global;
 
 /// The reaches of a column at a place, with what it costs up to a far place.

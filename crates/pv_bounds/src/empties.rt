@@ -1,15 +1,15 @@
 //! Whether columns cost no more than their rules lead to over no tokens.
 
 ghost use Rattle.std.specs.Prelude.{◌≡◌, ◌≤◌, ◌<◌, ℕ, IsTrue, length};
-ghost use Rattle.pv_span.specs.ColumnRules.{IsOneOf};
-ghost use Rattle.pv_span.specs.Columns.{no_column};
-ghost use Rattle.pv_span.specs.FormForms.{plain_all, plain_form};
-ghost use Rattle.pv_span.specs.Forms.{form_at};
+ghost use Rattle.pv_layout.specs.ColumnRules.{IsOneOf};
+ghost use Rattle.pv_layout.specs.Columns.{no_column};
+ghost use Rattle.pv_layout.specs.FormForms.{plain_all, plain_form};
+ghost use Rattle.pv_layout.specs.Forms.{form_at};
 ghost use Rattle.pv_bounds.specs.Fronts.{empty_cost};
 ghost use Rattle.pv_bounds.specs.HoldingForms.{EmptyHolds};
 
 use crate::fronts::Fronts;
-use pv_span::Form;
+use pv_layout::Form;
 
 // Whether each of some columns costs no less.
 fn members_cost(fronts: &Fronts, cost: u32, members: &[u32]) -> bool

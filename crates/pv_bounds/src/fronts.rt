@@ -1,7 +1,7 @@
 //! Fronts: how far each column reaches at each place, for each cost.
 
 ghost use Rattle.std.specs.Prelude.{◌≡◌, slice_index_or};
-ghost use Rattle.pv_span.specs.ColumnRules.{cell};
+ghost use Rattle.pv_layout.specs.ColumnRules.{cell};
 ghost use Rattle.pv_bounds.specs.Fronts.{cost_up_to, empty_cost, front_cost, least_to, reaches_at};
 ghost use Rattle.pv_bounds.specs.Fronts.{reaches_in};
 

@@ -2,7 +2,7 @@
 //!
 //! Of a list that is too wide for weights over all spans, fronts claim of each column at each place
 //! how far it reaches, and at what cost (`specs/Fronts.antt`). Whoever made them, `are_closed` tests
-//! them against the rules of columns (specs of pv_span): then no column derives anything at less
+//! them against the rules of columns (specs of pv_layout): then no column derives anything at less
 //! than they say (`specs/Bounds.antt`), and `bound` tells how many elements are missing in a list
 //! at least. That fronts hold says nothing of how near they are.
 #![tactic(auto)]

@@ -1,7 +1,7 @@
 -- What is remembered of a grammar from one `need` to the next.
 use Rattle.std.specs.Prelude.{IfSome}
 use Rattle.pv_dtd.specs.Plain.{PlainDtd}
-use Rattle.pv_span.specs.KeptColumns.{AreColumnsOf}
+use Rattle.pv_layout.specs.KeptColumns.{AreColumnsOf}
 use Rattle.pv_complete.specs.KnownWeights.{AreKnown}
 use Rattle.pv_complete.specs.declared.missing.remembering.Remembered.{Remembered}
 

@@ -22,10 +22,10 @@ use crate::pieces::Piece;
 use pv_bounds::laws::below_sites_law;
 use pv_bounds::{Fronts, are_closed, bound};
 use pv_chars::NoMemory;
+use pv_layout::ColumnLayout;
 use pv_missing::{Of, Verdicts, element_owner, root_owner};
 use pv_model::Token;
 use pv_rules::Site;
-use pv_span::ColumnLayout;
 use pv_tree::{Doc, Mark, Node, Verdict, word};
 use std::alloc::Global;
 

@@ -18,11 +18,11 @@ use crate::making::plan::plan_of;
 use crate::making::writing::{Plenty, Text, write_doc};
 use pv_dtd::Dtd;
 use pv_fresh::{PossibleError, possible_verdicts};
+use pv_layout::lay_out;
 use pv_missing::Verdicts;
 use pv_missing::laws::documents::bounds_add_up_law;
 use pv_missing::laws::proper::proper_doc_law;
 use pv_productive::Grammar;
-use pv_span::lay_out;
 use pv_tree::{Doc, Mark};
 use std::alloc::Global;
 

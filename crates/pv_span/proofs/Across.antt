@@ -9,11 +9,11 @@ use Rattle.std.proofs.lemmas.List.FromFn.{fill_by_all, get_or-map-range_with_len
 use Rattle.std.proofs.lemmas.Nat.{rows, same_from_place}
 use Rattle.pv_productive.specs.Tables.{no_size, size_at}
 use Rattle.pv_span.specs.Charts.{AreFew, span_number}
-use Rattle.pv_span.specs.ColumnRules.{cell}
+use Rattle.pv_layout.specs.ColumnRules.{cell}
 use Rattle.pv_span.specs.DoneSpans.{cells_across, row_of, rows_done}
 use Rattle.pv_span.specs.Lines.{done_value}
 use Rattle.pv_span.specs.declared.done.DoneSpans.{DoneSpans}
-use Rattle.pv_span.proofs.Putting.{each_cell}
+use Rattle.pv_layout.proofs.Putting.{each_cell}
 
 module _ (cells : List ℕ) (columns spans k : ℕ) where
   abbrev value : ℕ → ℕ

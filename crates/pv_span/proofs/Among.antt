@@ -4,7 +4,7 @@ use Rattle.std.proofs.Common.{List, Some, arith, get_or, inl, inr, length, slice
 use Rattle.std.proofs.lemmas.Bool.{cases_lt}
 use Rattle.std.proofs.lemmas.Option.{slice_get-get_or, slice_get_within}
 use Rattle.pv_productive.specs.Tables.{no_size}
-use Rattle.pv_span.specs.ColumnRules.{Cell, IsOneOf, cell}
+use Rattle.pv_layout.specs.ColumnRules.{Cell, IsOneOf, cell}
 use Rattle.pv_span.specs.Least.{IsLeastMember}
 
 -- k is the least value of the first n columns

@@ -3,7 +3,7 @@ use Rattle.std.specs.Prelude.{min}
 use Rattle.std.proofs.Common.{arith, inl, inr, suc, ℕ, ◌+◌, ◌<◌, ◌≡◌, ◌≤◌, ◌⊎◌}
 use Rattle.std.proofs.lemmas.Bool.{cases_lt}
 use Rattle.pv_productive.specs.Tables.{no_size}
-use Rattle.pv_span.specs.ColumnRules.{Cell, cell}
+use Rattle.pv_layout.specs.ColumnRules.{Cell, cell}
 use Rattle.pv_span.specs.Least.{IsLeastCut}
 
 last_or : (m p : ℕ) → m < suc p → (m < p) ⊎ (m ≡ p)

@@ -13,9 +13,9 @@ use Rattle.pv_rules.proofs.Derived.{closed_below, held}
 use Rattle.pv_productive.specs.Tables.{capped, no_size, size_at}
 use Rattle.pv_productive.proofs.Cutting.{cut_few}
 use Rattle.pv_span.specs.Charts.{AreSettled, HasValue, IsAttainedChart, IsDone, IsFilled, HasDone, IsSettledAt, IsSoundChart, PlainChart, row_of_span, span_number, spans_before, value_of}
-use Rattle.pv_span.specs.ColumnRules.{Cell, ColumnRule, cell}
-use Rattle.pv_span.specs.Forms.{PlainForm, form_at, of_none}
-use Rattle.pv_span.proofs.ColumnFacts.{column_spans, small_columns}
+use Rattle.pv_layout.specs.ColumnRules.{Cell, ColumnRule, cell}
+use Rattle.pv_layout.specs.Forms.{PlainForm, form_at, of_none}
+use Rattle.pv_layout.proofs.ColumnFacts.{column_spans, small_columns}
 use Rattle.pv_span.proofs.Numbering.{later_spans, within}
 use Rattle.pv_span.proofs.Settling.{at_hand, resound}
 

@@ -10,15 +10,15 @@ use Rattle.pv_rules.specs.Derivations.{sum_of}
 use Rattle.pv_productive.specs.Tables.{IsLowered, capped, no_size, size_at}
 use Rattle.pv_productive.proofs.Cutting.{cut_few, cut_many, cut_mono}
 use Rattle.pv_span.specs.Charts.{AreSettled, IsAttainedChart, PlainChart, span_number, value_of}
-use Rattle.pv_span.specs.ColumnRules.{Cell, ColumnRule, IsRightSide, IsOneOf, cell}
-use Rattle.pv_span.specs.Forms.{PlainForm, form_at, of_none}
-use Rattle.pv_span.specs.Mentions.{columns_mentioned}
+use Rattle.pv_layout.specs.ColumnRules.{Cell, ColumnRule, IsRightSide, IsOneOf, cell}
+use Rattle.pv_layout.specs.Forms.{PlainForm, form_at, of_none}
+use Rattle.pv_layout.specs.Mentions.{columns_mentioned}
 use Rattle.pv_span.specs.Waits.{AllWait, AreHeld, HaveFallen, IsHeld, IsHeldBy, IsHeldFrom, IsToldByOthers, Waits}
 use Rattle.pv_span.specs.declared.waiting.Waiting.{Waiting}
-use Rattle.pv_span.proofs.ColumnFacts.{column_spans}
-use Rattle.pv_span.proofs.Mentioned.{mentions_right}
+use Rattle.pv_layout.proofs.ColumnFacts.{column_spans}
+use Rattle.pv_layout.proofs.Mentioning.{mentions_right}
 use Rattle.pv_span.proofs.Numbering.{strictly_within}
-use Rattle.pv_span.proofs.Putting.{same_or_not}
+use Rattle.pv_layout.proofs.Putting.{same_or_not}
 use Rattle.pv_span.proofs.Settling.{at_hand}
 
 -- a value that is lowered to v

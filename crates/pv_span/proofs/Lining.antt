@@ -6,7 +6,7 @@ use Rattle.std.proofs.lemmas.List.{get_or_default}
 use Rattle.std.proofs.Math.ListN.{get_or-append}
 use Rattle.pv_productive.specs.Tables.{no_size, size_at}
 use Rattle.pv_span.specs.Charts.{PlainChart, span_number, value_of}
-use Rattle.pv_span.specs.ColumnRules.{Cell, cell}
+use Rattle.pv_layout.specs.ColumnRules.{Cell, cell}
 use Rattle.pv_span.specs.Least.{IsLeastCut}
 use Rattle.pv_span.specs.Lines.{IsBlankLine, IsLine, done_value, least_cut}
 use Rattle.pv_span.specs.declared.lines.Line.{Line}

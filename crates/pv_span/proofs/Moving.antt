@@ -9,12 +9,12 @@ use Rattle.pv_rules.specs.Derivations.{sum_of}
 use Rattle.pv_rules.proofs.Derived.{HaveAll, passed}
 use Rattle.pv_productive.proofs.Cutting.{cut_few}
 use Rattle.pv_span.specs.Charts.{IsDone, IsSoundChart, PlainChart, span_number, value_of}
-use Rattle.pv_span.specs.ColumnRules.{Cell, ColumnRule, FormRule, ToNone, ToOne, ToText, ToTwo}
-use Rattle.pv_span.specs.ColumnRules.{cell}
-use Rattle.pv_span.specs.Forms.{PlainForm, form_at, of_element, of_none, of_nothing, of_one, of_opt}
-use Rattle.pv_span.specs.Forms.{of_plus, of_star, of_two}
+use Rattle.pv_layout.specs.ColumnRules.{Cell, ColumnRule, FormRule, ToNone, ToOne, ToText, ToTwo}
+use Rattle.pv_layout.specs.ColumnRules.{cell}
+use Rattle.pv_layout.specs.Forms.{PlainForm, form_at, of_element, of_none, of_nothing, of_one, of_opt}
+use Rattle.pv_layout.specs.Forms.{of_plus, of_star, of_two}
 use Rattle.pv_span.specs.Repeats.{AreSameFrom}
-use Rattle.pv_span.proofs.ColumnFacts.{column_spans, small_columns}
+use Rattle.pv_layout.proofs.ColumnFacts.{column_spans, small_columns}
 use Rattle.pv_span.proofs.Numbering.{within}
 
 -- the n tokens from p on are those from q on

@@ -1,7 +1,7 @@
 -- Columns whose rules go over to one other column over the same span.
 use Rattle.std.proofs.Common.{List, Some, arith, inl, inr, slice_get, suc, ℕ, ◌<◌, ◌≡◌}
 use Rattle.pv_model.specs.Plain.{PlainToken, named}
-use Rattle.pv_span.specs.Forms.{of_element, of_none, of_nothing, of_one, of_opt}
+use Rattle.pv_layout.specs.Forms.{of_element, of_none, of_nothing, of_one, of_opt}
 use Rattle.pv_span.specs.Waits.{IsToldByOthers}
 
 module _ (w : List PlainToken) (i j : ℕ) where

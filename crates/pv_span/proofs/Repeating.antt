@@ -13,15 +13,15 @@ use Rattle.pv_productive.specs.Tables.{no_size, size_at}
 use Rattle.pv_productive.proofs.Cutting.{cut_few, cut_many}
 use Rattle.pv_span.specs.Charts.{AreSettled, HasValue, IsAttainedChart, IsSettledAt}
 use Rattle.pv_span.specs.Charts.{PlainChart, span_number, value_of}
-use Rattle.pv_span.specs.ColumnRules.{ColumnRule, cell}
+use Rattle.pv_layout.specs.ColumnRules.{ColumnRule, cell}
 use Rattle.pv_span.specs.DoneSpans.{rows_done}
-use Rattle.pv_span.specs.Forms.{PlainForm}
+use Rattle.pv_layout.specs.Forms.{PlainForm}
 use Rattle.pv_span.specs.PlainForms.{DiffersInRow, IsAttainedSoFar, plain_chart}
 use Rattle.pv_span.specs.Repeats.{AreSameTokens, AreSameFrom, StandAgain}
 use Rattle.pv_span.specs.declared.charts.Chart.{Chart}
 use Rattle.pv_span.specs.declared.repeats.Repeats.{Repeats}
 use Rattle.pv_span.proofs.Across.{rows_count}
-use Rattle.pv_span.proofs.ColumnFacts.{column_spans}
+use Rattle.pv_layout.proofs.ColumnFacts.{column_spans}
 use Rattle.pv_span.proofs.Moving.{derives_moved, value_moved}
 use Rattle.pv_span.proofs.Settling.{all_attained, at_hand, resound}
 

@@ -10,12 +10,12 @@ use Rattle.pv_rules.specs.Derivations.{DeriveAll, by_rule, heaviest, none_left, 
 use Rattle.pv_productive.specs.Tables.{IsLowered, capped, no_size, size_at}
 use Rattle.pv_productive.proofs.Cutting.{cut_below, cut_few, cut_least, cut_mono}
 use Rattle.pv_span.specs.Charts.{AreSettled, AreSettledFrom, HasValue, IsAttainedChart, IsDone, IsSettling, IsSettledAt, IsSoundChart, PlainChart, row_of_span, span_number, value_of}
-use Rattle.pv_span.specs.ColumnRules.{Cell, ColumnRule, cell}
-use Rattle.pv_span.specs.Forms.{PlainForm}
+use Rattle.pv_layout.specs.ColumnRules.{Cell, ColumnRule, cell}
+use Rattle.pv_layout.specs.Forms.{PlainForm}
 use Rattle.pv_span.specs.Least.{IsLeastAt, IsOfRule}
-use Rattle.pv_span.proofs.ColumnFacts.{column_spans}
+use Rattle.pv_layout.proofs.ColumnFacts.{column_spans}
 use Rattle.pv_span.proofs.Numbering.{strictly_within, within}
-use Rattle.pv_span.proofs.Putting.{cell_sum, each_cell, same_or_not}
+use Rattle.pv_layout.proofs.Putting.{cell_sum, each_cell, same_or_not}
 
 module _ (g : List PlainForm) (w : List PlainToken) where
   -- a chart with other rows whose values over the spans that are done are those of this one

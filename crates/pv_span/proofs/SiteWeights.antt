@@ -12,12 +12,12 @@ use Rattle.pv_rules.specs.Sites.{HasSite, PlainSite}
 use Rattle.pv_productive.specs.Tables.{no_size}
 use Rattle.pv_missing.specs.Widths.{FitsWeights, columns_of}
 use Rattle.pv_span.specs.Charts.{IsFilled, PlainChart, value_of}
-use Rattle.pv_span.specs.ColumnRules.{cell}
-use Rattle.pv_span.specs.Columns.{AreFit, PlainSites, column_of}
-use Rattle.pv_span.specs.Forms.{PlainForm}
+use Rattle.pv_layout.specs.ColumnRules.{cell}
+use Rattle.pv_layout.specs.Columns.{AreFit, PlainSites, column_of}
+use Rattle.pv_layout.specs.Forms.{PlainForm}
 use Rattle.pv_span.proofs.Finishing.{derives_something, is_weight}
-use Rattle.pv_span.proofs.Sharing.{column_derives}
-use Rattle.pv_span.proofs.Standing.{site_derives}
+use Rattle.pv_layout.proofs.Sharing.{column_derives}
+use Rattle.pv_layout.proofs.Standing.{site_derives}
 
 -- a word that fits under a DTD with columns is short
 pub is_short : (g : PlainDtd) (n : ℕ) → FitsWeights g n → 0 < columns_of g → n < 8192

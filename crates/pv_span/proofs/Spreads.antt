@@ -4,9 +4,9 @@ use Rattle.std.proofs.lemmas.Bool.{cases_lt}
 use Rattle.pv_model.specs.Plain.{PlainToken}
 use Rattle.pv_productive.specs.Tables.{size_at}
 use Rattle.pv_span.specs.Charts.{IsAttainedChart, value_of}
-use Rattle.pv_span.specs.ColumnRules.{cell}
+use Rattle.pv_layout.specs.ColumnRules.{cell}
 use Rattle.pv_span.specs.DoneSpans.{rows_done}
-use Rattle.pv_span.specs.Forms.{PlainForm}
+use Rattle.pv_layout.specs.Forms.{PlainForm}
 use Rattle.pv_span.specs.Least.{IsLeastAt, IsSumFrom}
 use Rattle.pv_span.specs.PlainForms.{DiffersInRow, IsAttainedSoFar, plain_chart}
 use Rattle.pv_span.specs.Waits.{AreHeld, HaveFallen, IsHeld, IsHeldFrom, IsLoweredTo, Waits}

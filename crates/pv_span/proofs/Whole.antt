@@ -5,8 +5,8 @@ use Rattle.pv_model.specs.Plain.{PlainToken}
 use Rattle.pv_rules.specs.Derivations.{sum_of}
 use Rattle.pv_rules.specs.Rules.{IsSpan}
 use Rattle.pv_productive.specs.Tables.{no_size}
-use Rattle.pv_span.specs.ColumnRules.{Cell, ColumnRule, FormRule, IsOneOf, IsRightSide, ToNone, ToOne, ToText, ToTwo, cell}
-use Rattle.pv_span.specs.Forms.{PlainForm, form_at, of_element, of_none, of_nothing, of_one, of_opt, of_plus, of_star, of_two}
+use Rattle.pv_layout.specs.ColumnRules.{Cell, ColumnRule, FormRule, IsOneOf, IsRightSide, ToNone, ToOne, ToText, ToTwo, cell}
+use Rattle.pv_layout.specs.Forms.{PlainForm, form_at, of_element, of_none, of_nothing, of_one, of_opt, of_plus, of_star, of_two}
 use Rattle.pv_span.specs.Least.{IsLeastMember, IsSumAt, IsSumFrom}
 use Rattle.pv_span.proofs.CutSums.{less_or}
 

@@ -7,13 +7,14 @@ use Rattle.pv_productive.specs.PlainForms.{dtd_of}
 use Rattle.pv_rules.specs.Sites.{HasSite, PlainSite}
 use Rattle.pv_missing.specs.Widths.{FitsWeights}
 use Rattle.pv_span.specs.Charts.{IsFilled}
-use Rattle.pv_span.specs.FormForms.{plain_all}
-use Rattle.pv_span.specs.PlainForms.{plain_chart, plain_columns, plain_sites}
+use Rattle.pv_layout.specs.FormForms.{plain_all}
+use Rattle.pv_span.specs.PlainForms.{plain_chart}
+use Rattle.pv_layout.specs.SiteForms.{plain_columns, plain_sites}
 use Rattle.pv_span.specs.Weights.{AreValues, AreWeights}
 use Rattle.pv_span.specs.declared.charts.Chart.{Chart}
-use Rattle.pv_span.specs.declared.layout.ColumnLayout.{ColumnLayout}
-use Rattle.pv_span.specs.declared.sites.SiteColumns.{SiteColumns}
-use Rattle.pv_span.proofs.HeldFits.{layout_fits}
+use Rattle.pv_layout.specs.declared.layout.ColumnLayout.{ColumnLayout}
+use Rattle.pv_layout.specs.declared.sites.SiteColumns.{SiteColumns}
+use Rattle.pv_layout.proofs.HeldFits.{layout_fits}
 use Rattle.pv_span.proofs.Known.{some_columns}
 use Rattle.pv_span.proofs.SiteWeights.{is_short, site_derives_something, site_weight}
 

@@ -8,8 +8,8 @@ use Rattle.pv_model.specs.Plain.{PlainToken}
 use Rattle.pv_rules.specs.Derivations.{Derives, heaviest, sum_of}
 use Rattle.pv_rules.specs.Rules.{IsSpan}
 use Rattle.pv_productive.specs.Tables.{capped, no_size, size_at}
-use Rattle.pv_span.specs.ColumnRules.{Cell, ColumnRule, cell}
-use Rattle.pv_span.specs.Forms.{PlainForm}
+use Rattle.pv_layout.specs.ColumnRules.{Cell, ColumnRule, cell}
+use Rattle.pv_layout.specs.Forms.{PlainForm}
 
 -- the rows of the spans that are done, and that of the span at hand
 pub record PlainChart : Type 0 where

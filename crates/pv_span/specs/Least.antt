@@ -3,8 +3,8 @@ use Rattle.std.specs.Prelude.{Bool, List, Some, slice_get, suc, true, ℕ, ◌+�
 use Rattle.pv_model.specs.Plain.{PlainToken, text}
 use Rattle.pv_rules.specs.Derivations.{sum_of}
 use Rattle.pv_productive.specs.Tables.{no_size}
-use Rattle.pv_span.specs.ColumnRules.{Cell, ColumnRule, IsRightSide, IsOneOf, cell}
-use Rattle.pv_span.specs.Forms.{PlainForm}
+use Rattle.pv_layout.specs.ColumnRules.{Cell, ColumnRule, IsRightSide, IsOneOf, cell}
+use Rattle.pv_layout.specs.Forms.{PlainForm}
 
 -- k is the sum of cost and right sides of a rule of a cell, where it is less than no derivation's
 abbrev pub IsOfRule : List PlainForm → List PlainToken → (Cell → ℕ) → Cell → ℕ → Type 0

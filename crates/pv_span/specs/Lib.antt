@@ -1,17 +1,8 @@
-pub mod Forms
-pub mod ColumnRules
-pub mod Columns
-pub mod Mentions
-pub mod KeptColumns
-pub mod Making
 pub mod Charts
 pub mod Least
 pub mod Waits
 pub mod Repeats
 pub mod Lines
 pub mod DoneSpans
-pub mod FormForms
-pub mod SiteForms
 pub mod PlainForms
 pub mod Weights
-pub mod Laws

@@ -4,7 +4,7 @@ use Rattle.std.specs.Prelude.{List, Some, [], length, min, slice_get, slice_inde
 use Rattle.std.specs.Prelude.{◌+◌, ◌-◌, ◌<◌, ◌≡◌, ◌≤◌}
 use Rattle.pv_productive.specs.Tables.{no_size, size_at}
 use Rattle.pv_span.specs.Charts.{span_number}
-use Rattle.pv_span.specs.ColumnRules.{Cell, cell}
+use Rattle.pv_layout.specs.ColumnRules.{Cell, cell}
 use Rattle.pv_span.specs.declared.lines.Line.{Line}
 
 -- the values over the spans that are done, of a word of n tokens

@@ -1,10 +1,9 @@
 -- The plain form of a chart.
 use Rattle.std.specs.Prelude.{List, ◌≡◌}
 use Rattle.pv_model.specs.Plain.{PlainToken}
-pub use Rattle.pv_span.specs.SiteForms.{plain_columns, plain_sites}
 use Rattle.pv_span.specs.Charts.{IsAttainedChart, PlainChart}
 use Rattle.pv_span.specs.DoneSpans.{rows_done}
-use Rattle.pv_span.specs.Forms.{PlainForm}
+use Rattle.pv_layout.specs.Forms.{PlainForm}
 use Rattle.pv_span.specs.declared.charts.Chart.{Chart}
 
 -- the plain form of a chart

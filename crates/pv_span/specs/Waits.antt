@@ -6,8 +6,8 @@ use Rattle.pv_model.specs.Plain.{PlainToken}
 use Rattle.pv_rules.specs.Derivations.{sum_of}
 use Rattle.pv_productive.specs.Tables.{IsLowered, capped, no_size, size_at}
 use Rattle.pv_span.specs.Charts.{PlainChart, value_of}
-use Rattle.pv_span.specs.ColumnRules.{Cell, ColumnRule, FormRule, IsRightSide, cell}
-use Rattle.pv_span.specs.Forms.{PlainForm}
+use Rattle.pv_layout.specs.ColumnRules.{Cell, ColumnRule, FormRule, IsRightSide, cell}
+use Rattle.pv_layout.specs.Forms.{PlainForm}
 use Rattle.pv_span.specs.declared.waiting.Waiting.{Waiting}
 
 -- the column waits

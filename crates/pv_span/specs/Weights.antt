@@ -7,9 +7,10 @@ use Rattle.pv_rules.specs.Rules.{Goal, IsSpan, Rule, over}
 use Rattle.pv_rules.specs.Sites.{HasSite, PlainSite}
 use Rattle.pv_productive.specs.Tables.{no_size}
 use Rattle.pv_span.specs.Charts.{value_of}
-use Rattle.pv_span.specs.ColumnRules.{cell}
-use Rattle.pv_span.specs.Columns.{column_of}
-use Rattle.pv_span.specs.PlainForms.{plain_chart, plain_columns}
+use Rattle.pv_layout.specs.ColumnRules.{cell}
+use Rattle.pv_layout.specs.Columns.{column_of}
+use Rattle.pv_span.specs.PlainForms.{plain_chart}
+use Rattle.pv_layout.specs.SiteForms.{plain_columns}
 use Rattle.pv_span.specs.declared.weighing.Spans.{Spans}
 
 -- the value of a site over a span

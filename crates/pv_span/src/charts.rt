@@ -38,7 +38,7 @@ impl Chart {
     ghost use Rattle.std.specs.Prelude.{length, suc};
     ghost use Rattle.pv_productive.specs.Tables.{no_size, size_at};
     ghost use Rattle.pv_span.specs.Charts.{AreFew, spans_before, value_of};
-    ghost use Rattle.pv_span.specs.ColumnRules.{cell};
+    ghost use Rattle.pv_layout.specs.ColumnRules.{cell};
     ghost use Rattle.pv_span.specs.Least.{IsLeastCut};
     ghost use Rattle.pv_span.specs.PlainForms.{DiffersInRow, plain_chart};
     ghost use Rattle.pv_span.specs.Repeats.{IsDoneFrom};

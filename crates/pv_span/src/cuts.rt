@@ -3,7 +3,7 @@
 ghost use Rattle.std.specs.Prelude.{◌≤◌, ◌<◌, ◌+◌, ◌≡◌, suc};
 ghost use Rattle.pv_productive.specs.Tables.{no_size};
 ghost use Rattle.pv_span.specs.Charts.{value_of};
-ghost use Rattle.pv_span.specs.ColumnRules.{cell};
+ghost use Rattle.pv_layout.specs.ColumnRules.{cell};
 ghost use Rattle.pv_span.specs.Least.{IsLeastCut};
 ghost use Rattle.pv_span.specs.PlainForms.{plain_chart};
 

@@ -5,17 +5,17 @@ ghost use Rattle.std.specs.Prelude.{◌≡◌, ◌≤◌, ◌<◌, Bool, List, l
 ghost use Rattle.pv_model.specs.Plain.{PlainToken};
 ghost use Rattle.pv_model.specs.PlainForms.{plain_token};
 ghost use Rattle.pv_span.specs.Charts.{value_of};
-ghost use Rattle.pv_span.specs.ColumnRules.{cell};
-ghost use Rattle.pv_span.specs.FormForms.{plain_all};
-ghost use Rattle.pv_span.specs.Forms.{PlainForm, form_at, of_element, of_opt, of_plus, of_star};
-ghost use Rattle.pv_span.specs.Forms.{of_two};
+ghost use Rattle.pv_layout.specs.ColumnRules.{cell};
+ghost use Rattle.pv_layout.specs.FormForms.{plain_all};
+ghost use Rattle.pv_layout.specs.Forms.{PlainForm, form_at, of_element, of_opt, of_plus, of_star};
+ghost use Rattle.pv_layout.specs.Forms.{of_two};
 ghost use Rattle.pv_span.specs.Least.{IsSumAt};
 ghost use Rattle.pv_span.specs.PlainForms.{plain_chart};
 
 use crate::charts::Chart;
 use crate::cuts::{sum_at_first, sum_at_last};
-use crate::forms::Form;
 use crate::least::least_of_members;
+use pv_layout::Form;
 use pv_model::{NameId, Token};
 use pv_productive::NO_SIZE;
 

@@ -4,19 +4,18 @@ ghost use Rattle.std.specs.Prelude.{◌≡◌, ◌<◌, ◌^◌, ℕ, IfOk, OnOk
 ghost use Rattle.pv_model.specs.PlainForms.{plain_token};
 ghost use Rattle.pv_productive.specs.Tables.{no_size, size_at};
 ghost use Rattle.pv_span.specs.Charts.{AreSettled, IsFilled};
-ghost use Rattle.pv_span.specs.FormForms.{plain_all};
-ghost use Rattle.pv_span.specs.Mentions.{AreTold};
+ghost use Rattle.pv_layout.specs.FormForms.{plain_all};
+ghost use Rattle.pv_layout.specs.Mentions.{AreTold};
 ghost use Rattle.pv_span.specs.PlainForms.{DiffersInRow, IsAttainedSoFar, plain_chart};
 ghost use Rattle.pv_span.specs.Repeats.{AreSameTokens};
 
 use crate::charts::Chart;
-use crate::forms::Form;
-use crate::mentions::Mentions;
 use crate::pairs::lines_of;
 use crate::repeats::Repeats;
 use crate::spreading::fill_span;
 use crate::waiting::Waiting;
 use pv_chars::NoMemory;
+use pv_layout::{Form, Mentions};
 use pv_model::Token;
 use std::alloc::Global;
 

@@ -18,12 +18,11 @@ ghost use Rattle.pv_span.specs.declared.errors.SpanError.TheVariants.{TooWide as
 
 use crate::errors::SpanError;
 use crate::fill::chart_of;
-use crate::layout::lay_out;
 use crate::membership::derives;
 use crate::owners::{ListOwner, is_known_owner};
-use crate::sites::SiteColumns;
 use crate::verdict::judge;
 use crate::weighing::{Spans, is_narrow};
+use pv_layout::{SiteColumns, lay_out};
 use pv_missing::{Of, live_word};
 use pv_model::Token;
 use pv_productive::Grammar;

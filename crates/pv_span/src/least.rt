@@ -5,16 +5,16 @@ ghost use Rattle.pv_model.specs.Plain.{PlainToken};
 ghost use Rattle.pv_model.specs.PlainForms.{plain_token};
 ghost use Rattle.pv_productive.specs.Tables.{no_size};
 ghost use Rattle.pv_span.specs.Charts.{value_of};
-ghost use Rattle.pv_span.specs.ColumnRules.{cell};
-ghost use Rattle.pv_span.specs.FormForms.{plain_all};
-ghost use Rattle.pv_span.specs.Forms.{PlainForm, form_at, of_element, of_opt, of_plus, of_star};
-ghost use Rattle.pv_span.specs.Forms.{of_two};
+ghost use Rattle.pv_layout.specs.ColumnRules.{cell};
+ghost use Rattle.pv_layout.specs.FormForms.{plain_all};
+ghost use Rattle.pv_layout.specs.Forms.{PlainForm, form_at, of_element, of_opt, of_plus, of_star};
+ghost use Rattle.pv_layout.specs.Forms.{of_two};
 ghost use Rattle.pv_span.specs.Least.{IsLeastAt, IsLeastMember, IsTextValue};
 ghost use Rattle.pv_span.specs.PlainForms.{plain_chart};
 
 use crate::charts::Chart;
 use crate::cuts::{least_behind, least_of_all, least_within};
-use crate::forms::Form;
+use pv_layout::Form;
 use pv_model::{NameId, Token, is_element_over, is_text_at};
 use pv_productive::NO_SIZE;
 

@@ -4,7 +4,7 @@
 ghost use Rattle.std.specs.Prelude.{◌≡◌, ◌≤◌, ◌<◌, ◌+◌, ◌-◌, ◌^◌, ℕ, length, min, suc};
 ghost use Rattle.pv_productive.specs.Tables.{no_size, size_at};
 ghost use Rattle.pv_span.specs.Charts.{AreFew, span_number};
-ghost use Rattle.pv_span.specs.ColumnRules.{cell};
+ghost use Rattle.pv_layout.specs.ColumnRules.{cell};
 ghost use Rattle.pv_span.specs.DoneSpans.{rows_done};
 ghost use Rattle.pv_span.specs.Lines.{AreBlank, AreSpanLines, IsBlankLine, IsLine, done_value};
 
@@ -35,7 +35,7 @@ pub struct Finished<'a> {
 
 impl Finished<'_> {
     ghost use Rattle.std.specs.Prelude.{◌≡◌};
-    ghost use Rattle.pv_span.specs.ColumnRules.{cell};
+    ghost use Rattle.pv_layout.specs.ColumnRules.{cell};
     ghost use Rattle.pv_span.specs.DoneSpans.{rows_done};
     ghost use Rattle.pv_span.specs.Lines.{done_value};
 

@@ -5,14 +5,14 @@ ghost use Rattle.pv_model.specs.PlainForms.{plain_token};
 ghost use Rattle.pv_productive.specs.Tables.{capped};
 ghost use Rattle.pv_span.specs.Charts.{AreSettled, AreSettledFrom, IsAttainedChart, IsSettling};
 ghost use Rattle.pv_span.specs.Charts.{IsSettledAt};
-ghost use Rattle.pv_span.specs.ColumnRules.{cell};
-ghost use Rattle.pv_span.specs.FormForms.{plain_all};
+ghost use Rattle.pv_layout.specs.ColumnRules.{cell};
+ghost use Rattle.pv_layout.specs.FormForms.{plain_all};
 ghost use Rattle.pv_span.specs.PlainForms.{DiffersInRow, plain_chart};
 
 use crate::charts::Chart;
-use crate::forms::Form;
 use crate::least::least_of;
 use crate::values::lower;
+use pv_layout::Form;
 use pv_model::Token;
 use pv_productive::NO_SIZE;
 use pv_rules::HEAVIEST;

@@ -5,7 +5,7 @@ ghost use Rattle.pv_rules.specs.Sites.{HasSite};
 ghost use Rattle.pv_productive.specs.PlainForms.{dtd_of};
 ghost use Rattle.pv_missing.specs.PlainForms.{plain_of};
 
-use crate::layout::ColumnLayout;
+use pv_layout::ColumnLayout;
 use pv_missing::Of;
 use pv_productive::Grammar;
 use pv_rules::Site;

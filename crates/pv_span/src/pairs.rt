@@ -1,8 +1,8 @@
 //! The lines of columns: one for each column whose rules cut a span, under its number.
 
-use crate::forms::Form;
 use crate::lines::Line;
 use pv_chars::NoMemory;
+use pv_layout::Form;
 use pv_productive::NO_SIZE;
 use std::alloc::Global;
 

@@ -8,24 +8,23 @@ ghost use Rattle.std.specs.Prelude.{◌≡◌, ◌<◌, ◌^◌, ◌⊎◌, ℕ,
 ghost use Rattle.pv_model.specs.PlainForms.{plain_token};
 ghost use Rattle.pv_productive.specs.Tables.{no_size, size_at};
 ghost use Rattle.pv_span.specs.Charts.{AreSettled, value_of};
-ghost use Rattle.pv_span.specs.ColumnRules.{IsOneOf, cell};
-ghost use Rattle.pv_span.specs.FormForms.{plain_all, plain_form};
-ghost use Rattle.pv_span.specs.Forms.{of_one};
+ghost use Rattle.pv_layout.specs.ColumnRules.{IsOneOf, cell};
+ghost use Rattle.pv_layout.specs.FormForms.{plain_all, plain_form};
+ghost use Rattle.pv_layout.specs.Forms.{of_one};
 ghost use Rattle.pv_span.specs.Least.{IsLeastAt, IsSumFrom};
-ghost use Rattle.pv_span.specs.Mentions.{AreTold};
+ghost use Rattle.pv_layout.specs.Mentions.{AreTold};
 ghost use Rattle.pv_span.specs.PlainForms.{DiffersInRow, IsAttainedSoFar, plain_chart};
 ghost use Rattle.pv_span.specs.Waits.{AllWait, AreHeld, HaveFallen, IsHeld, IsHeldFrom};
 ghost use Rattle.pv_span.specs.Waits.{IsLoweredTo, IsToldByOthers, Waits};
 
 use crate::charts::Chart;
 use crate::ends::sum_at_ends;
-use crate::forms::Form;
 use crate::least::least_of;
 use crate::lowering::{cut, settle};
-use crate::mentions::{Mentions, mentioned};
 use crate::values::{lower, value_at};
 use crate::waiting::Waiting;
 use pv_chars::NoMemory;
+use pv_layout::{Form, Mentions, mentioned};
 use pv_model::{Token, is_element_over};
 
 /// Lowers the value of a column where the rules give less, and tells whether they do.

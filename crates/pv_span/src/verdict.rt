@@ -14,10 +14,10 @@ ghost use Rattle.pv_missing.specs.PlainForms.{plain_of};
 ghost use Rattle.pv_missing.specs.Widths.{FitsWeights};
 ghost use Rattle.pv_missing.specs.WordVerdicts.{IsValidAt, IsVerdictByWord, MayHaveKids};
 
-use crate::layout::lay_out;
 use crate::membership::derives;
 use crate::owners::{ListOwner, is_known_owner};
 use pv_chars::NoMemory;
+use pv_layout::lay_out;
 use pv_missing::Of;
 use pv_model::{ContentModel, LaidModel, NameId, Token};
 use pv_productive::Grammar;

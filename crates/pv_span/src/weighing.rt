@@ -13,9 +13,8 @@ ghost use Rattle.pv_span.specs.declared.errors.SpanError.TheVariants.{TooWide as
 use crate::charts::Chart;
 use crate::errors::SpanError;
 use crate::fill::chart_of;
-use crate::layout::ColumnLayout;
-use crate::sites::SiteColumns;
 use pv_chars::NoMemory;
+use pv_layout::{ColumnLayout, SiteColumns};
 use pv_missing::is_narrow_for_weights;
 use pv_model::Token;
 use pv_productive::Grammar;

@@ -7,9 +7,9 @@ use crate::making::goals::Wanted;
 use crate::pieces::Piece;
 use pv_bounds::{Fronts, Reach};
 use pv_chars::NoMemory;
+use pv_layout::Form;
 use pv_model::NameId;
 use pv_rules::HEAVIEST;
-use pv_span::Form;
 use std::alloc::Global;
 
 /// The most spans that are built from others for a list.

@@ -1,8 +1,8 @@
 //! What columns cost over no tokens.
 
 use pv_chars::NoMemory;
+use pv_layout::Form;
 use pv_rules::HEAVIEST;
-use pv_span::Form;
 use std::alloc::Global;
 
 /// The cost of a column, or the largest one where there is none.

@@ -1,7 +1,7 @@
 //! Which columns mention each other.
 
 use pv_chars::NoMemory;
-use pv_span::Form;
+use pv_layout::Form;
 use std::alloc::Global;
 
 // Notes that a column mentions another.

@@ -5,7 +5,7 @@ ghost use Rattle.std.specs.Prelude.{◌≡◌, IfOk};
 use crate::making::empties::empty_costs;
 use crate::making::mentions::{behind_of, mixed_of, users_of};
 use pv_chars::NoMemory;
-use pv_span::ColumnLayout;
+use pv_layout::ColumnLayout;
 use std::alloc::Global;
 
 /// A grammar with its columns, and what is known of these for all lists.

@@ -7,7 +7,7 @@ use crate::making::here::{Here, KINDS, Step};
 use crate::making::plan::Plan;
 use pv_bounds::Reach;
 use pv_chars::NoMemory;
-use pv_span::Form;
+use pv_layout::Form;
 
 /// How far places are tried one by one.
 const NEAR: u32 = 6;

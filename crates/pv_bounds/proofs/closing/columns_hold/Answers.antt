@@ -1,8 +1,8 @@
 use Rattle.std.proofs.Common.{ap, arith, map, sym, ℕ, ◌<◌, ◌∙◌, ◌≡◌}
 use Rattle.std.proofs.lemmas.List.{get_or-map}
 use Rattle.pv_model.specs.PlainForms.{plain_token}
-use Rattle.pv_span.specs.FormForms.{plain_all, plain_form}
-use Rattle.pv_span.specs.Forms.{form_at, of_none}
+use Rattle.pv_layout.specs.FormForms.{plain_all, plain_form}
+use Rattle.pv_layout.specs.Forms.{form_at, of_none}
 use Rattle.pv_bounds.specs.Fronts.{cost_from, empty_cost}
 use Rattle.pv_bounds.specs.HoldingForms.{ColumnHolds, FormCutsHold}
 use Rattle.pv_bounds.proofs.Cutting.{below_one_more}

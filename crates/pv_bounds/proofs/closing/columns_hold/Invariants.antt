@@ -1,7 +1,7 @@
 use Rattle.std.proofs.Common.{map, ℕ, ◌<◌}
 use Rattle.pv_model.specs.PlainForms.{plain_token}
-use Rattle.pv_span.specs.FormForms.{plain_all}
-use Rattle.pv_span.specs.Forms.{form_at}
+use Rattle.pv_layout.specs.FormForms.{plain_all}
+use Rattle.pv_layout.specs.Forms.{form_at}
 use Rattle.pv_bounds.specs.Fronts.{cost_from, empty_cost}
 use Rattle.pv_bounds.specs.HoldingForms.{ColumnHolds, FormCutsHold}
 use Rattle.pv_bounds.proofs.closing.columns_hold.Given as goal

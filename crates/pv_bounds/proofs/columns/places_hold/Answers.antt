@@ -1,6 +1,6 @@
 use Rattle.std.proofs.Common.{map}
 use Rattle.pv_model.specs.PlainForms.{plain_token}
-use Rattle.pv_span.specs.FormForms.{plain_form}
+use Rattle.pv_layout.specs.FormForms.{plain_form}
 use Rattle.pv_bounds.specs.Fronts.{cost_from, empty_cost}
 use Rattle.pv_bounds.specs.HoldingForms.{ColumnHolds}
 use Rattle.pv_bounds.proofs.Cutting.{below_one_more}

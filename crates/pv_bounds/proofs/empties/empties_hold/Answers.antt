@@ -1,7 +1,7 @@
 use Rattle.std.proofs.Common.{ap, sym, ◌∙◌, ◌≡◌}
 use Rattle.std.proofs.lemmas.List.{get_or-map}
-use Rattle.pv_span.specs.FormForms.{plain_all, plain_form}
-use Rattle.pv_span.specs.Forms.{form_at, of_none}
+use Rattle.pv_layout.specs.FormForms.{plain_all, plain_form}
+use Rattle.pv_layout.specs.Forms.{form_at, of_none}
 use Rattle.pv_bounds.specs.Fronts.{empty_cost}
 use Rattle.pv_bounds.specs.HoldingForms.{EmptyHolds}
 use Rattle.pv_bounds.proofs.Cutting.{below_one_more}

@@ -1,6 +1,6 @@
 use Rattle.std.proofs.Common.{ℕ, ◌<◌}
-use Rattle.pv_span.specs.FormForms.{plain_all}
-use Rattle.pv_span.specs.Forms.{form_at}
+use Rattle.pv_layout.specs.FormForms.{plain_all}
+use Rattle.pv_layout.specs.Forms.{form_at}
 use Rattle.pv_bounds.specs.Fronts.{empty_cost}
 use Rattle.pv_bounds.specs.HoldingForms.{EmptyHolds}
 use Rattle.pv_bounds.proofs.empties.empties_hold.Given as goal

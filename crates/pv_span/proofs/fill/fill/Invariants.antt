@@ -2,7 +2,7 @@ use Rattle.std.proofs.Common.{length, map, suc, ◌-◌, ◌≡◌}
 use Rattle.pv_model.specs.PlainForms.{plain_token}
 use Rattle.pv_span.specs.Charts.{HasDone, spans_before}
 use Rattle.pv_span.specs.DoneSpans.{rows_done}
-use Rattle.pv_span.specs.FormForms.{plain_all}
+use Rattle.pv_layout.specs.FormForms.{plain_all}
 use Rattle.pv_span.specs.PlainForms.{plain_chart}
 use Rattle.pv_span.specs.Repeats.{AreSameTokens}
 use Rattle.pv_span.proofs.fill.fill.Given as goal

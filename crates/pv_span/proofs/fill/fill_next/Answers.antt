@@ -1,5 +1,5 @@
 use Rattle.std.proofs.Common.{length}
-use Rattle.pv_span.specs.FormForms.{plain_all}
+use Rattle.pv_layout.specs.FormForms.{plain_all}
 use Rattle.pv_span.proofs.Repeating.{copy_attained, copy_settled}
 use Rattle.pv_span.proofs.fill.fill_next.Goals as goal
 

@@ -1,5 +1,5 @@
 use Rattle.std.proofs.Common.{refl}
-use Rattle.pv_span.specs.declared.sites.SiteColumns.TheVariants.{Own}
+use Rattle.pv_layout.specs.declared.sites.SiteColumns.TheVariants.{Own}
 use Rattle.pv_span.proofs.WordWeights.{chart_weighs}
 use Rattle.pv_span.proofs.fixed.weights.Goals as goal
 

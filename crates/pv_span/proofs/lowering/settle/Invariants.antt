@@ -2,7 +2,7 @@ use Rattle.std.specs.Prelude.{sum}
 use Rattle.std.proofs.Common.{map}
 use Rattle.pv_model.specs.PlainForms.{plain_token}
 use Rattle.pv_span.specs.Charts.{IsAttainedChart}
-use Rattle.pv_span.specs.FormForms.{plain_all}
+use Rattle.pv_layout.specs.FormForms.{plain_all}
 use Rattle.pv_span.specs.PlainForms.{DiffersInRow, plain_chart}
 use Rattle.pv_span.proofs.lowering.settle.Given as goal
 

@@ -1,7 +1,7 @@
 use Rattle.std.proofs.Common.{arith, map, refl, ◌∙◌}
 use Rattle.std.proofs.lemmas.List.{length-map}
 use Rattle.pv_model.specs.PlainForms.{plain_token}
-use Rattle.pv_span.specs.FormForms.{plain_all}
+use Rattle.pv_layout.specs.FormForms.{plain_all}
 use Rattle.pv_span.proofs.Holding.{fallen_both, fallen_wait, none_fallen}
 use Rattle.pv_span.proofs.Spreads.{all_begun, one_begun}
 use Rattle.pv_span.proofs.spreading.begin.Goals as goal

@@ -1,7 +1,7 @@
 use Rattle.std.proofs.Common.{Some, ap, slice_get, sym, ◌∙◌, ◌≡◌}
 use Rattle.std.proofs.lemmas.Bool.{eqb-true}
-use Rattle.pv_span.specs.FormForms.{plain_form}
-use Rattle.pv_span.specs.Mentions.{columns_mentioned}
+use Rattle.pv_layout.specs.FormForms.{plain_form}
+use Rattle.pv_layout.specs.Mentions.{columns_mentioned}
 use Rattle.pv_span.proofs.spreading.is_member_at.Goals as goal
 
 pub returns-in-Some : goal.returns-in-Some

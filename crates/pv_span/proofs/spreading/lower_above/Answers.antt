@@ -1,13 +1,13 @@
 use Rattle.std.proofs.Common.{arith, get_or, inl, inr, map, refl, ◌∙◌, ◌≡◌, ◌≤◌, ◌⊎◌}
 use Rattle.std.proofs.lemmas.List.{length-map}
 use Rattle.pv_model.specs.PlainForms.{plain_token}
-use Rattle.pv_span.specs.FormForms.{plain_all}
+use Rattle.pv_layout.specs.FormForms.{plain_all}
 use Rattle.pv_span.specs.PlainForms.{plain_chart}
 use Rattle.std.proofs.lemmas.Option.{slice_get-get_or}
 use Rattle.pv_productive.specs.Tables.{size_at}
 use Rattle.pv_span.specs.Waits.{Waits}
 use Rattle.pv_span.proofs.Holding.{fallen_both, first_place, last_place, none_fallen}
-use Rattle.pv_span.proofs.Mentioned.{told_one}
+use Rattle.pv_layout.proofs.Mentioning.{told_one}
 use Rattle.pv_span.proofs.Spreads.{one_lowered}
 use Rattle.pv_span.proofs.spreading.lower_above.Goals as goal
 

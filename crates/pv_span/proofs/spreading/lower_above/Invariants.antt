@@ -1,6 +1,6 @@
 use Rattle.std.proofs.Common.{map, ℕ}
 use Rattle.pv_model.specs.PlainForms.{plain_token}
-use Rattle.pv_span.specs.FormForms.{plain_all}
+use Rattle.pv_layout.specs.FormForms.{plain_all}
 use Rattle.pv_span.specs.PlainForms.{DiffersInRow, IsAttainedSoFar, plain_chart}
 use Rattle.pv_span.specs.Waits.{HaveFallen, IsHeld}
 use Rattle.pv_span.proofs.Holding.{StillWaits}

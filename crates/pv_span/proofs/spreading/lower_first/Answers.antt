@@ -1,11 +1,11 @@
 use Rattle.std.proofs.Common.{arith, map, refl}
 use Rattle.std.proofs.lemmas.List.{length-map}
 use Rattle.pv_model.specs.PlainForms.{plain_token}
-use Rattle.pv_span.specs.FormForms.{plain_all}
+use Rattle.pv_layout.specs.FormForms.{plain_all}
 use Rattle.pv_span.specs.PlainForms.{plain_chart}
 use Rattle.pv_span.specs.Waits.{HaveFallen, Waits}
 use Rattle.pv_span.proofs.Holding.{none_fallen, one_fallen, others_held}
-use Rattle.pv_span.proofs.Reading.{form_read}
+use Rattle.pv_layout.proofs.Reading.{form_read}
 use Rattle.pv_span.proofs.Spreads.{first_held}
 use Rattle.pv_span.proofs.spreading.lower_first.Goals as goal
 

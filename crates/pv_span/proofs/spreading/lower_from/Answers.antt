@@ -3,7 +3,7 @@ use Rattle.std.proofs.Common.{arith, map, subst, sym, ◌≡◌}
 use Rattle.std.proofs.lemmas.List.{length-map, with_items_is}
 use Rattle.pv_model.specs.PlainForms.{plain_token}
 use Rattle.pv_productive.specs.Tables.{IsLowered, capped}
-use Rattle.pv_span.specs.FormForms.{plain_all}
+use Rattle.pv_layout.specs.FormForms.{plain_all}
 use Rattle.pv_span.specs.PlainForms.{plain_chart}
 use Rattle.pv_span.proofs.Settling.{one_attained}
 use Rattle.pv_span.proofs.spreading.lower_from.Goals as goal

@@ -1,7 +1,7 @@
 use Rattle.std.proofs.Common.{arith, map, refl}
 use Rattle.std.proofs.lemmas.List.{length-map}
 use Rattle.pv_model.specs.PlainForms.{plain_token}
-use Rattle.pv_span.specs.FormForms.{plain_all}
+use Rattle.pv_layout.specs.FormForms.{plain_all}
 use Rattle.pv_span.specs.Waits.{HaveFallen}
 use Rattle.pv_span.proofs.Holding.{none_fallen, one_fallen}
 use Rattle.pv_span.proofs.Spreads.{few_held, next_held, no_held}

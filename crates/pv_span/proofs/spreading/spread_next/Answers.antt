@@ -1,6 +1,6 @@
 use Rattle.std.proofs.Common.{inl, inr, map, ◌≡◌, ◌⊎◌}
 use Rattle.pv_model.specs.PlainForms.{plain_token}
-use Rattle.pv_span.specs.FormForms.{plain_all}
+use Rattle.pv_layout.specs.FormForms.{plain_all}
 use Rattle.pv_span.specs.PlainForms.{plain_chart}
 use Rattle.pv_span.specs.Waits.{Waits}
 use Rattle.pv_span.proofs.Holding.{held_map}

@@ -1,0 +1,9 @@
+pub mod Forms
+pub mod ColumnRules
+pub mod Columns
+pub mod Mentions
+pub mod KeptColumns
+pub mod Making
+pub mod FormForms
+pub mod SiteForms
+pub mod Laws

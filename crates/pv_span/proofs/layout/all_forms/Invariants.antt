@@ -1,7 +1,0 @@
-use Rattle.std.proofs.Common.{◌≡◌}
-use Rattle.pv_span.specs.FormForms.{plain_all}
-use Rattle.pv_span.specs.Making.{element_forms}
-use Rattle.pv_span.proofs.layout.all_forms.Given as goal
-
-abbrev pub invariant-loop-name : goal.invariant-loop-name
-invariant-loop-name l = plain_all l.forms.items ≡ element_forms l.contents l.name
