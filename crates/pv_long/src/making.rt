@@ -8,7 +8,6 @@ pub mod filling;
 pub mod fronts;
 pub mod goals;
 pub mod here;
-pub mod mentions;
 pub mod plan;
 pub mod spreading;
 pub mod writing;

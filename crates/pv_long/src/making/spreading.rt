@@ -149,10 +149,7 @@ fn derive(known: Known<'_>, here: &mut Here, user: u32, step: Step) -> Result<()
 
 // Offers what follows from a step to all columns that mention its column.
 fn spread(known: Known<'_>, here: &mut Here, step: Step) -> Result<(), NoMemory> {
-    let Some(users) = known.plan.users.get(step.column as usize) else {
-        return Ok(());
-    };
-    for user in users.iter().rev() {
+    for user in known.plan.layout.mentions.above(step.column) {
         derive(known, here, *user, step)?;
     }
     Ok(())
