@@ -2,13 +2,13 @@
 use Rattle.std.specs.Prelude.{Bool, List, Option, Some, None, [], false, length, min, nat_le}
 use Rattle.std.specs.Prelude.{slice_index_or, slice_set, suc, sum, true, ℕ, if◌then◌else◌, ◌+◌}
 use Rattle.std.specs.Prelude.{◌<◌, ◌≡◌, ◌≤◌}
-use Rattle.pv_model.specs.Plain.{PlainModel, PlainPart, PlainParts, any, children, choice, empty}
+use Rattle.pv_model.specs.Plain.{PlainModel, PlainPart, PlainParts, any, children, empty}
 use Rattle.pv_model.specs.Plain.{mixed}
-use Rattle.pv_dtd.specs.Plain.{PlainDtd, model_of, parts_in_all, parts_in_models}
+use Rattle.pv_dtd.specs.Plain.{PlainDtd, model_of, parts_in_models}
 use Rattle.pv_dtd.specs.Productive.{IsProductive}
 use Rattle.pv_productive.specs.Sizes.{IsCutSize}
 use Rattle.pv_rules.specs.Derivations.{Derives, heaviest, sum_of}
-use Rattle.pv_rules.specs.Numbering.{IsMemberAt, first_part, part_at}
+use Rattle.pv_rules.specs.Numbering.{IsMemberAt, first_part}
 use Rattle.pv_rules.specs.Rules.{Goal, Rule, over}
 use Rattle.pv_rules.specs.Sites.{PlainSite, content_site, name_site, part_site, rest_site}
 
@@ -58,11 +58,6 @@ pub record IsLeastMember (g : PlainDtd) (t : Table) (q : ℕ) (ps : PlainParts) 
   pub below : (p : PlainPart) (r : ℕ) → IsMemberAt p r (suc q) ps → k ≤ size_at t.parts r
   pub attained : k < no_size →
       (p : PlainPart) × (r : ℕ) × IsMemberAt p r (suc q) ps × (k ≡ size_at t.parts r)
-
--- a choice stands at q, and its members end before number end
-abbrev pub IsChoiceAt : PlainDtd → ℕ → ℕ → Type 0
-IsChoiceAt g q end =
-    (ps : PlainParts) × (part_at g q ≡ Some (choice ps)) × (end ≡ suc q + parts_in_all ps)
 
 -- k is the size of no derivation, or that of one, cut
 abbrev pub HasSize : PlainDtd → PlainSite → ℕ → Type 0

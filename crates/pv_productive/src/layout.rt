@@ -22,6 +22,7 @@ impl Layout {
     ghost use Rattle.std.specs.Prelude.{◌≡◌, IfOk, slice_get};
     ghost use Rattle.pv_dtd.specs.PlainForms.{plain_dtd};
     ghost use Rattle.pv_rules.specs.Flat.{flat_contents, flat_parts};
+    ghost use Rattle.pv_rules.specs.PlainForms.{IsFlat};
 
     /// Lays out the parts of a DTD.
     pub fn of(alloc: Global, dtd: Dtd) -> Result<Layout, NoMemory>
@@ -40,7 +41,7 @@ impl Layout {
 
     /// The parts and content models of the DTD, by number.
     pub fn flat(&self) -> &FlatDtd
-        ensures { result.now ≡ self.now.flat }
+        ensures { IsFlat (plain_dtd self.now.dtd) result.now }
     {
         &self.flat
     }

@@ -5,9 +5,9 @@ ghost use Rattle.std.specs.Prelude.{◌≡◌, ◌+◌, ◌<◌, ◌^◌};
 ghost use Rattle.pv_dtd.specs.PlainForms.{plain_dtd};
 ghost use Rattle.pv_rules.specs.Sites.{content_site, name_site, part_site, rest_site};
 ghost use Rattle.pv_productive.specs.PlainForms.{table_of};
-ghost use Rattle.pv_productive.specs.Tables.{IsChoiceAt, IsLeastMember, IsLeastSum, size_of};
+ghost use Rattle.pv_productive.specs.Tables.{IsLeastMember, IsLeastSum, size_of};
 ghost use Rattle.pv_model.specs.Plain.{PlainParts, choice};
-ghost use Rattle.pv_rules.specs.Numbering.{part_at};
+ghost use Rattle.pv_rules.specs.Numbering.{IsChoiceAt, part_at};
 
 use crate::layout::Layout;
 use crate::sizes::{NO_SIZE, Sizes};
@@ -45,10 +45,7 @@ fn least_member(layout: &Layout, sizes: &Sizes, number: u32, end: u32) -> u32
     let mut member = number + 1;
     while member < end {
         least = least.min(sizes.of_part(member));
-        let Some(part) = layout.part(member) else {
-            unreachable!();
-        };
-        member = part.end;
+        member = layout.flat().end_of(member);
     }
     least
 }

@@ -21,9 +21,12 @@ pub struct FlatDtd {
 }
 
 impl FlatDtd {
-    ghost use Rattle.std.specs.Prelude.{◌≡◌, ◌<◌, IfOk, slice_get};
+    ghost use Rattle.std.specs.Prelude.{◌≡◌, ◌<◌, IfOk, Some, slice_get};
     ghost use Rattle.std.specs.Option.{option_copied};
+    ghost use Rattle.pv_model.specs.Plain.{PlainPart};
+    ghost use Rattle.pv_dtd.specs.Plain.{PlainDtd};
     ghost use Rattle.pv_dtd.specs.PlainForms.{plain_dtd};
+    ghost use Rattle.pv_rules.specs.Numbering.{IsAfterPart, part_at};
     ghost use Rattle.pv_rules.specs.PlainForms.{IsFlat};
 
     /// Lays out the parts of a DTD, in one pass over its content models.
@@ -67,6 +70,19 @@ impl FlatDtd {
         ensures { result ≡ slice_get self.now.parts.items number }
     {
         self.parts.get(number as usize).copied()
+    }
+
+    /// The number after a part and all within it. After a member of a choice, it is that of the
+    /// next member, or where the choice ends.
+    pub fn end_of(&self, number: u32) -> u32
+        requires { (g : PlainDtd) × (p : PlainPart) × IsFlat g self.now ×
+            (part_at g number ≡ Some p) }
+        ensures { (g : PlainDtd) → IsFlat g self.now → IsAfterPart g number result }
+    {
+        let Some(part) = self.part(number) else {
+            unreachable!();
+        };
+        part.end
     }
 
     /// The content model of a declared name.

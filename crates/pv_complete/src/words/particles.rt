@@ -3,9 +3,8 @@
 ghost use Rattle.std.specs.Prelude.{◌≡◌, Some, map};
 ghost use Rattle.pv_model.specs.Plain.{PlainPart, plus, star};
 ghost use Rattle.pv_model.specs.PlainForms.{plain_token};
-ghost use Rattle.pv_rules.specs.Numbering.{part_at};
+ghost use Rattle.pv_rules.specs.Numbering.{IsChoiceAt, part_at};
 ghost use Rattle.pv_rules.specs.PlainForms.{plain_site};
-ghost use Rattle.pv_productive.specs.Tables.{IsChoiceAt};
 ghost use Rattle.pv_rules.specs.Sites.{part_site};
 ghost use Rattle.pv_productive.specs.PlainForms.{dtd_of};
 ghost use Rattle.pv_span.specs.Weights.{weight_of};

@@ -3,11 +3,10 @@
 ghost use Rattle.std.specs.Prelude.{◌≡◌, ◌+◌, ◌<◌, ◌^◌, IfOk, Some, suc};
 ghost use Rattle.pv_model.specs.Plain.{PlainPart, PlainParts, choice, opt, plus, seq, star};
 ghost use Rattle.pv_model.specs.Plain as plain;
-ghost use Rattle.pv_rules.specs.Numbering.{part_at, rest_at};
+ghost use Rattle.pv_rules.specs.Numbering.{IsChoiceAt, part_at, rest_at};
 ghost use Rattle.pv_productive.specs.PlainForms.{dtd_of};
 ghost use Rattle.pv_reach.specs.Adding.{IsRuleOfPart, LaysOut};
 ghost use Rattle.pv_reach.specs.Columns.{member_columns, part_column};
-ghost use Rattle.pv_productive.specs.Tables.{IsChoiceAt};
 ghost use Rattle.pv_reach.specs.Parts.{next_number};
 
 use crate::rules::adding::{add, part_column};

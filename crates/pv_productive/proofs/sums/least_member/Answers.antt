@@ -1,56 +1,53 @@
-use Rattle.std.proofs.Common.{Some, arith, inl, inr, refl, suc, sym, ◌+◌, ◌≡◌}
+use Rattle.std.proofs.Common.{arith, inl, inr, ℕ, ◌+◌, ◌<◌, ◌≡◌, ◌≤◌, ◌⊎◌}
 use Rattle.std.proofs.lemmas.Bool.{cases_lt}
-use Rattle.pv_model.specs.Plain.{PlainPart, PlainParts, choice}
-use Rattle.pv_dtd.specs.Plain.{parts_in}
+use Rattle.pv_dtd.specs.Plain.{PlainDtd}
 use Rattle.pv_dtd.specs.PlainForms.{plain_dtd}
-use Rattle.pv_rules.specs.Numbering.{IsMemberAt, part_at}
-use Rattle.pv_rules.proofs.Facts.{parts_by_number}
-use Rattle.pv_rules.proofs.FlatKinds.{end_of, some_flat}
-use Rattle.pv_rules.proofs.Members.{passed_all, passed_more, passed_none, some_part}
+use Rattle.pv_rules.specs.Numbering.{IsMemberOf}
+use Rattle.pv_rules.proofs.Members.{member_in, part_passed, passed_all, passed_further, passed_more, passed_none}
 use Rattle.pv_productive.specs.PlainForms.{table_of}
 use Rattle.pv_productive.specs.Tables.{no_size, size_at}
 use Rattle.pv_productive.proofs.sums.least_member.Goals as goal
 
 pub loop-member-init : goal.loop-member-init
-loop-member-init c = λ ps e. passed_none (size_at (table_of c.args.sizes.now).parts) no_size c.args.number ps (c.args.number + 1) 4000000 (omega arith) refl
+loop-member-init c = record {
+  passed = passed_none (plain_dtd c.args.layout.now.dtd) c.args.number c.args.end c.requires _ (c.args.number + 1) (omega arith);
+  bounded = omega arith;
+  attained = λ few. absurd (omega arith);
+}
 
-pub unreachable-requires : goal.unreachable-requires
-unreachable-requires c =
-    let ch = c.requires in let i = c.loop-member.invariant ch.0 ch.1 in let lt = c.loop-member-test.true in
-    let n = i.next (let z = ch.2 in omega arith) in
-    let f = some_flat (plain_dtd c.args.layout.now.dtd) c.loop-member.member n.0
-    ((parts_by_number (plain_dtd c.args.layout.now.dtd)).in_choice c.args.number c.loop-member.member n.0 ch.0 ch.1 n.1) in
-    let h = c.in_default.ensures in absurd (cc)
-
-ends : (c : goal.In-Some) (ps : PlainParts) → part_at (plain_dtd c.args.layout.now.dtd) c.args.number ≡ Some (choice ps) → (p : PlainPart) →
-    IsMemberAt p c.loop-member.member (suc c.args.number) ps → c.in-Some.part.end ≡ c.loop-member.member + parts_in p
-ends c ps e p m =
-    end_of (plain_dtd c.args.layout.now.dtd) c.loop-member.member c.in-Some.part p
-    ((parts_by_number (plain_dtd c.args.layout.now.dtd)).in_choice c.args.number c.loop-member.member p ps e m) (sym c.in-Some.ensures)
+pub end_of-member-requires : goal.end_of-member-requires
+end_of-member-requires c =
+    let g = plain_dtd c.args.layout.now.dtd in
+    let p = part_passed g c.args.number c.args.end c.requires _ c.loop-member.member c.loop-member.invariant.passed c.loop-member-test.true in (g, p.0, c.flat.ensures, p.1)
 
 pub loop-member-smaller : goal.loop-member-smaller
 loop-member-smaller c =
-    let ch = c.requires in let i = c.loop-member.invariant ch.0 ch.1 in let lt = c.loop-member-test.true in
-    let n = i.next (let z = ch.2 in omega arith) in
-    let e = ends c ch.0 ch.1 n.0 n.1 in let s = some_part n.0 in omega arith
+    let g = plain_dtd c.args.layout.now.dtd in
+    let z = passed_further g c.args.number c.args.end c.requires _ c.loop-member.member c.loop-member.invariant.passed c.loop-member-test.true c.end_of-member.result (c.end_of-member.ensures g c.flat.ensures) in
+    let lt = c.loop-member-test.true in omega arith
+
+attained_more : (g : PlainDtd) (size : ℕ → ℕ) (q m k h : ℕ) → IsMemberOf g q m → (k < no_size → (r : ℕ) × IsMemberOf g q r × (k ≡ size r)) → (h ≡ k) ⊎ (h ≡ size m) → h < no_size →
+    (r : ℕ) × IsMemberOf g q r × (h ≡ size r)
+attained_more g size q m k h at found (inl e) few = let a = found (omega arith) in (a.0, a.1, let z = a.2 in omega arith)
+attained_more g size q m k h at found (inr e) few = (m, at, e)
 
 pub loop-member-preserved : goal.loop-member-preserved
-loop-member-preserved c = λ ps e.
-    let ch = c.requires in let i = c.loop-member.invariant ps e in let lt = c.loop-member-test.true in
-    let same : ps ≡ ch.0 = let z = ch.1 in cc in
-    let n = i.next (let z = ch.2 in rw same (omega arith)) in
-    let v = c.of_part.ensures in let m = c.min-least.ensures in
-    passed_more (size_at (table_of c.args.sizes.now).parts) no_size c.args.number ps c.loop-member.member c.loop-member.least i n.0 n.1
-    c.min-least.result c.in-Some.part.end (ends c ps e n.0 n.1) (omega arith) (omega arith)
-    (elim (cases_lt c.loop-member.least c.of_part.result) [ inl lt ↦ inl (omega arith) | inr le ↦ inr (omega arith) ])
+loop-member-preserved c =
+    let g = plain_dtd c.args.layout.now.dtd in let size = size_at (table_of c.args.sizes.now).parts in
+    let i = c.loop-member.invariant in let v = c.of_part.ensures in let m = c.min-least.ensures in
+    record {
+      passed = passed_more g c.args.number c.args.end c.requires (λ r. c.loop-member.least ≤ size r) c.loop-member.member i.passed c.loop-member-test.true c.end_of-member.result (c.end_of-member.ensures g c.flat.ensures)
+          (λ r. c.min-least.result ≤ size r) (λ r le. omega arith) (omega arith);
+      bounded = let b = i.bounded in omega arith;
+      attained = attained_more g size c.args.number c.loop-member.member c.loop-member.least c.min-least.result (i.passed.next c.loop-member-test.true) i.attained
+          (elim (cases_lt c.loop-member.least c.of_part.result) [ inl lt ↦ inl (omega arith) | inr le ↦ inr (omega arith) ]);
+    }
 
 pub returns : goal.returns
 returns c = λ ps e.
-    let ch = c.requires in let same : ps ≡ ch.0 = let z = ch.1 in cc in let f = c.loop-member-test.false in
-    let i = c.loop-member.invariant ps e in
+    let i = c.loop-member.invariant in
     record {
       bounded = i.bounded;
-      below = passed_all (size_at (table_of c.args.sizes.now).parts) no_size c.args.number ps c.loop-member.member c.loop-member.least i
-          (let z = ch.2 in rw same (omega arith));
-      attained = i.attained;
+      below = λ p r a. passed_all (plain_dtd c.args.layout.now.dtd) c.args.number c.args.end c.requires _ c.loop-member.member i.passed c.loop-member-test.false r (ps, p, e, a);
+      attained = λ few. let a = i.attained few in let m = member_in (plain_dtd c.args.layout.now.dtd) c.args.number a.0 ps e a.1 in (m.0, a.0, m.1, a.2);
     }
