@@ -5,7 +5,6 @@ pub mod Lists
 pub mod PartSites
 pub mod Rowing
 -- of this crate:
-pub mod Choices
 pub mod Contents
 pub mod Holding
 pub mod Indexing

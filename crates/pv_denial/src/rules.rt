@@ -165,10 +165,7 @@ fn choice_holds(
         if !one_holds(barrier, Site::Part(number), Site::Part(member), tokens) {
             return false;
         }
-        let Some(part) = grammar.part_of(member) else {
-            unreachable!();
-        };
-        member = part.end;
+        member = grammar.flat().end_of(member);
     }
     true
 }

@@ -1,53 +1,38 @@
-use Rattle.std.proofs.Common.{Some, arith, refl, sym, suc, true≢false, ◌+◌, ◌∙◌, ◌≡◌}
-use Rattle.pv_model.specs.Plain.{PlainPart, PlainParts, choice}
-use Rattle.pv_dtd.specs.Plain.{parts_in}
-use Rattle.pv_rules.specs.Numbering.{IsMemberAt, part_at}
-use Rattle.pv_rules.proofs.Facts.{parts_by_number}
-use Rattle.pv_rules.proofs.FlatKinds.{end_of, some_flat}
-use Rattle.pv_rules.proofs.Members.{some_part}
+use Rattle.std.proofs.Common.{arith, refl, sym, true≢false, ◌+◌, ◌∙◌}
+use Rattle.pv_rules.specs.Sites.{part_site}
+use Rattle.pv_rules.proofs.Members.{member_in, part_passed, passed_all, passed_further, passed_more, passed_none}
 use Rattle.pv_productive.specs.PlainForms.{dtd_of}
-use Rattle.pv_denial.proofs.Choices.{passed_all, passed_more, passed_none}
+use Rattle.pv_denial.specs.RowForms.{HoldsOneSide}
 use Rattle.pv_denial.proofs.rules.choice_holds.Goals as goal
 
 pub loop-member-init : goal.loop-member-init
-loop-member-init c = λ ps e. passed_none c.args.barrier.now c.args.number c.args.tokens ps (c.args.number + 1) (omega arith)
+loop-member-init c =
+    passed_none (dtd_of c.args.grammar.now) c.args.number c.args.end c.requires.choice (λ r. HoldsOneSide c.args.barrier.now (part_site c.args.number) (part_site r) c.args.tokens)
+    (c.args.number + 1) (omega arith)
 
-pub unreachable-requires : goal.unreachable-requires
-unreachable-requires c =
-    let ch = c.requires.choice in let i = c.loop-member.invariant ch.0 ch.1 in let lt = c.loop-member-test.true in
-    let n = i.next (let z = ch.2 in omega arith) in
-    let s = some_flat (dtd_of c.args.grammar.now) c.loop-member.member n.0
-    ((parts_by_number (dtd_of c.args.grammar.now)).in_choice c.args.number c.loop-member.member n.0 ch.0 ch.1 n.1) in
-    let h = sym c.part_of.ensures ∙ c.in_default.is in absurd (cc)
-
-ends : (c : goal.In-Some) (ps : PlainParts) → part_at (dtd_of c.args.grammar.now) c.args.number ≡ Some (choice ps) → (p : PlainPart) →
-    IsMemberAt p c.loop-member.member (suc c.args.number) ps → c.in-Some.part.end ≡ c.loop-member.member + parts_in p
-ends c ps e p m =
-    end_of (dtd_of c.args.grammar.now) c.loop-member.member c.in-Some.part p
-    ((parts_by_number (dtd_of c.args.grammar.now)).in_choice c.args.number c.loop-member.member p ps e m) (sym c.part_of.ensures ∙ c.in-Some.is)
+pub end_of-member-requires : goal.end_of-member-requires
+end_of-member-requires c =
+    let g = dtd_of c.args.grammar.now in
+    let p = part_passed g c.args.number c.args.end c.requires.choice _ c.loop-member.member c.loop-member.invariant c.loop-member-test.true in (g, p.0, c.flat.ensures, p.1)
 
 pub loop-member-smaller : goal.loop-member-smaller
 loop-member-smaller c =
-    let ch = c.requires.choice in let i = c.loop-member.invariant ch.0 ch.1 in let lt = c.loop-member-test.true in
-    let n = i.next (let z = ch.2 in omega arith) in
-    let e = ends c ch.0 ch.1 n.0 n.1 in let s = some_part n.0 in omega arith
+    let g = dtd_of c.args.grammar.now in let lt = c.loop-member-test.true in
+    let z = passed_further g c.args.number c.args.end c.requires.choice _ c.loop-member.member c.loop-member.invariant lt c.end_of-member.result (c.end_of-member.ensures g c.flat.ensures) in omega arith
 
 pub loop-member-preserved : goal.loop-member-preserved
-loop-member-preserved c = λ ps e.
-    let ch = c.requires.choice in let i = c.loop-member.invariant ps e in let lt = c.loop-member-test.true in
-    let same : ps ≡ ch.0 = let z = ch.1 in cc in
-    let n = i.next (let z = ch.2 in rw same (omega arith)) in
-    passed_more c.args.barrier.now c.args.number c.args.tokens ps c.loop-member.member i n.0 n.1 (c.one_holds.ensures.0 c.if-not-one_holds.false) c.in-Some.part.end (ends c ps e n.0 n.1)
+loop-member-preserved c =
+    let g = dtd_of c.args.grammar.now in let lt = c.loop-member-test.true in
+    passed_more g c.args.number c.args.end c.requires.choice _ c.loop-member.member c.loop-member.invariant lt c.end_of-member.result (c.end_of-member.ensures g c.flat.ensures) _ (λ r h. h)
+    (c.one_holds.ensures.0 c.if-not-one_holds.false)
 
 pub returns-then-not-one_holds : goal.returns-then-not-one_holds
 returns-then-not-one_holds c = λ ps e.
-    let ch = c.requires.choice in let i = c.loop-member.invariant ps e in let lt = c.loop-member-test.true in
-    let same : ps ≡ ch.0 = let z = ch.1 in cc in
-    let n = i.next (let z = ch.2 in rw same (omega arith)) in
+    let n = member_in (dtd_of c.args.grammar.now) c.args.number c.loop-member.member ps e (c.loop-member.invariant.next c.loop-member-test.true) in
     ((λ t. absurd (true≢false (sym t))), (λ all. sym c.if-not-one_holds.true ∙ c.one_holds.ensures.1 (all n.0 c.loop-member.member n.1)))
 
 pub returns : goal.returns
-returns c = λ ps e.
-    let ch = c.requires.choice in
-    let same : ps ≡ ch.0 = let z = ch.1 in cc in
-    ((λ t. passed_all c.args.barrier.now c.args.number c.args.tokens ps c.loop-member.member (c.loop-member.invariant ps e) (let z = ch.2 in let f = c.loop-member-test.false in rw same (omega arith))), (λ h. refl))
+returns c = λ ps e. (
+  (λ t p r a. passed_all (dtd_of c.args.grammar.now) c.args.number c.args.end c.requires.choice _ c.loop-member.member c.loop-member.invariant c.loop-member-test.false r (ps, p, e, a)),
+  (λ h. refl),
+)
