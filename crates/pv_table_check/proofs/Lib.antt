@@ -11,7 +11,6 @@ pub mod LeastValues
 pub mod LikeEntries
 pub mod FewMembers
 pub mod MadeTables
-pub mod PassedMembers
 pub mod PathSteps
 pub mod Placed
 pub mod RowValues

@@ -1,9 +1,8 @@
 //! Whether a table is closed at the parts of content models.
 
 ghost use Rattle.std.specs.Prelude.{◌≡◌, ◌+◌, ◌<◌, ◌^◌, ◌↔◌, IsTrue, Some};
-ghost use Rattle.pv_model.specs.Plain.{PlainPart, PlainParts, choice, opt, plus, star};
-ghost use Rattle.pv_dtd.specs.Plain.{parts_in};
-ghost use Rattle.pv_rules.specs.Numbering.{part_at};
+ghost use Rattle.pv_model.specs.Plain.{PlainPart, opt, plus, star};
+ghost use Rattle.pv_rules.specs.Numbering.{IsChoiceAt, part_at};
 ghost use Rattle.pv_rules.specs.Sites.{part_site, rest_site};
 ghost use Rattle.pv_table_check.specs.Tested.{IsClosedIn, CanBeTested, dtd_in};
 
@@ -15,8 +14,7 @@ use pv_tables::laws::listed_or_not_law;
 /// A choice, whose members end before `end`.
 fn choice_closed(tested: &Tested<'_>, number: u32, end: u32) -> bool
     requires sound { CanBeTested tested.now }
-    requires choice { (ps : PlainParts) × (part_at (dtd_in tested.now) number ≡ Some (choice ps)) ×
-        (end ≡ number + parts_in (choice ps)) }
+    requires choice { IsChoiceAt (dtd_in tested.now) number end }
     ensures { IsTrue result ↔ IsClosedIn tested.now (part_site number) }
 {
     listed_or_not_law();
@@ -26,10 +24,7 @@ fn choice_closed(tested: &Tested<'_>, number: u32, end: u32) -> bool
         if !one_holds(tested.entries, own, Site::Part(member), 0) {
             return false;
         }
-        let Some(part) = tested.flat.part(member) else {
-            unreachable!();
-        };
-        member = part.end;
+        member = tested.flat.end_of(member);
     }
     true
 }

@@ -36,4 +36,6 @@ pub plus_closed-requires-clause-plus : goal.plus_closed-requires-clause-plus
 plus_closed-requires-clause-plus c = let a = plus_at (dtd_in c.args.tested.now) c.args.number c.in-Some.part (flat_part c.args.tested.now c.requires.sound.flat c.args.number c.in-Some.part c.in-Some.ensures) c.in-Plus.is in (a.0, a.1)
 
 pub choice_closed-requires-clause-choice : goal.choice_closed-requires-clause-choice
-choice_closed-requires-clause-choice c = choice_at (dtd_in c.args.tested.now) c.args.number c.in-Some.part (flat_part c.args.tested.now c.requires.sound.flat c.args.number c.in-Some.part c.in-Some.ensures) c.in-Choice.is
+choice_closed-requires-clause-choice c =
+    let a = choice_at (dtd_in c.args.tested.now) c.args.number c.in-Some.part (flat_part c.args.tested.now c.requires.sound.flat c.args.number c.in-Some.part c.in-Some.ensures) c.in-Choice.is in
+    (a.0, a.1, let z = a.2 in omega arith)
