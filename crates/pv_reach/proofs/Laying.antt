@@ -1,11 +1,10 @@
 -- The rules of a part are laid out.
 use Rattle.std.proofs.Common.{List, None, Option, Some, [], ap, arith, inl, inr, refl, subst, suc, sym, ℕ, ◌+◌, ◌<◌, ◌∙◌, ◌∷◌, ◌≡◌, ◌≤◌, ◌⊎◌}
-use Rattle.std.proofs.lemmas.Bool.{cases_lt}
 use Rattle.pv_model.specs.Plain.{PlainPart, PlainParts, choice, name, opt, plus, seq, star}
 use Rattle.pv_model.specs.declared.models.Token.{Token}
-use Rattle.pv_dtd.specs.Plain.{PlainDtd, declared, parts_in, parts_in_all}
-use Rattle.pv_rules.specs.Numbering.{IsMemberAt, part_at}
-use Rattle.pv_rules.proofs.Members.{first_at, member_within, members_apart, next_at, some_part}
+use Rattle.pv_dtd.specs.Plain.{PlainDtd, declared}
+use Rattle.pv_rules.specs.Numbering.{IsAfterPart, IsChoiceAt, IsMemberAt, part_at}
+use Rattle.pv_rules.proofs.Members.{HavePassed, member_in, passed_all, passed_more, passed_none}
 use Rattle.pv_reach.specs.Adding.{AddsRule, AreSoundRules, RulesGrow, IsRuleOfPart, LaysOut}
 use Rattle.pv_reach.specs.Columns.{Has, IsPartRule, RightSide, member_columns, of_part, part_column, token_of}
 use Rattle.pv_columns.specs.declared.rules.ColumnRule.{ColumnRule}
@@ -95,51 +94,40 @@ module _ (g : PlainDtd) (q c : ℕ) (is : c ≡ part_column g q) where
       laid_two g q c is (plus p) at old mid new None None ((c + 1) ∷ []) ((c + 1) ∷ c ∷ []) (refl, inl x) (refl, inr z) a b
       (λ v es rule. elim rule.1 [ inl r ↦ inl (rule.0, r ∙ sym x) | inr r ↦ inr (rule.0, r ∙ sym z) ])
 
--- the members of choice number q before number m have their rules, and one stands there if any is left
-pub record IsPassed (g : PlainDtd) (q : ℕ) (ps : PlainParts) (old now : List ColumnRule) (m : ℕ) : Type 0 where
+-- the members of choice number q before number m have their rules
+pub record IsPassed (g : PlainDtd) (q end : ℕ) (old now : List ColumnRule) (m : ℕ) : Type 0 where
   pub sound : AreSoundRules g old → AreSoundRules g now
   pub grow : RulesGrow old now
-  pub next : m < suc q + parts_in_all ps → (p : PlainPart) × IsMemberAt p m (suc q) ps
-  pub passed : (p : PlainPart) (r : ℕ) → IsMemberAt p r (suc q) ps → r < m → Has now (part_column g q) None (part_column g r ∷ [])
+  pub members : HavePassed g q end (λ r. Has now (part_column g q) None (part_column g r ∷ [])) m
 
-pub passed_none : (g : PlainDtd) (q : ℕ) (ps : PlainParts) (old : List ColumnRule) (m : ℕ) → m ≡ suc q → IsPassed g q ps old old m
-passed_none g q ps old m e = record {
-  sound = λ s. s;
-  grow = grow_none old;
-  next = λ lt. rw e (first_at (suc q) ps (omega arith));
-  passed = λ p r a lt. absurd (let w = member_within p r (suc q) ps a in omega arith);
-}
+module _ (g : PlainDtd) (q end : ℕ) (ch : IsChoiceAt g q end) (old : List ColumnRule) where
+  pub none_laid : (m : ℕ) → m ≡ suc q → IsPassed g q end old old m
+  none_laid m e = record { sound = λ s. s; grow = grow_none old; members = passed_none g q end ch _ m e }
 
-module _ (g : PlainDtd) (q : ℕ) (ps : PlainParts) (old now new : List ColumnRule) (m c d : ℕ) (is : c ≡ part_column g q) (its : d ≡ part_column g m) (at : part_at g q ≡ Some (choice ps))
-    (l : IsPassed g q ps old now m) (p : PlainPart) (a : IsMemberAt p m (suc q) ps) where
-  -- one member more
-  pub passed_more : (n : ℕ) → n ≡ m + parts_in p → AddsRule now new c None (d ∷ []) → IsPassed g q ps old new n
-  passed_more n e adds = go (adds_as now new c (part_column g q) None (d ∷ []) (part_column g m ∷ []) is (ap (λ v. v ∷ []) its) adds)
-    where
-      passed_case : AddsRule now new (part_column g q) None (part_column g m ∷ []) → (o : PlainPart) (r : ℕ) → IsMemberAt o r (suc q) ps → r < m + parts_in p → (suc r ≤ m) ⊎ (m ≤ r) →
-          Has new (part_column g q) None (part_column g r ∷ [])
-      passed_case b o r h lt (inl x) = b.grow.keeps (part_column g q) None (part_column g r ∷ []) (l.passed o r h x)
-      passed_case b o r h lt (inr x) =
-          let z : m ≡ r = members_apart p o m r (suc q) ps a h x lt in
-          let P : ℕ → Type 0 = λ v. Has new (part_column g q) None (part_column g v ∷ []) in subst P z b.has
+  module _ (now : List ColumnRule) (m : ℕ) (l : IsPassed g q end old now m) where
+    -- one member more
+    pub member_laid : (new : List ColumnRule) (c d : ℕ) → c ≡ part_column g q → d ≡ part_column g m → m < end → (n : ℕ) → IsAfterPart g m n → AddsRule now new c None (d ∷ []) →
+        IsPassed g q end old new n
+    member_laid new c d is its lt n after adds = go (adds_as now new c (part_column g q) None (d ∷ []) (part_column g m ∷ []) is (ap (λ v. v ∷ []) its) adds)
+      where
+        a : (p : PlainPart) × IsMemberAt p m (suc q) ch.0
+        a = member_in g q m ch.0 ch.1 (l.members.next lt)
 
-      go : AddsRule now new (part_column g q) None (part_column g m ∷ []) → IsPassed g q ps old new n
-      go b = record {
-        sound = λ s. sound_more g now new (part_column g q) None (part_column g m ∷ []) (of_part q (choice ps) at refl (p, m, a, refl, refl)) b (l.sound s);
-        grow = grow_twice old now new l.grow b.grow;
-        next = λ lt. rw e (next_at p m (suc q) ps a (omega arith));
-        passed = λ o r h lt. passed_case b o r h (omega arith) (cases_lt r m);
-      }
+        go : AddsRule now new (part_column g q) None (part_column g m ∷ []) → IsPassed g q end old new n
+        go b = record {
+          sound = λ s. sound_more g now new (part_column g q) None (part_column g m ∷ []) (of_part q (choice ch.0) ch.1 refl (a.0, m, a.1, refl, refl)) b (l.sound s);
+          grow = grow_twice old now new l.grow b.grow;
+          members = passed_more g q end ch _ m l.members lt n after (λ r. Has new (part_column g q) None (part_column g r ∷ []))
+              (λ r h. b.grow.keeps (part_column g q) None (part_column g r ∷ []) h) b.has;
+        }
 
-pub choice_laid : (g : PlainDtd) (q : ℕ) (ps : PlainParts) (old now : List ColumnRule) (m : ℕ) → part_at g q ≡ Some (choice ps) → IsPassed g q ps old now m → suc q + parts_in_all ps ≤ m →
-    LaysOut g old now (part_column g q) (IsRuleOfPart g q)
-choice_laid g q ps old now m at l e = record {
-  sound = l.sound;
-  grow = l.grow;
-  complete = λ o cs s. go o cs (its g q (part_column g q) refl (choice ps) at o cs s);
-}
-  where
-    go : (o : Option Token) (cs : List ℕ) → IsPartRule g q (choice ps) o cs → Has now (part_column g q) o cs
-    go o cs (p, r, a, f, h) =
-        has_as now (part_column g q) (part_column g q) o None cs (part_column g r ∷ []) refl f h
-        (l.passed p r a (let w = member_within p r (suc q) ps a in let z = some_part p in omega arith))
+    pub choice_laid : end ≤ m → LaysOut g old now (part_column g q) (IsRuleOfPart g q)
+    choice_laid e = record {
+      sound = l.sound;
+      grow = l.grow;
+      complete = λ o cs s. go o cs (its g q (part_column g q) refl (choice ch.0) ch.1 o cs s);
+    }
+      where
+        go : (o : Option Token) (cs : List ℕ) → IsPartRule g q (choice ch.0) o cs → Has now (part_column g q) o cs
+        go o cs (p, r, a, f, h) =
+            has_as now (part_column g q) (part_column g q) o None cs (part_column g r ∷ []) refl f h (passed_all g q end ch _ m l.members e r (ch.0, p, ch.1, a))

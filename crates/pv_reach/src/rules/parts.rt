@@ -99,10 +99,7 @@ fn add_choice(
     let mut member = number + 1;
     while member < end {
         add(alloc, rules, column, None, &[part_column(grammar, member)])?;
-        let Some(part) = grammar.part_of(member) else {
-            unreachable!();
-        };
-        member = part.end;
+        member = grammar.flat().end_of(member);
     }
     Ok(())
 }
