@@ -3,12 +3,8 @@ use Rattle.std.proofs.Common.{List, Some, [], ap, arith, inl, inr, length, refl,
 use Rattle.std.proofs.Math.ListN.{get_or-append}
 use Rattle.std.proofs.Math.Seq.{get_or-append_seam}
 use Rattle.std.proofs.lemmas.Bool.{cases_lt}
-use Rattle.pv_model.specs.Plain.{PlainPart, PlainParts}
-use Rattle.pv_dtd.specs.Plain.{parts_in, parts_in_all}
-use Rattle.pv_rules.specs.Numbering.{IsMemberAt}
-use Rattle.pv_rules.proofs.Members.{first_at, member_within, members_apart, next_at, some_part}
 use Rattle.pv_layout.specs.ColumnRules.{IsOneOf}
-use Rattle.pv_layout.specs.Columns.{AreColumns, IsMember, column_at, no_column}
+use Rattle.pv_layout.specs.Columns.{AreColumns, column_at, no_column}
 
 -- one element more at the end of a list
 earlier : (ds : List ℕ) (e k d : ℕ) → slice_get ds k ≡ Some d → slice_get (ds ++ (e ∷ [])) k ≡ Some d
@@ -32,44 +28,14 @@ one_of_both [] e (suc k) d h = absurd cc
 one_of_both (x ∷ ds) e zero d h = inl h
 one_of_both (x ∷ ds) e (suc k) d h = one_of_both ds e k d h
 
--- the members before number m are taken, and one stands there if any is left
-pub record HaveTaken (column : ℕ → ℕ) (q : ℕ) (ps : PlainParts) (m : ℕ) (ds : List ℕ) : Type 0 where
-  pub within : m ≤ suc q + parts_in_all ps
-  pub next : m < suc q + parts_in_all ps → (p : PlainPart) × IsMemberAt p m (suc q) ps
-  pub each : (p : PlainPart) (r : ℕ) → IsMemberAt p r (suc q) ps → r < m → IsOneOf (column r) ds
-  pub only : (n d : ℕ) → slice_get ds n ≡ Some d → (k : ℕ) × IsMember q ps k × (d ≡ column k)
+-- one column more, that of number m
+module _ (column : ℕ → ℕ) (ds : List ℕ) (m v : ℕ) (same : v ≡ column m) where
+  pub among_this : IsOneOf (column m) (ds ++ (v ∷ []))
+  among_this = rw (← same) (among_last ds v)
 
-pub taken_none : (column : ℕ → ℕ) (q : ℕ) (ps : PlainParts) (m : ℕ) → m ≡ suc q → HaveTaken column q ps m []
-taken_none column q ps m e = record {
-  within = omega arith;
-  next = λ lt. rw e (first_at (suc q) ps (omega arith));
-  each = λ p r a lt. absurd (let w = member_within p r (suc q) ps a in omega arith);
-  only = λ n d h. absurd cc;
-}
-
-module _ (column : ℕ → ℕ) (q : ℕ) (ps : PlainParts) (m : ℕ) (ds : List ℕ) (l : HaveTaken column q ps m ds) (p : PlainPart) (a : IsMemberAt p m (suc q) ps) (v : ℕ) (same : v ≡ column m) where
-  each_case : (o : PlainPart) (r : ℕ) → IsMemberAt o r (suc q) ps → r < m + parts_in p → (suc r ≤ m) ⊎ (m ≤ r) → IsOneOf (column r) (ds ++ (v ∷ []))
-  each_case o r d lt (inl x) = among_more ds v (column r) (l.each o r d x)
-  each_case o r d lt (inr x) = let z : m ≡ r = members_apart p o m r (suc q) ps a d x lt in rw (← z, ← same) (among_last ds v)
-
-  only_case : (n d : ℕ) → (slice_get ds n ≡ Some d) ⊎ (d ≡ v) → (k : ℕ) × IsMember q ps k × (d ≡ column k)
-  only_case n d (inl h) = l.only n d h
-  only_case n d (inr h) = (m, (p, a), h ∙ same)
-
-  -- one member more
-  pub taken_more : (k : ℕ) → k ≡ m + parts_in p → HaveTaken column q ps k (ds ++ (v ∷ []))
-  taken_more k e = record {
-    within = let w = member_within p m (suc q) ps a in omega arith;
-    next = λ lt. rw e (next_at p m (suc q) ps a (omega arith));
-    each = λ o r d lt. each_case o r d (omega arith) (cases_lt r m);
-    only = λ n d h. only_case n d (one_of_both ds v n d h);
-  }
-
-pub taken_all : (column : ℕ → ℕ) (q : ℕ) (ps : PlainParts) (m : ℕ) (ds : List ℕ) → HaveTaken column q ps m ds → suc q + parts_in_all ps ≤ m → AreColumns (IsMember q ps) column ds
-taken_all column q ps m ds l e = record {
-  each = λ r i. l.each i.0 r i.1 (let w = member_within i.0 r (suc q) ps i.1 in let s = some_part i.0 in omega arith);
-  only = l.only;
-}
+  pub only_more : (P : ℕ → Type 0) → P m → ((n d : ℕ) → slice_get ds n ≡ Some d → (k : ℕ) × P k × (d ≡ column k)) → (n d : ℕ) → slice_get (ds ++ (v ∷ [])) n ≡ Some d →
+      (k : ℕ) × P k × (d ≡ column k)
+  only_more P has only n d h = elim (one_of_both ds v n d h) [ inl i ↦ only n d i | inr e ↦ (m, has, e ∙ same) ]
 
 -- so many numbers from one on
 module _ (column : ℕ → ℕ) (first n : ℕ) (ds : List ℕ) (v : ℕ) (le : first ≤ n) (same : v ≡ column n) (are : AreColumns (λ e. first + e < n) (λ e. column (first + e)) ds) where

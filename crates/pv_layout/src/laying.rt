@@ -40,10 +40,7 @@ fn members_of(
     let mut member = number + 1;
     while member < end {
         members.push(column_at(parts, member as usize))?;
-        let Some(part) = grammar.part_of(member) else {
-            unreachable!();
-        };
-        member = part.end;
+        member = grammar.flat().end_of(member);
     }
     Ok(members)
 }
