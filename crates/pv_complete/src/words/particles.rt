@@ -28,10 +28,7 @@ fn choice_move(spot: &Spot<'_>, number: u32, end: u32) -> Move
         if spot.weighs_as(Site::Part(member)) {
             return Move::One(Site::Part(member));
         }
-        let Some(part) = spot.weights.grammar.part_of(member) else {
-            unreachable!();
-        };
-        member = part.end;
+        member = spot.weights.grammar.flat().end_of(member);
     }
     unreachable!()
 }
