@@ -1,5 +1,5 @@
 """Checks what has no behaviour: Python files by pyflakes, shell scripts by shellcheck, the clients' types by mypy, where these are installed; that prose of the pages keeps to
-120 columns and to the words of the field, and that by cmark, where it is installed, no list, heading or table of a page comes about by accident;
+120 columns, it and the messages of the clients to the words of the field, and that by cmark, where it is installed, no list, heading or table of a page comes about by accident;
 that each check has its file's name, and docs/PROVED.md their table; the file that each choice of docs/DECISIONS.md names; that each edit which the
 gate leaves out still has its place. Prints each finding, and how many files and pages passed; ends with 1 where one failed."""
 import re
@@ -105,6 +105,12 @@ def accidents(page: Path) -> Iterator[str]:
             yield f"{page}:{at}: {what}"
 
 
+def in_messages() -> Iterator[tuple[str, str]]:
+    """The messages of the clients, and which words in them the field doesn't use."""
+    run = subprocess.run([str(TOP / "tools" / "english"), "--messages"], capture_output=True, text=True, errors="replace")
+    yield "messages", run.stdout + run.stderr if run.returncode else ""
+
+
 def by_cmark(pages: list[Path]) -> Iterator[tuple[str, str]]:
     """Each page, and what stands in it by accident."""
     if shutil.which("cmark"):
@@ -156,6 +162,7 @@ def findings() -> Iterator[tuple[str, str]]:
     pages = [TOP / "README.md", *sorted((TOP / "docs").glob("*.md"))]
     yield from found_by([str(TOP / "tools" / "wrap"), "--check"], pages)
     yield from found_by([str(TOP / "tools" / "english")], [*pages, *sorted((TOP / "docs").glob("*.1"))])
+    yield from in_messages()
     yield from by_cmark(pages)
     yield from checks()
     yield from choices()

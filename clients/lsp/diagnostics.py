@@ -154,7 +154,7 @@ class Judging:
         """The text is a document: what is to be told of its lists."""
         rows = session.verdict_lines()
         if isinstance(rows, Refused):
-            raise Trouble(f"the verdicts can't be told: {rows.why}")
+            raise Trouble(f"the verdicts can't be read: {rows.why}")
         found = [(path.decode(), verdict == b"impossible") for path, verdict in ROW.findall(rows)]
         self.document.judged = judged = Judged(len(found), sum(is_bad for _, is_bad in found))
         tree = self.document.accept()
@@ -203,7 +203,7 @@ class Judging:
             if isinstance(node, Element):
                 told += self.impossible(path, node, tree, grammar) if is_bad else [self.possible(node, tree, grammar)]
         if len(self.rows) < count and tree.root is not None:
-            more = f"{count - len(self.rows)} more lists aren't valid; the first alone are told of."
+            more = f"{count - len(self.rows)} more lists aren't valid; only the first ones are shown."
             told.append(self.diagnostic(tree.root.start, tree.root.inside, INFORMATION, "more", more))
         if missing is not None and tree.root is not None:
             told.append(

@@ -252,7 +252,7 @@ class Judge:
 
     def impossible(self, row: Row, given: Given, path: str) -> Row:
         """The row with the place and the reason of an impossible list; without them where they can't be had."""
-        row = replace(row, verdict="impossible", sentence=f"the list at {path} can't be mended")
+        row = replace(row, verdict="impossible", sentence=f"the list at {path} can't be repaired by adding elements")
         try:
             source = given.source(shown(row.path))
             reason = next(iter(given.under.reasons.of_document(source.data, [path])), None)
