@@ -472,7 +472,7 @@ def explains_without_a_lock(program):
         seen = []
 
         def is_free():
-            other = threading.Thread(target=lambda: seen.append(editor.lock.acquire(timeout=5) and (editor.lock.release() or True)))
+            other = threading.Thread(target=lambda: seen.append(editor.lock.acquire(timeout=60) and (editor.lock.release() or True)))
             other.start()
             other.join()
 
