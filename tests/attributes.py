@@ -90,6 +90,9 @@ SMALL = [
     ('<!DOCTYPE a [<!ATTLIST a own (x|y) #REQUIRED>]>\n<a id="i" own="x"/>', []),
     ('<!DOCTYPE a [<!ATTLIST a title (x|y) #IMPLIED>]>\n<a id="i" title="z"/>', [("value", "2:11", "`title` of `a` is `z`")]),
     ('<!DOCTYPE a [<!ENTITY own SYSTEM "o.gif" NDATA gif>]>\n<a id="i" e="own"/>', []),
+    ('<a id="&none;"/>', [("unseen", "1:4", "the value of `id` of `a` isn't known: it refers to `&none;`; it must be a name")]),
+    ('<a id="&none;" r="&none;"><a id="&none;" k="&other;" f="&other;" title="&other;"/></a>', [
+        ("unseen", "1:4", "`&none;`"), ("unseen", "1:16", "`r`"), ("unseen", "1:30", "`&none;`"), ("unseen", "1:42", "`k`"), ("unseen", "1:54", "`f`")]),
     ('<!DOCTYPE a [<!ENTITY e "two">\n]>\n<a id="i" n="&e;">&e;<b only="&e;" open="&e;"/></a>', [("value", "3:25", "it must be `this`")]),
 ]
 
@@ -332,7 +335,7 @@ REMARKS = [
     ('<!DOCTYPE a [<!ENTITY e "&#60;b/>">]><a>&e;</a>', [("brings", "elements or other markup")]),
     ('<!DOCTYPE a [<!ENTITY e "&f;"><!ENTITY f "x<b/>">]><a>&e;</a>', [("brings", "xmllint --nonet --noent --loaddtd")]),
     ('<!DOCTYPE a [<!ENTITY e SYSTEM "/etc/passwd">]><a>&e;</a>', [("brings", "as another file")]),
-    ('<!DOCTYPE a [<!ENTITY e "&e;">]><a>&e;</a>', [("brings", "or itself")]),
+    ('<!DOCTYPE a [<!ENTITY e "&e;">]><a>&e;</a>', [("brings", "`&e;` refers to itself")]),
     ('<!DOCTYPE a [<!ENTITY e "&f;">]><a>&e;</a>', [("brings", "`&f;`")]),
     ("<!DOCTYPE a [\n<!ELEMENT a ANY>\n<!ELEMENT b ANY>]><a/>", [("element", "declares 2 elements itself")]),
     ('<!DOCTYPE a [<!ENTITY % p SYSTEM "p.ent">%p;]><a>&e;</a>', [("subset", "`%p;`"), ("entity", "`&e;`")]),
@@ -352,6 +355,8 @@ def try_remarks(trial: Trial) -> None:
         is_right = len(found) == len(wanted) and all(one[0] == other[0] and other[1] in one[1] for one, other in zip(found, wanted))
         trial.tell("remarks", is_right and masked.restored(masked.data) == data, text, found)
         trial.tell("what isn't whole", masked.is_whole == all(it[0] != "brings" for it in wanted), text)
+        is_told = any("to itself" in words or "no declaration" in words for _, words in wanted)
+        trial.tell("what is no fault", (masked.fault is not None) == is_told, text, masked.fault)
     # What would grow without end.
     doubling = "".join(f'<!ENTITY e{at} "&e{at + 1};&e{at + 1};">' for at in range(60)) + '<!ENTITY e60 "x">'
     many = "".join(f"&e{at};" for at in range(61)) * 50
@@ -362,6 +367,86 @@ def try_remarks(trial: Trial) -> None:
     trial.tell("it is bounded", time.monotonic() - start < 60 and len(masked.data) < 4 * len(data) and len(spelled) < 20 << 20, len(spelled))
     for at in range(0, len(data), 997):
         trial.tell("offsets", masked.offset(masked.masked_offset(at)) <= at, at)
+
+
+# Declarations, a document, and words on what isn't well-formed in it, if anything is. `&e;` is the place, where there is one.
+FORMS = [
+    ('<!ENTITY e "]]>">', "<a>&e;</a>", "has `]]>` in its text"),
+    ('<!ENTITY e "]]&#62;">', "<a>x&e;</a>", "has `]]>` in its text"),
+    ('<!ENTITY e "]]&#38;gt;">', "<a>&e;</a>", ""),
+    ('<!ENTITY e "]]>">', "<a b='&e;'/>", ""),
+    ('<!ENTITY e "]]&f;"><!ENTITY f ">">', "<a>&e;</a>", ""),
+    ('<!ENTITY e "]]">', "<a>&e;></a>", ""),
+    ('<!ENTITY e "<b/>">', "<a b='&e;'/>", "has a `<` in its text"),
+    ('<!ENTITY e "&#60;">', "<a b='&e;'/>", "has a `<` in its text"),
+    ('<!ENTITY e "&#38;#60;">', "<a b='&e;'>&e;</a>", ""),
+    ('<!ENTITY e "&lt;">', "<a b='&e;'>&e;</a>", ""),
+    ('<!ENTITY e "x&f;"><!ENTITY f "<b/>">', "<a b='&e;'/>", "`&e;` brings `&f;`, which has a `<`"),
+    ('<!ENTITY e "<b c=\'&f;\'/>"><!ENTITY f "&#60;">', "<a>&e;</a>", "`&e;` brings `&f;`, which has a `<`"),
+    ('<!ENTITY e "<b>">', "<a>&e;</b></a>", "can't stand in an element"),
+    ('<!ENTITY e "</a><a>">', "<a>&e;</a>", "can't stand in an element"),
+    ('<!ENTITY e "<b></c>">', "<a>&e;</a>", "mismatched tag"),
+    ('<!ENTITY e "<\u00e9></\u00e8>">', "<a>&e;</a>", "mismatched tag"),
+    ('<!ENTITY e "<\u4e00/><\U00010000/>">', "<a>&e;</a>", ""),
+    ('<!ENTITY e "<b x=\'1\' x=\'2\'/>">', "<a>&e;</a>", "duplicate attribute"),
+    ('<!ENTITY e "&#38;">', "<a>&e;</a>", "can't stand in an element"),
+    ('<!ENTITY e "&#38;">', "<a b='&e;'/>", "can't stand in a value"),
+    ('<!ENTITY e "&#38;#1;">', "<a b='&e;'/>", "invalid character number"),
+    ('<!ENTITY e "&f;"><!ENTITY f "&e;">', "<a>&e;</a>", "refers to itself"),
+    ('<!ENTITY e "&f;"><!ENTITY f "&e;">', "<a b='&e;'/>", "refers to itself"),
+    ('<!ENTITY e "&f;"><!ENTITY f "&e;">', "<a/>", ""),
+    ('<!ENTITY e SYSTEM "x">', "<a b='&e;'/>", "in another file"),
+    ('<!ENTITY e SYSTEM "x">', "<a>&e;</a>", ""),
+    ('<!NOTATION n SYSTEM "n"><!ENTITY e SYSTEM "x" NDATA n>', "<a>&e;</a>", "is no text"),
+    ('<!ENTITY e "<?xml version=\'1.0\'?>">', "<a>&e;</a>", "not at start of entity"),
+    ('<!ENTITY e "<!-- a ">', "<a>&e; --></a>", "unclosed token"),
+    ('<!ENTITY e "<![CDATA[ ">', "<a>&e; ]]></a>", "unclosed CDATA section"),
+    ('<!ENTITY e "&#60;b&#62;x&#60;/b&#62;">', "<a>&e;</a>", ""),
+    ('<!ENTITY e "x & y">', "<a/>", "own declarations"),
+    ('<!ENTITY e "x%p;">', "<a/>", "own declarations"),
+    ('<!ENTITY e "&#1;">', "<a/>", "own declarations"),
+    ('<!ENTITY e "\ufffe">', "<a/>", "no character of XML"),
+    ("<!ELEMENT a (b,>", "<a/>", "own declarations"),
+    ("<!ELEMENT \U00010000 (\u00e9)>", "<a/>", ""),
+    ("<!-- a -- b -->", "<a/>", "own declarations"),
+]
+PIECES = ["x", "x", "]]>", "]]", ">", "<", "&#60;", "&#38;", "&#38;#60;", "<b>", "</b>", "<b/>", "<b c='", "'/>", "'", "<!--", "-->", "<?p", "?>", "<![CDATA[",
+          "&lt;", "&#38;#1;", "\u00e9", "&#x10000;", "&", "&e0;", "&e1;", "&e2;", "&e3;", "<b c='&e1;'>&e2;</b>"]
+
+
+def well_formed(text: str) -> tuple[bool, str]:
+    """Whether a document is well-formed, and what xmllint says."""
+    Path("f.xml").write_text(text)
+    ran = subprocess.run(["xmllint", "--nonet", "--noout", "f.xml"], capture_output=True, text=True, errors="replace", check=False)
+    return ran.returncode == 0, ran.stderr
+
+
+def try_forms(trial: Trial) -> None:
+    """What an entity brings is of the form of XML, as xmllint says, or it is told at the reference."""
+    documents = [(f"<!DOCTYPE a [{declared}]>{body}", wanted) for declared, body, wanted in FORMS]
+    for _ in range(120):
+        values = ["".join(trial.random.choices(PIECES, k=trial.random.choice([0, 1, 1, 2, 3]))) for _ in range(4)]
+        names = [f"&e{trial.random.randint(0, 3)};" for _ in range(3)]
+        declared = "".join(f'<!ENTITY e{at} "{value}">' for at, value in enumerate(values))
+        documents.append((f"<!DOCTYPE a [{declared}]><a>{trial.random.choice(['', names[0]])}<b c='{trial.random.choice(['', names[1]])}'/>{names[2]}</a>", None))
+    for text, wanted in documents:
+        if trial.is_late:
+            return
+        fault, (is_formed, said) = mask(text.encode()).fault, well_formed(text)
+        if is_formed and fault is not None:
+            # What libxml2 has met in a value it doesn't look at again in content.
+            is_formed, said = well_formed(re.sub(r"c='&e\d;'", "c=''", text))
+        if "not defined" not in said:
+            trial.tell("well-formed by both", is_formed == (fault is None), text, fault, said[:500])
+        if wanted is not None:
+            trial.tell("what isn't well-formed", (wanted in fault.sentence if fault else "") if wanted else fault is None, text, fault)
+            at = text.encode()[slice(*fault.span)] if fault and "own declarations" not in fault.sentence else b"&e;"
+            trial.tell("the place", at == b"&e;", text, fault)
+    # A chain, a ring and much text: no call in a call, and no more than is read.
+    chain = "".join(f'<!ENTITY e{at} "&e{at + 1};">' for at in range(20_000))
+    for last, is_fault in ("x", False), ("]]>", True), ("&e0;", True):
+        data = f"<!DOCTYPE a [{chain}<!ENTITY e20000 '{last}'>]><a>&e0;</a>".encode()
+        trial.tell("a chain", (mask(data).fault is not None) == is_fault, last)
 
 
 def try_growth(trial: Trial) -> None:
@@ -427,12 +512,19 @@ def try_commands(trial: Trial) -> None:
     trial.tell("nothing to look at", run("why", "n.dtd", "p", "n.xml", PYTHONPATH="without") == (1, "possible\n", ""))
     Path("m.xml").write_text("<!DOCTYPE p [<!ENTITY foo>]><p>words</p>")
     _, out, _ = run("report", "n.dtd", "p", "m.xml")
-    trial.tell("a report says so", '"verdict": "valid"' in out and "attributes weren't looked at: libxml2 doesn't read" in out, out)
+    trial.tell("a report says so", '"verdict": "refused"' in out and "own declarations aren't well-formed here" in out, out)
     Path("x.dtd").write_text("<!ELEMENT x:a (b*)> <!ATTLIST x:a xmlns:x CDATA #FIXED 'urn:x'> <!ELEMENT b EMPTY> <!ATTLIST b x:ref CDATA #REQUIRED>")
     Path("x.xml").write_text('<x:a xmlns:x="urn:x"><x:b/><b ref="1"/></x:a>')
     told = run("why", "x.dtd", "x:a", "x.xml")
     trial.tell("prefixes", told[:2] == (0, "x.xml:1:22: `x:b` (line 1) isn't declared.\n  The DTD has it as `b`: a prefix is part of the name.\n"), told)
     trial.tell("prefixes of attributes", "the DTD declares no attribute `ref` of `b`: it writes it `x:ref`" in told[2] and "`b` lacks the attribute `x:ref`" in told[2], told)
+    # What isn't well-formed by an entity is a fault of the document.
+    Path("w.xml").write_text('<!DOCTYPE p [<!ENTITY e "]]>">]>\n<p>&e;</p>')
+    for client in "why", "complete":
+        told = run(client, "n.dtd", "p", "w.xml")
+        trial.tell("a fault", told == (7, "", f"{client}: w.xml:2:4: the document isn't well-formed: `&e;` has `]]>` in its text\n"), told)
+    _, out, _ = run("report", "n.dtd", "p", "w.xml")
+    trial.tell("a report refuses it", '"verdict": "refused"' in out and "has `]]>` in its text" in out and '"line": 2' in out, out)
     # The completion is that of the program, for random documents.
     dtd = PAGE_DTD.replace("(#PCDATA)> <!ATTLIST p", "(#PCDATA|title|p)*> <!ATTLIST p")
     Path("q.dtd").write_text(dtd)
@@ -455,6 +547,7 @@ def main() -> None:
     with tempfile.TemporaryDirectory() as folder:
         os.chdir(folder)
         try_remarks(trial)
+        try_forms(trial)
         try_entities(trial)
         if python:
             try_small(trial)

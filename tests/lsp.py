@@ -4,6 +4,7 @@ positions.
 Words: PROGRAM, and the names of cases where not all are wanted. Prints each difference, and how many cases passed;
 ends with 1 where one failed.
 """
+import json
 import os
 import re
 import sys
@@ -160,6 +161,61 @@ def tells_attributes(program):
         same((codes(told), [each["severity"] for each in told if each["code"] == "attribute"]), (["attribute", "missing", "possible"], [3]), "no ATTLIST")
 
 
+# Elements whose attributes the DTD requires: one value of some is possible.
+REQUIRED = """<!ELEMENT doc (head, p*)> <!ELEMENT head (title)> <!ATTLIST head kind (main) #REQUIRED> <!ELEMENT title (#PCDATA)>
+<!ATTLIST title lang NMTOKEN #REQUIRED> <!ELEMENT p (#PCDATA|hi)*> <!ELEMENT hi (#PCDATA)>
+<!ATTLIST hi rend (it) #REQUIRED n CDATA #REQUIRED m CDATA #IMPLIED>"""
+
+
+def gives_attributes(program):
+    """What is inserted has the attributes that the DTD requires, where one value is possible; what it lacks is said."""
+    if python_with_lxml() is None:
+        print("skipped: attributes of new elements (no lxml, package python3-lxml)")
+        return
+    capabilities = json.loads(json.dumps(CAPABILITIES))
+    capabilities["textDocument"]["completion"]["completionItem"]["snippetSupport"] = True
+    with tempfile.TemporaryDirectory() as folder:
+        with open(f"{folder}/required.dtd", "w", encoding="utf-8") as file:
+            file.write(REQUIRED)
+        uri, text = uri_of("a.xml", folder), '<!DOCTYPE doc SYSTEM "required.dtd">\n<doc><p>some words</p></doc>\n'
+        whole = text.replace("<doc>", '<doc><head kind="main"><title></title></head>')
+        for able, hi in (CAPABILITIES, 'hi rend="it"></hi>'), (capabilities, 'hi rend="it">$0</hi>'):
+            with Client(program, able) as client:
+                client.open(uri, text)
+                client.diagnostics(uri, finished)
+                place = text.index("words")
+                client.change(uri, place, place, "<")
+
+                def item():
+                    about = client.about(uri, place + 1)
+                    return next(each for each in client.ask("textDocument/completion", about)["items"] if each["label"] == "hi")
+
+                # On a busy machine an insertion doesn't wait for what is declared of attributes.
+                need(until(lambda: item()["textEdit"]["newText"] == hi), f"completed: {item()}")
+                need("lacks `n`, which the DTD requires" in item()["documentation"], f"what is lacking: {item()}")
+                client.change(uri, place, place + 1, "")
+                found = client.actions(uri, (place, place + 5), ["refactor"])
+                same([*found], ["Wrap in <hi>, which lacks `n`"], "a wrap")
+                (wrap,) = found.values()
+                same(edited(text, edits_of(wrap["edit"])), text.replace("words", '<hi rend="it">words</hi>'), "wrapped")
+                action = client.ask("codeAction/resolve", client.actions(uri, (0, 0))["Insert 2 missing elements"])
+                same(edited(text, edits_of(action["edit"])), whole, "inserted")
+                said = client.wait(lambda each: each.get("method") == "window/showMessage", "what is lacking")
+                need("`title` lacks `lang`." in said["params"]["message"], said)
+
+
+def tells_ill_formed_entities(program):
+    """What an entity brings that isn't of the form of XML is a fault at the reference."""
+    text = '<!DOCTYPE letter SYSTEM "letter.dtd" [\n<!ENTITY e "]]>">\n]>\n<letter><opener><salute>&e;</salute></opener><body><p>x</p></body></letter>\n'
+    with Client(program) as client:
+        client.open(URI, text)
+        told = client.diagnostics(URI, bool)
+        same((codes(told), told[0]["severity"], told[0]["range"]["start"]), (["fault"], 1, place_of(text, "&e;")), "the place")
+        need("`&e;` has `]]>` in its text" in told[0]["message"], told)
+        client.open(URI, text.replace("]]>\"", "]]\""), 2)
+        same(client.diagnostics(URI, lambda told: not told), [], "it is a document")
+
+
 def ends_older_work(program):
     """Each key begins the work anew; at its end the newest text alone is told of."""
     # A machine may be so busy that a text between stands for a while, so this is tried again.
@@ -256,8 +312,8 @@ def orders_names(program):
         client.change(URI, start, start + 1, "")
         start = text.index("Dear")
         client.change(URI, start, start, "<")
-        found = until(lambda: (found := labels(start + 1))[0][0] == "salute" and found)
-        need(found and dict(found)["place"] == "+1", f"what is missing: {labels(start + 1)}")
+        found = until(lambda: (found := labels(start + 1))[0][0] == "salute" and dict(found)["place"] == "+1")
+        need(found, f"what is missing: {labels(start + 1)}")
 
 
 def asks_for_one_of_many(program):
@@ -625,6 +681,8 @@ CASES = [
     keeps_what_was_told,
     tells_faults,
     tells_attributes,
+    gives_attributes,
+    tells_ill_formed_entities,
     ends_older_work,
     completes,
     completes_what_was_chosen,

@@ -157,6 +157,8 @@ BAD = {
     "local": ('<!ENTITY % m SYSTEM "File://LocalHost/etc/passwd">\n%m;\n<!ELEMENT a EMPTY>', ["local.dtd:2: ", "--also FOLDER: /etc/passwd"]),
     "link": ('<!ENTITY % m SYSTEM "link.mod">\n%m;\n<!ELEMENT a EMPTY>', ["link.dtd:2: ", "--also FOLDER: ", "link.mod"]),
     "above": ('<!ENTITY % m SYSTEM "../outside/o.mod">\n%m;\n<!ELEMENT a EMPTY>', ["above.dtd:2: ", "--also FOLDER: ", "o.mod"]),
+    # What is refused isn't opened: this one would never end.
+    "unopened": ('<!ENTITY % m SYSTEM "../outside/pipe.mod">\n%m;\n<!ELEMENT a EMPTY>', ["unopened.dtd:2: ", "--also FOLDER: ", "pipe.mod"]),
     "grown": (
         '<!ENTITY % a "' + "x" * 1000 + '"><!ENTITY % b "' + "%a;" * 1000 + '">' + "".join(f"<!ENTITY e{n} '%b;'>" for n in range(8)) + "<!ELEMENT a EMPTY>",
         ["grown.dtd"],
@@ -192,6 +194,7 @@ def small(python):
     os.symlink("/etc/passwd", "link.mod")
     os.makedirs("../outside")
     write("../outside/o.mod", "<!ELEMENT o EMPTY>")
+    os.mkfifo("../outside/pipe.mod")
     for name, (text, want, *remarks) in (GOOD | TOLD).items():
         write(f"{name}.dtd", text)
         ran = run(python, TOOL, f"{name}.dtd")

@@ -66,13 +66,16 @@ def wrapping(asked: Asked, work: Work, start: int, end: int) -> list[Json]:
     found = cut(owner, document.data, start, end)
     if found is None or found.start >= found.end or is_too_deep(owner, start, end, document.data):
         return []
-    uses = used(document, owner.label)
-    (offered,) = wraps(work, asked.grammar, owner.label, found.kids, [(found.start, found.end)], uses)
+    uses, grammar = used(document, owner.label), asked.grammar
+    (offered,) = wraps(work, grammar, owner.label, found.kids, [(found.start, found.end)], uses)
     first, last = document.text.range(start, start), document.text.range(end, end)
-    return [
-        action(asked, f"Wrap in <{each.name}>", [put(first, f"<{each.name}>"), put(last, f"</{each.name}>")])
-        for each in ordered(work, asked.grammar, document, owner.label, offered)
-    ]
+    actions_ = []
+    for name in (each.name for each in ordered(work, grammar, document, owner.label, offered)):
+        new = grammar.new_element(name)
+        title = f"Wrap in <{name}>" + (f", which {new.sentence}" if new.lacking else "")
+        edits = [put(first, f"<{name}{new.attributes.decode()}>"), put(last, f"</{name}>")]
+        actions_.append(action(asked, title, edits))
+    return actions_
 
 
 def wrapping_first(asked: Asked, work: Work, start: int, end: int) -> list[Json]:
@@ -227,4 +230,6 @@ def resolve(asked: Asked, work: Work) -> Json:
     edits = completed(asked.document, asked.grammar, work)
     if not isinstance(edits, Completed):
         raise Error(wire.REQUEST_FAILED, edits)
+    if edits.sentence:
+        asked.say(edits.sentence)
     return asked.params | {"edit": asked.document.edit(asked.client, edits.edits)}

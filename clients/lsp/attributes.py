@@ -35,7 +35,10 @@ FIELD, ENUM_MEMBER, SNIPPET = 5, 20, 2
 def diagnostics(document: Document, grammar: Grammar, work: Work) -> list[Json]:
     """What is wrong with attributes, and what is to be said of entities and of the subset."""
     masked = mask(document.text.data, grammar.dtd.data)
-    told = [of(document, it.span.start, it.span.end, WARNING, it.kind, it.sentence) for it in masked.remarks]
+    told = [
+        of(document, it.span.start, it.span.end, *((ERROR, "fault") if it.is_fault else (WARNING, it.kind)), it.sentence)
+        for it in masked.remarks
+    ]
     attributes = grammar.attributes
     with grammar.asking:
         if work.is_over:
@@ -59,7 +62,7 @@ def diagnostics(document: Document, grammar: Grammar, work: Work) -> list[Json]:
 
 def of_fault(document: Document, fault: AttributeFault, is_declared: bool) -> Json:
     start, end = fault.span if fault.span is not None else (0, 0)
-    severity = INFORMATION if not is_declared else WARNING if fault.kind in ("missing", "blanks") else ERROR
+    severity = INFORMATION if not is_declared else WARNING if fault.kind in ("missing", "blanks", "unseen") else ERROR
     return of(document, start, end, severity, "attribute", fault.sentence)
 
 

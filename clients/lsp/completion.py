@@ -5,7 +5,7 @@ from collections.abc import Mapping
 
 import attributes
 from documents import Asked, Document, put
-from grammar import Grammar
+from grammar import Grammar, NewElement
 from lists import Cut, cut
 from mending import changes_of, wraps
 from nodes import ITEM, NAME, START, Element
@@ -21,6 +21,8 @@ LONGEST = 1024
 # fewer in long lists.
 NEXT, TRIED = 6, 20_000
 PROPERTY, SNIPPET = 10, 2
+# What means something else in a snippet.
+SPECIAL = re.compile(r"[\\$}]")
 
 
 def complete(asked: Asked, work: Work) -> Json:
@@ -110,10 +112,13 @@ def opening(asked: Asked, work: Work, start: int, offset: int) -> list[Json]:
     place = document.text.range(start + 1, offset)
     items = []
     for number, name in enumerate(offered):
-        text = tags_of(grammar, name, offered[name], snippets)
+        new = grammar.new_element(name)
+        text = tags_of(grammar, name, new, offered[name], snippets)
         item = named(grammar, name, put(place, text[:-1] if is_closed else text), number, costs.get(name))
         if snippets:
             item["insertTextFormat"] = SNIPPET
+        if new.lacking:
+            item["documentation"] = f"It {new.sentence}, which the DTD requires."
         items.append(item)
     return items
 
@@ -128,14 +133,15 @@ def beginning(
     return wraps(work, grammar, owner, place.kids, runs, uses)
 
 
-def tags_of(grammar: Grammar, name: str, is_whole: bool, snippets: bool) -> str:
+def tags_of(grammar: Grammar, name: str, new: NewElement, is_whole: bool, snippets: bool) -> str:
     """What is put behind `<`: both tags where the element may end here, else its start tag."""
-    shown = name.replace("$", r"\$") if snippets else name
+    with_attributes = name + new.attributes.decode()
+    shown, begun = (SPECIAL.sub(r"\\\g<0>", text) if snippets else text for text in (name, with_attributes))
     if not is_whole:
-        return f"{shown}>"
+        return f"{begun}>"
     if name in grammar.dtd.types and grammar.dtd.types[name].kind == "empty":
-        return f"{shown}/>"
-    return f"{shown}>{'$0' if snippets else ''}</{shown}>"
+        return f"{begun}/>"
+    return f"{begun}>{'$0' if snippets else ''}</{shown}>"
 
 
 def named(grammar: Grammar, name: str, edit: Json, number: int, cost: Named | None = None) -> Json:

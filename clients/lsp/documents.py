@@ -109,9 +109,11 @@ class Asked:
 
     def __init__(self, document: Document, params: Json, client: Client, finder: Finder, work: Work) -> None:
         self.document, self.params, self.client, self.finder, self.work = document, params, client, finder, work
-        # Asks the editor, which answers later, and whether the document is as it was; the server sets both.
+        # Asks the editor, which answers later, and whether the document is as it was; the server sets these.
         self.ask: Callable[[str, Json, Callable[[Any], None]], None] = lambda method, params, then: None
         self.is_current: Callable[[], bool] = lambda: True
+        # Tells the person something about the document.
+        self.say: Callable[[str], None] = lambda sentence: None
 
     @property
     def offset(self) -> int:

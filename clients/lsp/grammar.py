@@ -10,6 +10,7 @@ import urllib.parse
 import weakref
 from collections.abc import Callable, Mapping, Sequence
 from concurrent.futures import Future
+from concurrent.futures import TimeoutError as FutureTimeout
 from dataclasses import dataclass
 from typing import Any, NamedTuple
 from xml.sax.saxutils import quoteattr
@@ -21,8 +22,9 @@ from pvtag.attributes import Attributes
 from pvtag.costs import Known
 from pvtag.dtd import Dtd
 from pvtag.faults import Refusal, fault_of
+from pvtag.filling import given_to, lacking_of, text_of
 from pvtag.places import Source
-from pvtag.program import RUNNING, TOP, Answer, Running, Trouble, run
+from pvtag.program import RUNNING, TOP, Answer, Running, Stopped, Trouble, run
 from pvtag.reasons import Reason, Reasons
 from pvtag.tries import Kid
 from reading import front
@@ -49,6 +51,8 @@ MODULES = re.compile(r"dtd param (conditional|external)|dtd parameter \d")
 List = tuple[str, str, Sequence[Kid]]
 Key = tuple[str, str, tuple[Kid, ...]]
 MOST_KEPT = 500
+# So long, in seconds, an insertion waits for what a DTD declares of attributes.
+SOON = 1.0
 FileKey = tuple[object, int, int]
 
 
@@ -96,12 +100,43 @@ class Declared:
         # What the DTD declares of attributes. What is asked for it ends with this.
         self.attributes = Attributes(self.dtd.data)
         weakref.finalize(self, self.attributes.close)
+        self.reading: Future[Attributes] | None = None
         self.lock, self.kept = threading.Lock(), dict[Key, Reason | None]()
         self.costs = dict[tuple[bytes, str], Known]()
         self.order = {name: at for at, name in enumerate(self.dtd.types)}
         self.models: dict[str, str] = {}
         # So many texts at a time are asked about.
         self.asking = threading.BoundedSemaphore(4)
+
+    def read_attributes(self) -> "Future[Attributes]":
+        """The attributes, once libxml2 has told what is declared. It is asked once, in a thread of its own."""
+        with self.lock:
+            if self.reading is None:
+                self.reading = Future()
+                threading.Thread(target=self.ask_attributes, args=(self.attributes, self.reading), daemon=True).start()
+            return self.reading
+
+    @staticmethod
+    def ask_attributes(attributes: Attributes, reading: "Future[Attributes]") -> None:
+        with contextlib.suppress(Trouble, Stopped):
+            attributes.declared.items()
+        reading.set_result(attributes)
+
+
+class NewElement(NamedTuple):
+    """The attributes of a new element: those that the DTD requires and of which one value is possible, as they stand in its
+    tag, and the names of those that it lacks, which somebody has to tell."""
+
+    attributes: bytes
+    lacking: tuple[str, ...]
+
+    @property
+    def sentence(self) -> str:
+        """What it lacks, "" where that is nothing."""
+        return f"lacks {', '.join(f'`{name}`' for name in self.lacking)}" if self.lacking else ""
+
+
+NOTHING = NewElement(b"", ())
 
 
 class Grammar:
@@ -111,6 +146,16 @@ class Grammar:
         self.declared, self.root = declared, root
         self.program, self.dtd, self.path = declared.program, declared.dtd, declared.plain.path
         self.attributes, self.asking = declared.attributes, declared.asking
+
+    def new_element(self, name: str) -> "NewElement":
+        """What a new element of this name is given, as far as it is known soon what the DTD declares of attributes."""
+        if not self.attributes.declares_any:
+            return NOTHING
+        try:
+            attributes = self.declared.read_attributes().result(SOON)
+        except FutureTimeout:
+            return NOTHING
+        return NewElement(text_of(given_to(attributes, name)), lacking_of(attributes, name))
 
     def order(self) -> dict[str, int]:
         """The declared names, each with its number in the order of declaration."""

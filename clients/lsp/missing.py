@@ -1,10 +1,11 @@
 """A completion as text edits that insert tags and touch nothing else: a least one, but where a list is too wide for a
 session that of `pvlong`."""
 import re
+from collections.abc import Callable
 from typing import NamedTuple
 
 from documents import Document
-from grammar import Grammar
+from grammar import Grammar, NewElement
 from lists import Alone
 from nodes import END, ITEM, NAME, SLASH, START
 from pvtag.long import Inserted
@@ -21,7 +22,16 @@ WHY = {
 
 
 class Completed(NamedTuple):
+    """The edits, and what new elements lack of attributes, by their names."""
+
     edits: list[Json]
+    lacking: dict[str, NewElement]
+
+    @property
+    def sentence(self) -> str:
+        """What they lack, in a sentence; "" where that is nothing."""
+        told = [f"`{name}` {new.sentence}" for name, new in self.lacking.items()]
+        return f"New elements need attributes that the DTD requires: {'; '.join(told)}." if told else ""
 
 
 class Change:
@@ -51,8 +61,8 @@ class Numbered:
                 parts.append(item[0])
         self.data = b"".join(parts)
 
-    def changes(self, completed: bytes) -> list[Change]:
-        """What a completion of the numbered document changes in the document."""
+    def changes(self, completed: bytes, new_element: Callable[[str], NewElement]) -> list[Change]:
+        """What a completion of the numbered document changes in the document; new elements are given what is told."""
         changes: list[Change] = []
         at, opened = 0, list[bool]()
 
@@ -72,7 +82,8 @@ class Numbered:
                 if not is_short:
                     opened.append(was_short)
             elif item.lastindex == START:
-                put(text)
+                front = item.end(1) - item.start()
+                put(text[:front] + new_element(item[1].decode()).attributes + text[front:])
                 if not is_short:
                     opened.append(True)
             elif item.lastindex == END and opened.pop():
@@ -93,8 +104,16 @@ def completed(document: Document, grammar: Grammar, work: Work) -> Completed | s
         return f"the document can't be read: {ended.line}"
     if isinstance(answer, Refused):
         return WHY.get(answer.why, f"the program answers: {answer.why}")
-    changes = numbered.changes(answer.document)
-    return Completed([document.put(change.start, change.end, change.text.decode()) for change in changes])
+    new = dict[str, NewElement]()
+
+    def new_element(name: str) -> NewElement:
+        if name not in new:
+            new[name] = grammar.new_element(name)
+        return new[name]
+
+    changes = numbered.changes(answer.document, new_element)
+    edits = [document.put(change.start, change.end, change.text.decode()) for change in changes]
+    return Completed(edits, {name: each for name, each in new.items() if each.lacking})
 
 
 def inserted(grammar: Grammar, root: str, data: bytes, work: Work) -> Inserted | Refused:

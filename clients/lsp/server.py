@@ -135,6 +135,7 @@ class Server:
         opened = self.opened[uri]
         asked = Asked(opened.document, params, self.client, self.finder, Work())
         asked.ask, asked.is_current = self.ask, lambda: opened.document is asked.document
+        asked.say = lambda sentence: self.say(uri, sentence, False)
         return opened, asked
 
     def ask(self, method: str, params: Json, then: Callable[[Any], None]) -> None:

@@ -98,7 +98,8 @@ def listed_in_words(values: Sequence[str], most: int = 12) -> str:
 class AttributeFault(NamedTuple):
     """A fault of an attribute: "missing", "unknown", "value" (not one of those that are listed, or fixed), "type", "blanks"
     (round a value; XML reads over them, not every validator does), "id" (twice), "idref" (no such ID), "entity",
-    "notation", "twice" (in one tag) or "prefix" (bound to nothing).
+    "notation", "twice" (in one tag), "prefix" (bound to nothing) or "unseen" (it refers to an entity whose text isn't
+    known, so that its value isn't).
 
     `number` is the element's, in document order from 0; `span` the attribute in the document as it is written, or the name
     of the tag that lacks it."""
@@ -202,6 +203,8 @@ class Attributes:
     def __init__(self, dtd: bytes, runs: Running = RUNNING) -> None:
         self.dtd, self.runs = dtd, runs
         self.lock, self.idle = threading.Lock(), list[Asking]()
+        # What is known of the DTD. Of `functools.cached_property` the lock would be one for all DTDs.
+        self.reading, self.known, self.rows = threading.Lock(), dict[str, Any](), dict[str, tuple[Attribute, ...]]()
 
     def __enter__(self) -> "Attributes":
         return self
@@ -237,9 +240,18 @@ class Attributes:
         """Whether the DTD may declare an attribute at all: where its text doesn't, nobody has to be asked."""
         return b"ATTLIST" in self.dtd or b"<!ENTITY" in self.dtd
 
-    @functools.cached_property
+    @property
     def told(self) -> dict[str, Any]:
         """What is known of the DTD: "declared", or the "fault" why nothing is."""
+        with self.reading:
+            if not self.known:
+                self.known = self.asked()
+                found: dict[str, Sequence[Sequence[Any]]] = self.known.get("declared", {})
+                self.rows = {name: tuple(sorted(map(attribute_of, rows), key=lambda it: not it.is_required)) for name, rows in found.items()}
+            return self.known
+
+    def asked(self) -> dict[str, Any]:
+        """What libxml2 tells of the DTD."""
         try:
             with self.asking() as one:
                 return one.told
@@ -253,11 +265,10 @@ class Attributes:
         """Why attributes can't be looked at, a sentence; "" where they can."""
         return str(self.told.get("fault", ""))
 
-    @functools.cached_property
+    @property
     def declared(self) -> Mapping[str, tuple[Attribute, ...]]:
         """The attributes of each declared element, required ones first; none where they can't be looked at."""
-        found: dict[str, Sequence[Sequence[Any]]] = self.told.get("declared", {})
-        return {name: tuple(sorted(map(attribute_of, rows), key=lambda it: not it.is_required)) for name, rows in found.items()}
+        return self.rows if self.rows or self.told else {}
 
     def of(self, element: str) -> tuple[Attribute, ...]:
         """The attributes of an element, required ones first."""
@@ -292,7 +303,7 @@ class Attributes:
             return Checked([], why_not=str(trouble))
         if "fault" in answer:
             return Checked([], why_not=answer["fault"])
-        faults = Placing(self, masked).faults(answer["faults"]) if answer["faults"] else []
+        faults = Placing(self, masked).faults(answer["faults"]) if answer["faults"] or masked.unknown else []
         return Checked(faults, bool(answer["cut"]))
 
 
@@ -319,6 +330,11 @@ def blanked(data: bytes) -> bytes:
         if item.kind in ("start", "empty", "text") and data[item.start:item.end].strip():
             break
     return data
+
+
+def stand_in_of(form: bytes) -> str:
+    """The character that a stand-in is for libxml2."""
+    return chr(int(form[2:-1])) if form.startswith(b"&#") else ""
 
 
 # ---- where faults are, and what is said of them ----
@@ -360,6 +376,9 @@ class Placing:
         self.tags = [self.tag(item.start, item.end) for item in document_items(masked.data) if item.kind in ("start", "empty")]
         # Where each ID is given first.
         self.ids: dict[str, Span] | None = None
+        # What stands for entities whose texts aren't known, as libxml2 reads it.
+        self.unknown = {stand_in_of(masked.data[slice(*part.by)]) for part in masked.unknown}
+        self.not_known = list(self.unseen())
 
     def tag(self, start: int, end: int) -> Tag:
         data, found = self.masked.data, TAG_NAME.match(self.masked.data, start)
@@ -371,10 +390,9 @@ class Placing:
     def faults(self, rows: Sequence[tuple[int | None, str, str]]) -> list[AttributeFault]:
         """All of them, each once, in the order of their places."""
         found = dict[tuple[Any, ...], AttributeFault]()
-        for number, kind, message in rows:
-            for fault in self.faults_of(number, kind, message):
-                key = fault.kind, fault.number, fault.attribute, fault.value if fault.kind == "idref" else None
-                found.setdefault(key, fault)
+        for fault in (*self.not_known, *(fault for row in rows for fault in self.faults_of(*row))):
+            key = fault.kind, fault.number, fault.attribute, fault.value if fault.kind == "idref" else None
+            found.setdefault(key, fault)
         return sorted(found.values(), key=lambda fault: fault.span or Span(0, 0))
 
     def faults_of(self, number: int | None, kind: str, message: str) -> Iterator[AttributeFault]:
@@ -402,8 +420,13 @@ class Placing:
         if tag.name not in self.attributes.declared and tag.name.rpartition(":")[2] not in self.attributes.declared:
             # Nothing is declared for an element that isn't; that it isn't is told elsewhere.
             return
+        if value is not None and any(char in value for char in self.unknown):
+            # What isn't known isn't wrong: it is told once, by `unseen`.
+            return
         name = self.written_name(tag, name, value, kind)
         declared = self.attributes.one(tag.name, name)
+        if kind in ("value", "notation", "entity") and any((it.number, it.attribute) == (number, name) for it in self.not_known):
+            return
         if kind != "idref":
             value = next((each for other, _, each in tag.pairs if other == name), value)
         if kind in ("type", "value", "notation") and value is not None and value != " ".join(value.split()) and self.fits(declared, value):
@@ -446,6 +469,21 @@ class Placing:
         span = next((span for other, span, _ in tag.pairs if other == name), own) if tag is not None else None
         return AttributeFault(kind, number, tag.name if tag is not None else "", name, value,
                               self.masked.original(span) if span is not None else None, sentence)
+
+    def unseen(self) -> Iterator[AttributeFault]:
+        """The attributes, of other types than CDATA, whose values have a reference to an entity whose text isn't known."""
+        parts = iter(self.masked.unknown)
+        part = next(parts, None)
+        for number, tag in enumerate(self.tags):
+            for name, span, value in tag.pairs:
+                while part is not None and part.by.start < span.start:
+                    part = next(parts, None)
+                declared = self.attributes.one(tag.name, name)
+                if part is None or part.by.start >= span.end or declared is None or declared.type == "CDATA" and declared.need != "fixed":
+                    continue
+                shown = self.masked.source[slice(*part.of)].decode(errors="replace")
+                said = f"the value of `{name}` of `{tag.name}` isn't known: it refers to `{shown}`" + self.must(declared, "; it must be ")
+                yield AttributeFault("unseen", number, tag.name, name, value, self.masked.original(span), said)
 
     def twice(self) -> Iterator[AttributeFault]:
         """The attributes that stand in one tag a second time."""

@@ -12,7 +12,7 @@ from typing import NamedTuple, NoReturn
 
 from .attributes import Attributes, Checked
 from .dtd import Dtd
-from .faults import Refusal, fault_of
+from .faults import Fault, Refusal, fault_of
 from .finder import is_utf_8
 from .layout import Layout, Node
 from .masks import Masked, MaskedSource, mask
@@ -102,7 +102,10 @@ def masked_of(file: Given, dtd: Given) -> Iterator[Given]:
         return
     source = Source(file.name, masked.source)
     for remark in masked.remarks:
-        print(f"{file.name}:{source.place(remark.span.start)}: warning: {remark.sentence}", file=sys.stderr)
+        if not remark.is_fault:
+            print(f"{file.name}:{source.place(remark.span.start)}: warning: {remark.sentence}", file=sys.stderr)
+    if (fault := masked.fault) is not None:
+        raise Refusal(Fault(file.name, fault.span, source.place(fault.span.start), fault.sentence, "", 7))
     with file_of(masked.data) as copy:
         yield Given(file.name, copy, masked)
 

@@ -35,12 +35,13 @@ GENERAL = re.compile(
 
 
 class Entity(NamedTuple):
-    """An entity that documents refer to: its replacement text, none where it stands in another file; `is_unparsed` where
-    it is no text at all."""
+    """An entity that documents refer to: its replacement text, none where it isn't known or stands in another file, as
+    `is_external` says; `is_unparsed` where it is no text at all."""
 
     name: bytes
     text: bytes | None
     is_unparsed: bool = False
+    is_external: bool = False
 
 
 class Stop(Exception):
@@ -170,7 +171,7 @@ def general(declaration: bytes, parameters: dict[bytes, bytes]) -> Entity | None
     except Stop:
         # A text with a parameter entity that isn't known.
         text = None
-    return Entity(found["name"], text, found["notation"] is not None)
+    return Entity(found["name"], text, found["notation"] is not None, found["file"] is not None)
 
 
 def general_entities(data: bytes, is_partial: bool = False) -> dict[bytes, Entity]:

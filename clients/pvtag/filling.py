@@ -44,6 +44,11 @@ def lacking_of(attributes: Attributes, name: str) -> tuple[str, ...]:
     return tuple(each.name for each in attributes.of(name) if each.is_required and each.only is None)
 
 
+def text_of(pairs: list[tuple[str, str]]) -> bytes:
+    """Attributes as they stand in a tag."""
+    return b"".join(b' %s="%s"' % (name.encode(), escaped(value.encode())) for name, value in pairs)
+
+
 def has_required(attributes: Attributes) -> bool:
     """Whether some element has a required attribute, so that new elements are of interest."""
     return any(each.is_required for row in attributes.declared.values() for each in row)
@@ -82,7 +87,7 @@ def filled(printed: bytes, mark: bytes, attributes: Attributes) -> Filled:
         if left := lacking_of(attributes, name):
             lacking.append(Lacking(name, size + item.start - at, left))
         pairs = given_to(attributes, name)
-        text = b"".join(b' %s="%s"' % (key.encode(), escaped(value.encode())) for key, value in pairs)
+        text = text_of(pairs)
         out += [printed[at:end], text]
         size, at, given = size + end - at + len(text), end, given + len(pairs)
     return Filled(b"".join([*out, printed[at:]]), given, lacking)

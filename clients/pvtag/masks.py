@@ -25,23 +25,20 @@ from typing import NamedTuple
 
 from .entities import ITEM as DECLARED_ITEM
 from .entities import LITERAL, MOST_BYTES, MOST_DEPTH, Entity, Stop, character_of, general, general_entities
-from .places import Place, Source, Span, Unit, document_items, front_mark
+from .places import Place, Source, Span, Unit, front_mark
+from .references import ENTITY, PER_REFERENCE, Texts, fault_of_subset, references_in
 
 # The line that writes a document plain, with all that its entities bring.
 PLAIN = "xmllint --nonet --noent --loaddtd --dropdtd FILE"
-PREDEFINED = frozenset((b"lt", b"gt", b"amp", b"apos", b"quot"))
 # A document type declaration with declarations in it, up to its `[`.
 SUBSET = re.compile(rb"""<!DOCTYPE\s(?:[^>"'\[]++|"[^"]*"|'[^']*')*+\[""")
-ENTITY = re.compile(rb"&(?!#|(?:lt|gt|amp|apos|quot);)[^\s&;<]+;")
-REFERENCE = re.compile(rb"""&([^\s&;<#"'>/=]+);""")
 # What a stand-in looks like: a number with so many zeros before it, in a reference or an instruction.
 FIRST = 0x10000
 STAND_IN = re.compile(rb"&#0[0-9]*;|<\?pvtag-entity[-0-9]*\?>")
 # So many bytes of entities' texts are put into values of attributes, for what looks at these.
 MOST_SPELLED = 16 << 20
-# What a reference in an entity's text counts for, beside what it brings; and the most that stand-ins may come to, which is
-# what the program reads of a document.
-PER_REFERENCE, MOST_STANDING = 16, 64 << 20
+# The most that stand-ins may come to, which is what the program reads of a document.
+MOST_STANDING = 64 << 20
 WHITE = b" \t\r\n"
 # Each byte as a blank, but line ends.
 BLANK = bytes(byte if byte in b"\r\n" else 32 for byte in range(256))
@@ -49,11 +46,13 @@ BLANK = bytes(byte if byte in b"\r\n" else 32 for byte in range(256))
 
 class Remark(NamedTuple):
     """What is said of bytes of the document: `kind` is "entity" (it isn't declared), "brings" (elements, or what stands in
-    another file, which isn't seen), "element" (a declaration of one in the subset) or "subset" (what isn't read of it)."""
+    another file, which isn't seen), "element" (a declaration of one in the subset) or "subset" (what isn't read of it).
+    `is_fault` where the document isn't well-formed there: it is no document, whatever is said of the rest."""
 
     kind: str
     span: Span
     sentence: str
+    is_fault: bool = False
 
 
 class Part(NamedTuple):
@@ -87,6 +86,18 @@ class Masked:
     def is_whole(self) -> bool:
         """Whether what the program says is of all of the document: no reference brings elements or another file."""
         return all(remark.kind != "brings" for remark in self.remarks)
+
+    @functools.cached_property
+    def unknown(self) -> list[Part]:
+        """The references in values of attributes to entities whose texts aren't known."""
+        known = {b"&%b;" % name for name, text in self.texts.items() if text.text is not None}
+        return [part for part in self.parts if part.is_value and self.source[slice(*part.of)] not in known]
+
+    @property
+    def fault(self) -> Remark | None:
+        """The first place at which the subset, or what a reference brings, isn't of the form of XML."""
+        faults = [remark for remark in self.remarks if remark.is_fault]
+        return min(faults, key=lambda remark: remark.span) if faults else None
 
     def offset(self, at: int, ends: bool = False) -> int:
         """The offset in the document of one in `data`; inside of a stand-in that of the reference's start or end."""
@@ -187,15 +198,23 @@ def mask(data: bytes, dtd: bytes = b"") -> Masked:
     if subset is None and not references:
         return Masked(data, data, [], {}, None, [], {})
     entities, remarks = read_subset(data, subset) if subset is not None else ({}, [])
+    if subset is not None and not any(it.is_fault for it in remarks) and (fault := fault_of_subset(data[slice(*subset)])) is not None:
+        at = subset.start + fault[0]
+        remarks.append(Remark("subset", Span(at, at + 1), f"the document's own declarations aren't well-formed here (expat: {fault[1]})", is_fault=True))
     if references:
         entities = {**declared_by(dtd), **entities}
     standing = Standing(blank, entities)
     if standing.zeros * len(references) > MOST_STANDING:
         return Masked(data, data, [], {}, None, [], {})
     pieces, parts, at, size = list[bytes](), list[Part](), 0, 0
+    forms, told = Texts(entities, MOST_SPELLED), set[tuple[bytes, bool]]()
     for span, name, is_value in references:
         form, kind, sentence = standing.of(name, is_value)
-        if sentence:
+        wrong = forms.sentence(name, is_value) if (name, is_value) not in told else ""
+        told.add((name, is_value))
+        if wrong:
+            remarks.append(Remark("brings", span, wrong, is_fault=True))
+        elif sentence:
             remarks.append(Remark(kind, span, sentence))
         pieces += [blank[at:span.start], form]
         size += span.start - at
@@ -387,7 +406,7 @@ def read_subset(data: bytes, subset: Span) -> tuple[dict[bytes, Entity], list[Re
             seen.add(text)
             read_reference(text[1:-1], Span(start, end), parameters, entities, remarks)
         elif kind == "other":
-            remarks.append(Remark("subset", Span(start, end), "no declaration of a document's type declaration stands here"))
+            remarks.append(Remark("subset", Span(start, end), "no declaration of a document's type declaration stands here", is_fault=True))
             break
         elif kind == "declaration" and text.startswith(b"<!ELEMENT"):
             elements.append(Span(start, end))
@@ -417,19 +436,6 @@ def read_reference(name: bytes, span: Span, parameters: Mapping[bytes, bytes], e
             entities.setdefault(entity.name, entity)
     except Stop:
         remarks.append(Remark("subset", span, f"what `%{shown};` brings isn't read"))
-
-
-def references_in(data: bytes) -> Iterator[tuple[Span, bytes, bool]]:
-    """The references to entities in a document's texts and tags, as far as items can be read: each with its name, and
-    whether it stands in a value of an attribute."""
-    if ENTITY.search(data) is None:
-        return
-    for item in document_items(data):
-        if item.kind in ("text", "start", "empty"):
-            is_value = item.kind != "text"
-            for found in REFERENCE.finditer(data, item.start, item.end):
-                if found[1] not in PREDEFINED:
-                    yield Span(*found.span()), found[1], is_value
 
 
 @functools.lru_cache(maxsize=8)

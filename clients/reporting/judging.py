@@ -189,7 +189,7 @@ class Judge:
         masked, attributes = given.masked, given.under.attributes
         if masked is None or row.verdict not in ("valid", "possible", "impossible"):
             return row
-        brought = next((it for it in masked.remarks if it.kind == "brings"), None)
+        brought = masked.fault or next((it for it in masked.remarks if it.kind == "brings"), None)
         if brought is not None:
             row = replace(row, verdict="refused", open=None, missing=None, line=None, column=None, sentence=None)
             return self.with_sentence(row, masked, brought.span, brought.sentence)
