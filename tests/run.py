@@ -183,8 +183,10 @@ CHECKS = [
     row("annotate_walk", "a walk through what the page asks for", "", 3600, "python3 tests/annotate_walk.py PVTAG 1",
         "a random walk through what the page asks for, with half surrogates, writes that fail, changes from outside, killed sessions "
         "and servers: what would be saved is what the program shows, and the page's text is that"),
-    row("library", "the Python library, as a tool uses it", "", 3600, "python3 tests/library.py PVTAG",
-        "the Python library as a tool uses it: parts of texts that are wrapped whole or not at all, with their history"),
+    row("library", "the Python library, as a tool uses it", "+perl", 3600, "python3 tests/library.py PVTAG 100",
+        "the Python library as a tool uses it: installed without a network; parts of texts that are wrapped whole or not at all, with "
+        "their history; paths of nodes after random edits; threads that share a session; wrong words; dates tagged by the examples in "
+        "Python and Perl"),
     row("wide_clients", "what clients say of wide lists", "", 3600, "python3 tests/wide_clients.py PVTAG PVLONG",
         "what the page, the language server and reports say of a list that is too wide to count, by `pvlong` and by a stand-in for it: "
         "numbers, ranges, nothing; that a move ends what is asked"),

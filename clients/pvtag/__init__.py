@@ -3,7 +3,8 @@
 
     program   where the program is, one run of it, and the files that it is given
     long      the second program, `pvlong`, which is asked where a list is too wide for `need` and `complete`
-    session   a session, kept open through two pipes: a method a line, replies as values
+    session   a session, kept open through two pipes: a method a line, replies as values; it stands on `tracking`, the
+              tree beside it
     document  the tree of a document beside a session, kept by the edits that are made
     places    lines and columns of a file, and back, and the items that faults are counted in
     entities  the same items of a DTD, with its parameter entities, and the entities that documents refer to

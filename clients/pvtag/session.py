@@ -3,22 +3,33 @@
     with Session(["./pvtag"], "letter.dtd", "letter", "draft.xml") as session:
         session.wrap("0.0", 0, 1, "salute")     # Made(lists=2, open=0, bad=0), or Refused("impossible", "0.0")
         session.offer("0.1")                    # the names that the element may have instead
+        session.tree()                          # its nodes, each with its path
         session.show()                          # the document's bytes
 
 An edit, undo or redo answers `Made` or `Refused`; what else is asked answers its value, or `Refused` where there is
-none. A path is text, as in a line: "." is the document node, "0" the root. Where the program ends, also before it
-began, each call raises `Ended`, which has its status and what it wrote last. One thread at a time may use a session.
+none. `Refused` is false in a condition, and so are 0 and an empty list: of these `isinstance` tells it apart. A path is
+text, as in a line: "." is the document node, "0" the root.
+
+Where the program ends, also before it began, each call raises `Ended`, which has its status and what it wrote last. What
+isn't of the type that a method names raises `TypeError`, and a line end in a name or a text `ValueError`; then nothing
+was asked. Threads may share a session: a call waits until that of another thread has its answer.
 """
 import contextlib
-import html
+import errno
+import os
 import re
+import stat
 import subprocess
+import threading
 from collections.abc import Iterator, Sequence
 from typing import Literal, NamedTuple, NoReturn
 
-from .layout import UNIT, Layout
-
 from . import program as programs
+from .tracking import Node, Tracked
+
+Path = str | os.PathLike[str]
+# Edits after which two texts may stand side by side, which the document that is shown doesn't tell from one.
+CUTTING = ("split", "unwrap", "addtext", "deltext")
 
 
 class Made(NamedTuple):
@@ -65,41 +76,54 @@ class Ended(Exception):
 
 
 class Session:
-    def __init__(self, program: Sequence[str], dtd: str, root: str, document: str) -> None:
-        """Begins; `program` is a list of words. A session of its own keeps the terminal's Ctrl-C from it."""
-        words = [*program, "session", dtd, root, document]
+    def __init__(self, program: Sequence[str], dtd: Path, root: str, document: Path) -> None:
+        """Begins; `program` is a list of words, as `program.find` gives it. A session of its own keeps the terminal's
+        Ctrl-C from it. Raises `OSError` where the program can't be run, or a file isn't there, is a folder or may not be
+        read; `TypeError` where `program` is one text, or a word isn't text."""
+        if isinstance(program, (str, bytes)):
+            raise TypeError(f"the program is a list of words, such as [{program!r}]")
+        files = [os.fspath(path) for path in (dtd, document)]
+        words = [*map(os.fspath, program), "session", files[0], root, files[1]]
+        for word in words:
+            of_type(word, str)
+        for path in files:
+            can_be_read(path)
         self.process = programs.popen(words, stdin=subprocess.PIPE, stdout=subprocess.PIPE, start_new_session=True)
         assert self.process.stdin is not None and self.process.stdout is not None
         self.input, self.output = self.process.stdin, self.process.stdout
-        self.moves = 0
+        self.lock, self.moves = threading.RLock(), 0
+        # The edits that are made and those that are undone, as lines, and the tree beside the session, once it is wanted.
+        self.made: list[str] = []
+        self.undone: list[str] = []
+        self.tracked: Tracked | None = None
 
     # Edits.
     def wrap(self, path: str, start: int, end: int, name: str) -> Made | Refused:
-        return self.edit(f"wrap {path} {start} {end} {name}")
+        return self.edit(named(line_of("wrap", path, start, end), name))
 
     def insert(self, path: str, at: int, name: str) -> Made | Refused:
-        return self.edit(f"insert {path} {at} {name}")
+        return self.edit(named(line_of("insert", path, at), name))
 
     def unwrap(self, path: str) -> Made | Refused:
-        return self.edit(f"unwrap {path}")
+        return self.edit(line_of("unwrap", path))
 
     def rename(self, path: str, name: str) -> Made | Refused:
-        return self.edit(f"rename {path} {name}")
+        return self.edit(named(line_of("rename", path), name))
 
     def split(self, path: str, at: int) -> Made | Refused:
-        return self.edit(f"split {path} {at}")
+        return self.edit(line_of("split", path, at))
 
     def join(self, path: str) -> Made | Refused:
-        return self.edit(f"join {path}")
+        return self.edit(line_of("join", path))
 
     def text(self, path: str, text: str) -> Made | Refused:
-        return self.edit(f"text {path} {text}")
+        return self.edit(named(line_of("text", path), text))
 
     def addtext(self, path: str, at: int, text: str) -> Made | Refused:
-        return self.edit(f"addtext {path} {at} {text}")
+        return self.edit(named(line_of("addtext", path, at), text))
 
     def deltext(self, path: str) -> Made | Refused:
-        return self.edit(f"deltext {path}")
+        return self.edit(line_of("deltext", path))
 
     def undo(self) -> Made | Refused:
         return self.edit("undo")
@@ -108,40 +132,86 @@ class Session:
         return self.edit("redo")
 
     def wrap_text(self, path: str, start: int, end: int, name: str) -> Made | Refused:
-        """Wraps these units of a text, which is cut for that. All is done, and is two or three moves of the history at
-        most, or nothing: where the element is refused the cuts are undone, and what could be redone before is lost."""
-        owner, _, last = path.rpartition(".")
-        if not 0 <= start < end or not last.isdecimal():
-            return Refused("shape", "range")
-        steps = [f"split {path} {end}"] * (not self.ends_at(path, end)) + [f"split {path} {start}"] * (start > 0)
-        at, cuts = int(last) + (start > 0), 0
-        for line in [*steps, f"wrap {owner} {at} {at + 1} {name}"]:
-            done = self.edit(line)
-            if isinstance(done, Refused):
-                for _ in range(cuts):
-                    self.undo()
-                return done
-            cuts += 1
-        return done
-
-    def ends_at(self, path: str, at: int) -> bool:
-        """Whether a text has so many units: it can't be cut there, and can be one before."""
-        if not isinstance(done := self.split(path, at), Refused):
-            self.undo()
-            return False
-        if done != Refused("shape", "range") or at > 1 and isinstance(self.split(path, at - 1), Refused):
-            return False
-        if at > 1:
-            self.undo()
-        return True
+        """Wraps these units of a text, which is cut for that. All is done, and is three moves of the history at most, or
+        nothing: where the element is refused the cuts are undone, and what could be redone before is lost. What is raised
+        meanwhile ends the program."""
+        named(line_of("wrap", path, start, end), name)
+        with self.whole():
+            tracked = self.track()
+            if isinstance(tracked, Refused):
+                return tracked
+            size = tracked.size(path)
+            if size is None:
+                return Refused("shape", "not-text" if tracked.has(path) else "no-node")
+            if not 0 <= start < end <= size:
+                return Refused("shape", "range")
+            owner, _, last = path.rpartition(".")
+            at, cuts = int(last) + (start > 0), 0
+            cut = [line_of("split", path, end)] * (end < size) + [line_of("split", path, start)] * (start > 0)
+            for line in [*cut, named(line_of("wrap", owner, at, at + 1), name)]:
+                done = self.edit(line)
+                if isinstance(done, Refused):
+                    for _ in range(cuts):
+                        self.undo()
+                    return done
+                cuts += 1
+            return done
 
     def edit(self, line: str) -> Made | Refused:
         """The same by a line of a script."""
-        words = self.ask(line)
-        if words[0] == "no":
-            return refused(words)
-        self.moves += 1
-        return Made(*map(int, words[1:4]))
+        with self.lock:
+            words = self.ask(line)
+            if words[0] == "no":
+                return refused(words)
+            self.moves += 1
+            self.follow(line)
+            return Made(*map(int, words[1:4]))
+
+    # The tree.
+    def follow(self, line: str) -> None:
+        """Makes a move of the session in the tree beside it."""
+        if line == "undo":
+            self.undone.append(self.made.pop())
+            if self.tracked is not None and not self.tracked.undo():
+                # What stands before that has no cuts, and is read again.
+                self.tracked = None
+            return
+        if line == "redo":
+            line = self.undone.pop()
+        else:
+            self.undone.clear()
+        self.made.append(line)
+        if self.tracked is not None:
+            self.tracked.edit(line)
+
+    def track(self) -> Tracked | Refused:
+        """The tree beside the session. Where it begins after a cut, it is read as it was before that: so many moves are
+        undone and made again."""
+        if self.tracked is None:
+            first = next((at for at, line in enumerate(self.made) if line.startswith(CUTTING)), len(self.made))
+            count = len(self.made) - first
+            done = [self.undo() for _ in range(count)]
+            shown = self.show()
+            tracked = self.tracked = None if isinstance(shown, Refused) else Tracked(shown)
+            done += [self.redo() for _ in range(count)]
+            assert all(done)
+            if tracked is None:
+                return Refused("memory")
+        return self.tracked or Refused("memory")
+
+    def tree(self) -> list[Node] | Refused:
+        """The nodes of the document as it is now, in document order from the root on, each with its path."""
+        with self.whole():
+            tracked = self.track()
+            return tracked if isinstance(tracked, Refused) else tracked.nodes()
+
+    def texts(self) -> list[tuple[str, str]] | Refused:
+        """The texts in document order, each with its path and with one character for each of its units, as `wrap_text`
+        counts them."""
+        nodes = self.tree()
+        if isinstance(nodes, Refused):
+            return nodes
+        return [(node.path, node.text) for node in nodes if node.kind == "text"]
 
     # What changes nothing.
     def history(self) -> list[str]:
@@ -154,14 +224,6 @@ class Session:
             words = self.ask("show")
             return refused(words) if words[0] == "no" else self.body(int(words[1]))
 
-    def texts(self) -> list[tuple[str, str]] | Refused:
-        """The texts in document order, each with its path and with one character for each of its units, as `wrap_text`
-        counts them. A text that has been cut, and neither wrapped nor joined, is one here."""
-        shown = self.show()
-        if isinstance(shown, Refused):
-            return shown
-        return [(node.path, "".join(map(character, UNIT.findall(node.source)))) for node in Layout(shown).texts()]
-
     def verdicts(self) -> list[Verdict] | Refused:
         """All lists, in document order."""
         rows = self.verdict_lines()
@@ -169,10 +231,11 @@ class Session:
 
     def changed(self, after: int) -> list[Verdict] | Refused:
         """The lists that moves behind number `after` have changed, moves being counted from 1."""
-        rows = self.verdict_lines()
+        with self.lock:
+            rows, moves = self.verdict_lines(), self.moves
         if isinstance(rows, Refused):
             return rows
-        late = b"|".join(b"%d" % stamp for stamp in range(after + 1, self.moves + 1))
+        late = b"|".join(b"%d" % stamp for stamp in range(after + 1, moves + 1))
         return [verdict_of(row) for row in re.findall(rb"^.* (?:%s)$" % late, rows, re.M)] if late else []
 
     def need(self) -> int | Refused:
@@ -187,18 +250,16 @@ class Session:
 
     def offer(self, path: str, start: int | None = None, end: int | None = None) -> list[str] | Refused:
         """The names that this run of kids may be wrapped in; without a run, those that the element may have."""
+        if (start is None) != (end is None):
+            raise TypeError("a run of kids has a start and an end")
         with self.whole():
-            words = self.ask(f"offer {path}" if start is None else f"offer {path} {start} {end}")
+            words = self.ask(line_of("offer", path, *(() if start is None or end is None else (start, end))))
             return refused(words) if words[0] == "no" else [self.line() for _ in range(int(words[1]))]
 
     # The pipes.
     def ask(self, line: str) -> list[str]:
         """The first line of the reply, as words."""
-        if "\n" in line or "\r" in line:
-            raise ValueError("a line holds no line end")
-        if self.output.closed:
-            raise Ended(self.process.returncode, "")
-        data = line.encode() + b"\n"
+        data = in_one_line(line).encode() + b"\n"
         with self.whole():
             try:
                 self.input.write(data)
@@ -213,15 +274,19 @@ class Session:
 
     @contextlib.contextmanager
     def whole(self) -> Iterator[None]:
-        """What is raised in here ends the program: what is left of a reply would be taken for the next one."""
-        try:
-            yield
-        except Ended:
-            raise
-        except BaseException:
-            self.process.kill()
-            self.close()
-            raise
+        """One thread at a time. What is raised in here ends the program: what is left of a reply would be taken for the
+        next one."""
+        with self.lock:
+            if self.output.closed:
+                raise Ended(self.process.returncode, "")
+            try:
+                yield
+            except Ended:
+                raise
+            except BaseException:
+                self.process.kill()
+                self.close()
+                raise
 
     def line(self) -> str:
         line = self.output.readline()
@@ -273,10 +338,37 @@ class Session:
 REPLIES = ("ok", "no", "show", "history", "verdicts", "need", "completed", "offer")
 
 
-def character(unit: bytes) -> str:
-    """The character that a unit of a text stands for."""
-    text = html.unescape(unit.decode()) if unit.startswith(b"&") else unit.decode()
-    return text if len(text) == 1 else "\ufffd"
+def of_type(value: object, wanted: type) -> None:
+    if not isinstance(value, wanted) or isinstance(value, bool):
+        raise TypeError(f"{value!r} is no {wanted.__name__}")
+
+
+def line_of(word: str, path: str, *numbers: int) -> str:
+    """A line of a script."""
+    of_type(path, str)
+    for number in numbers:
+        of_type(number, int)
+    return in_one_line(" ".join([word, path, *map(str, numbers)]))
+
+
+def named(line: str, last: str) -> str:
+    """The same with a name or a text, which stands last."""
+    of_type(last, str)
+    return in_one_line(f"{line} {last}")
+
+
+def in_one_line(line: str) -> str:
+    if "\n" in line or "\r" in line:
+        raise ValueError("a line holds no line end")
+    return line
+
+
+def can_be_read(path: str) -> None:
+    """Raises where no file of this name can be read. A pipe isn't opened: what stands in it can be read once."""
+    if stat.S_ISDIR(os.stat(path).st_mode):
+        raise IsADirectoryError(errno.EISDIR, os.strerror(errno.EISDIR), path)
+    if not os.access(path, os.R_OK):
+        raise PermissionError(errno.EACCES, os.strerror(errno.EACCES), path)
 
 
 def refused(words: list[str]) -> Refused:
