@@ -1,3 +1,4 @@
 -- for other crates:
 pub mod Walking
+pub mod Lists
 pub mod Narrow

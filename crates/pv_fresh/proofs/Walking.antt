@@ -1,22 +1,22 @@
--- Walks over lists, part by part.
-use Rattle.std.proofs.Common.{Err, List, None, Ok, Option, Result, Some, [], ap, append-nil, append_assoc, length, refl, subst, suc, sym, ℕ, ◌++◌, ◌∙◌, ◌∷◌, ◌≡◌}
-use Rattle.std.specs.Prelude.{IsNone, MatchOption, OnOk, ◌↔◌}
+-- The verdicts of the lists of a document, and the first Impossible one.
+use Rattle.std.proofs.Common.{List, None, Option, Some, [], ap, length, refl, slice_get, subst, suc, zero, ℕ, ◌++◌, ◌∙◌, ◌∷◌, ◌≡◌, ◌≢◌}
+use Rattle.std.specs.Prelude.{IsNone, MatchOption, ◌↔◌}
 use Rattle.std.specs.List.{AllByRecursion}
 use Rattle.pv_dtd.specs.Plain.{PlainDtd}
 use Rattle.pv_tree.specs.Lists.{Listed, lists_of}
 use Rattle.pv_tree.specs.Plain.{PlainDoc}
 use Rattle.pv_tree.specs.View.{view}
-use Rattle.pv_tree.proofs.Every.{all_joined, all_right}
-use Rattle.pv_tree.proofs.Firsts.{first_before, first_behind}
+use Rattle.pv_tree.proofs.Every.{all_right}
 use Rattle.pv_missing.specs.Completing.{IsPotentiallyValid}
 use Rattle.pv_missing.specs.DocumentLaws.{IsPotentiallyValidByLists}
 use Rattle.pv_dtd.specs.Proper.{IsProperDtd}
 use Rattle.pv_missing.specs.Proper.{IsProperDoc}
-use Rattle.pv_missing.specs.Verdicts.{AreVerdicts, HaveVerdicts, IsFirstImpossible, IsLive, IsVerdict, PlainVerdicts}
+use Rattle.pv_missing.specs.VerdictLaws.{FirstImpossibleAt}
+use Rattle.pv_missing.specs.Verdicts.{AreVerdicts, HaveVerdicts, IsFirstImpossible, IsLive, IsVerdict}
 use Rattle.pv_tree.specs.declared.nodes.Mark.{Mark}
 use Rattle.pv_tree.specs.declared.nodes.Verdict.{Verdict}
 use Rattle.pv_tree.specs.declared.nodes.Verdict.TheVariants as verdict
-use Rattle.pv_fresh.specs.Walks.{GoesOver, first_after}
+use Rattle.pv_fresh.specs.Firsts.{IsFirstPath}
 
 pub verdicts_more : {M : Type 0} (g : PlainDtd) (root : List ℕ) (lists : List (Listed M)) (vs : List Verdict) (list : Listed M) (v : Verdict) → AreVerdicts g root lists vs → IsVerdict g root list v →
     AreVerdicts g root (lists ++ list ∷ []) (vs ++ v ∷ [])
@@ -25,43 +25,29 @@ verdicts_more g root (l ∷ lists) vs list v a j =
     let more = verdicts_more g root lists a.1 list v a.4 j in
     let whole = a.2 in (a.0, a.1 ++ v ∷ [], rw whole refl, a.3, more)
 
-first_more : {M : Type 0} (g : PlainDtd) (root : List ℕ) (lists : List (Listed M)) (first : Option (List ℕ)) (list : Listed M) (v : Verdict) →
-    MatchOption first (AllByRecursion (IsLive g root) lists) (IsFirstImpossible g root lists) → IsVerdict g root list v →
-    MatchOption (first_after first v list.path) (AllByRecursion (IsLive g root) (lists ++ list ∷ [])) (IsFirstImpossible g root (lists ++ list ∷ []))
-first_more g root lists (Some path) list v f j = first_before (IsLive g root) lists (list ∷ []) path f
-first_more g root lists None list verdict.Valid f j = all_joined (IsLive g root) lists (list ∷ []) f (j.0, tt)
-first_more g root lists None list verdict.Possible f j = all_joined (IsLive g root) lists (list ∷ []) f (j.0, tt)
-first_more g root lists None list verdict.Impossible f j = first_behind (IsLive g root) lists (list ∷ []) list.path f
-    (record { before = []; list = list; after = []; is_split = refl; all_before = tt; is_not = j; is_path = refl })
+live_by : (g : PlainDtd) (root : List ℕ) (list : Listed Mark) (v : Verdict) → IsVerdict g root list v → v ≢ verdict.Impossible → IsLive g root list
+live_by g root list verdict.Valid j isnt = j.0
+live_by g root list verdict.Possible j isnt = j.0
+live_by g root list verdict.Impossible j isnt = absurd (isnt refl)
 
-pub have_none : (g : PlainDtd) (root : List ℕ) (vs : PlainVerdicts) → vs.verdicts ≡ [] → vs.first ≡ None → HaveVerdicts {M = Mark} g root [] vs
-have_none g root vs e f = record { are_verdicts = e; is_first = rw f tt }
+all_live : (g : PlainDtd) (root : List ℕ) (lists : List (Listed Mark)) (vs : List Verdict) → AreVerdicts g root lists vs → ((k : ℕ) → slice_get vs k ≢ Some verdict.Impossible) → AllByRecursion (IsLive g root) lists
+all_live g root [] vs a none = tt
+all_live g root (l ∷ lists) vs a none =
+    let whole = a.2 in
+    (live_by g root l a.0 a.3 (λ e. none 0 (rw whole (ap Some e))), all_live g root lists a.1 a.4 (λ k e. none (suc k) (rw whole e)))
 
--- one list more
-pub goes_one : (g : PlainDtd) (root : List ℕ) (list : Listed Mark) (before after : PlainVerdicts) (v : Verdict) → after.verdicts ≡ before.verdicts ++ v ∷ [] → after.first ≡ first_after before.first v list.path →
-    IsVerdict g root list v → GoesOver g root (list ∷ []) before after
-goes_one g root list before after v vs f j = λ past have. record {
-  are_verdicts = rw vs (verdicts_more g root past before.verdicts list v have.are_verdicts j);
-  is_first = rw f (first_more g root past before.first list v have.is_first j);
-}
+there : (g : PlainDtd) (root : List ℕ) (lists : List (Listed Mark)) (vs : List Verdict) (k : ℕ) (v : Verdict) → AreVerdicts g root lists vs → slice_get vs k ≡ Some v → (list : Listed Mark) × (slice_get lists k ≡ Some list)
+there g root [] vs k v a e = let none : vs ≡ [] = a in let no = rw none at e in absurd cc
+there g root (l ∷ lists) vs zero v a e = (l, refl)
+there g root (l ∷ lists) vs (suc k) v a e = let whole = a.2 in there g root lists a.1 k v a.4 (rw whole at e)
 
-pub goes_nowhere : (g : PlainDtd) (root : List ℕ) (state : PlainVerdicts) → GoesOver g root [] state state
-goes_nowhere g root state = λ past have. rw append-nil have
-
-pub goes_on : (g : PlainDtd) (root : List ℕ) (lists more : List (Listed Mark)) (first middle last : PlainVerdicts) → GoesOver g root lists first middle → GoesOver g root more middle last →
-    GoesOver g root (lists ++ more) first last
-goes_on g root lists more first middle last a b = λ past have. rw (sym (append_assoc past lists more)) (b (past ++ lists) (a past have))
-
--- a list, and then what a call says of others
-pub goes_ok : {E : Type 0} (g : PlainDtd) (r : Result (Unit {0}) E) (lists more : List (Listed Mark)) (first middle last : PlainVerdicts) →
-    ((root : List ℕ) → GoesOver g root lists first middle) → OnOk r ((root : List ℕ) → GoesOver g root more middle last) →
-    OnOk r ((root : List ℕ) → GoesOver g root (lists ++ more) first last)
-goes_ok g (Ok u) lists more first middle last a b = λ root. goes_on g root lists more first middle last (a root) (b root)
-goes_ok g (Err e) lists more first middle last a b = tt
-
-pub on_ok_both : {E A B C : Type 0} (r : Result (Unit {0}) E) → (A → B → C) → OnOk r A → OnOk r B → OnOk r C
-on_ok_both (Ok u) f a b = f a b
-on_ok_both (Err e) f a b = tt
+-- verdicts and the path of the first Impossible list
+pub have_verdicts : FirstImpossibleAt Mark → (g : PlainDtd) (root : List ℕ) (lists : List (Listed Mark)) (vs : List Verdict) (first : Option (List ℕ)) → AreVerdicts g root lists vs → IsFirstPath lists vs first →
+    HaveVerdicts g root lists (record { verdicts = vs; first = first })
+have_verdicts law g root lists vs None are f = record { are_verdicts = are; is_first = all_live g root lists vs are f }
+have_verdicts law g root lists vs (Some path) are f =
+    let list = there g root lists vs f.0 verdict.Impossible are f.1.is_there in
+    record { are_verdicts = are; is_first = (law g root path lists vs are).1 (f.0, list.0, f.1, list.1, f.2 list.0 list.1) }
 
 -- there are as many verdicts as lists
 pub as_many : {M : Type 0} (g : PlainDtd) (root : List ℕ) (lists : List (Listed M)) (vs : List Verdict) → AreVerdicts g root lists vs → length vs ≡ length lists

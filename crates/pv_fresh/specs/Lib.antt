@@ -1,2 +1,2 @@
-pub mod Walks
+pub mod Firsts
 pub mod Answers

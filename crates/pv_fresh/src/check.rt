@@ -1,25 +1,19 @@
 //! The check of a whole document.
 
-ghost use Rattle.std.specs.Prelude.{◌≡◌, ◌+◌, IfOk};
-ghost use Rattle.std.specs.List.{AllByRecursion};
+ghost use Rattle.std.specs.Prelude.{◌≡◌, ◌+◌};
 ghost use Rattle.pv_productive.specs.PlainForms.{dtd_of};
-ghost use Rattle.pv_tree.specs.Lists.{lists_of};
 ghost use Rattle.pv_tree.specs.PlainDocs.{plain_doc};
-ghost use Rattle.pv_missing.specs.Verdicts.{HaveVerdicts};
-ghost use Rattle.pv_missing.specs.Widths.{IsListForVerdict};
 ghost use Rattle.pv_fresh.specs.Answers.{FindsCause, FindsNarrow};
 ghost use Rattle.pv_fresh.specs.Answers.{FindsPossible, FindsVerdicts};
-ghost use Rattle.pv_fresh.specs.Walks.{verdicts_of};
 
 use crate::errors::FreshError;
-use crate::judging::{judge_list, judge_node};
-use crate::walk::Walk;
+use crate::firsts::with_first;
+use crate::judging::judge_lists;
 use crate::widths::first_too_wide;
-use pv_chars::NoMemory;
 use pv_dtd::laws::proper_dtd_law;
+use pv_missing::Verdicts;
 use pv_missing::laws::documents::live_lists_law;
 use pv_missing::laws::proper::proper_doc_law;
-use pv_missing::{Verdicts, root_owner};
 use pv_productive::Grammar;
 use pv_reach::{Judge, Plan};
 use pv_steps::Steps;
@@ -51,23 +45,9 @@ pub fn find_verdicts(
     }
     let plan = Plan::of(alloc, grammar)?;
     let judge = Judge::new(alloc, grammar, &plan);
-    let walk = judge_doc(&judge, root, doc)?;
-    Ok(Verdicts::of(walk.verdicts, walk.first))
-}
-
-// The walk over all lists, of which none is too wide.
-fn judge_doc(judge: &Judge<'_>, root: &[u8], doc: &Doc) -> Result<Walk, NoMemory>
-    requires fits { AllByRecursion (IsListForVerdict (dtd_of judge.now))
-        (lists_of (plain_doc doc.now)) }
-    ensures { IfOk result (λ walk. HaveVerdicts (dtd_of judge.now) root.now
-        (lists_of (plain_doc doc.now)) (verdicts_of walk)) }
-{
-    let mut walk = Walk::new(judge.alloc());
-    let owner = root_owner(judge.grammar().dtd(), root);
-    judge_list(judge, owner, std::slice::from_ref(&doc.root), &mut walk)?;
-    walk.places.push(0)?;
-    judge_node(judge, &doc.root, &mut walk)?;
-    Ok(walk)
+    let verdicts = judge_lists(&judge, root, doc)?;
+    let found = with_first(alloc, doc, verdicts)?;
+    Ok(found)
 }
 
 /// Takes one step for each of so many lists.

@@ -8,14 +8,16 @@
 
 mod check;
 mod errors;
+mod firsts;
 mod fixed;
 mod judging;
 mod possible;
-mod walk;
 mod widths;
 
 pub use check::count_lists;
 pub use errors::{FreshError, PossibleError};
+pub use firsts::with_first;
 pub use fixed::check_doc;
+pub use judging::owner_in;
 pub use possible::possible_verdicts;
 pub use widths::first_too_wide;
