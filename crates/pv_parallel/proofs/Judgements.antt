@@ -1,5 +1,5 @@
 -- What came of lists, and of jobs, joined.
-use Rattle.std.proofs.Common.{Err, List, None, Ok, Option, Result, Some, Vec, [], append-nil, append_assoc, ap, arith, drop, get_or, length, length-append, refl, slice_get, subst, suc, sym, zero, ℕ, ◌%◌, ◌+◌, ◌++◌, ◌<◌, ◌^◌, ◌∙◌, ◌∷◌, ◌≡◌, ◌≢◌, ◌≤◌, ◌⊎◌, ◌-◌, inl, inr}
+use Rattle.std.proofs.Common.{Err, List, Ok, Result, Vec, [], append-nil, append_assoc, ap, arith, drop, get_or, length, length-append, refl, subst, suc, sym, zero, ℕ, ◌%◌, ◌+◌, ◌++◌, ◌<◌, ◌^◌, ◌∙◌, ◌∷◌, ◌≡◌, ◌≢◌, ◌≤◌, ◌⊎◌, ◌-◌, inl, inr}
 use Rattle.std.specs.List.{AllByRecursion, AllZip}
 use Rattle.std.specs.declared.alloc.Global.{Global}
 use Rattle.std.proofs.Math.Nat.{mod-eq_of_lt}
@@ -8,16 +8,13 @@ use Rattle.pv_dtd.specs.Plain.{PlainDtd}
 use Rattle.pv_tree.specs.Lists.{Listed}
 use Rattle.pv_tree.specs.declared.nodes.Mark.{Mark}
 use Rattle.pv_tree.specs.declared.nodes.Verdict.{Verdict}
-use Rattle.pv_tree.specs.declared.nodes.Verdict.TheVariants as verdict
 use Rattle.pv_tree.proofs.Every.{all_left, all_right}
-use Rattle.pv_missing.specs.VerdictLaws.{FirstImpossibleAt}
-use Rattle.pv_missing.specs.Verdicts.{AreVerdicts, HaveVerdicts, IsLive, IsVerdict}
+use Rattle.pv_missing.specs.Verdicts.{AreVerdicts, IsVerdict}
 use Rattle.pv_missing.specs.Widths.{IsListForVerdict}
 use Rattle.pv_reach.specs.declared.errors.ReachError.{ReachError}
 use Rattle.pv_reach.specs.declared.errors.ReachError.TheVariants.{TooWide}
 use Rattle.pv_fresh.proofs.Walking.{verdicts_more}
 use Rattle.pv_parallel.specs.Jobs.{AreJobs, AreJoined, IsRunOf, JudgesBehind, JudgesJob}
-use Rattle.pv_parallel.specs.Numbers.{IsFirstPath}
 use Rattle.pv_parallel.specs.declared.jobs.Job.{Job}
 
 module _ (g : PlainDtd) (root : List ℕ) (entered : ℕ → Type 0) where
@@ -139,24 +136,3 @@ in_turn_next {A} {B} R jobs n job one before after last h e of new so_far more =
 pub narrow_next : (judged : List (Result (Vec Verdict Global) ReachError)) (n : ℕ) (one : Result (Vec Verdict Global) ReachError) → n < length judged → one ≡ get_or judged n one → AllByRecursion (λ one. one ≢ Err TooWide) (drop n judged) →
     AllByRecursion (λ one. one ≢ Err TooWide) (drop (n + 1) judged)
 narrow_next judged n one h e all = (subst (AllByRecursion (λ (o : Result (Vec Verdict Global) ReachError). o ≢ Err TooWide)) (drop_more judged n one h) all).1
-
-module _ (g : PlainDtd) (root : List ℕ) where
-  live_by : (l : Listed Mark) (v : Verdict) → IsVerdict g root l v → v ≢ verdict.Impossible → IsLive g root l
-  live_by l verdict.Valid j isnt = j.0
-  live_by l verdict.Possible j isnt = j.0
-  live_by l verdict.Impossible j isnt = absurd (isnt refl)
-
-  all_live : (lists : List (Listed Mark)) (vs : List Verdict) → AreVerdicts g root lists vs → ((k : ℕ) → slice_get vs k ≢ Some verdict.Impossible) → AllByRecursion (IsLive g root) lists
-  all_live [] vs a none = tt
-  all_live (l ∷ lists) vs a none =
-      let whole = a.2 in
-      (live_by l a.0 a.3 (λ e. none 0 (rw whole (ap Some e))), all_live lists a.1 a.4 (λ k e. none (suc k) (rw whole e)))
-
-  -- verdicts and the path of the first Impossible list
-  pub have_verdicts : FirstImpossibleAt Mark → (lists : List (Listed Mark)) (vs : List Verdict) (first : Option (List ℕ)) → AreVerdicts g root lists vs → IsFirstPath lists vs first →
-      HaveVerdicts g root lists (record { verdicts = vs; first = first })
-  have_verdicts law lists vs None are f = record { are_verdicts = are; is_first = all_live lists vs are f }
-  have_verdicts law lists vs (Some path) are f = record {
-    are_verdicts = are;
-    is_first = (law g root path lists vs are).1 (f.0, f.2.list, f.1, f.2.is_there, f.2.is_path);
-  }

@@ -3,4 +3,3 @@ pub mod Tallying
 pub mod Shared
 pub mod JobLists
 pub mod Judgements
-pub mod ListNumbers

@@ -3,9 +3,10 @@ use Rattle.std.specs.Prelude.{Err, IfErr, IfOk, List, Ok, Result, Vec, [], drop,
 use Rattle.std.specs.Prelude.{◌+◌, ◌++◌, ◌<◌, ◌∷◌, ◌≡◌, ◌≤◌, ◌^◌, ℕ}
 use Rattle.std.specs.List.{AllByRecursion}
 use Rattle.pv_dtd.specs.Plain.{PlainDtd}
-use Rattle.pv_tree.specs.Lists.{Listed, Owner, an_element, lists_from, the_document}
+use Rattle.pv_tree.specs.Lists.{Listed, lists_from}
 use Rattle.pv_tree.specs.Plain.{nodes_in_all}
 use Rattle.pv_tree.specs.PlainForms.{forest}
+use Rattle.pv_tree.specs.Walks.{owner_named}
 use Rattle.pv_tree.specs.declared.nodes.Mark.{Mark}
 use Rattle.pv_tree.specs.declared.nodes.Node.{Node}
 use Rattle.pv_tree.specs.declared.nodes.Verdict.{Verdict}
@@ -17,20 +18,14 @@ use Rattle.pv_reach.specs.declared.errors.ReachError.TheVariants.{TooWide}
 use Rattle.pv_parallel.specs.Sizes.{HasFewTokens}
 use Rattle.pv_parallel.specs.declared.gathering.Gathering.{Gathering}
 use Rattle.pv_parallel.specs.declared.jobs.Job.{Job}
-use Rattle.pv_parallel.specs.declared.jobs.OwnerName.{OwnerName}
-use Rattle.pv_parallel.specs.declared.jobs.OwnerName.TheVariants as list_of
 use Rattle.pv_parallel.specs.declared.jobs.Run.{Run}
 use Rattle.pv_parallel.specs.declared.jobs.Run.TheVariants as run_of
 use Rattle.std.specs.declared.alloc.Global.{Global}
 
-abbrev pub plain_owner : OwnerName → Owner
-plain_owner list_of.Document = the_document
-plain_owner (list_of.Element name) = an_element name.now
-
 -- the list of these kids alone, or all lists in these subtrees, wherever they stand
 abbrev pub IsRunOf : List (Listed Mark) → Run → Type 0
 IsRunOf lists (run_of.List owner kids) = (list : Listed Mark) × (lists ≡ list ∷ []) ×
-    (list.owner ≡ plain_owner owner) × (list.kids ≡ forest kids.now) × HoldsOne list.owner list.kids
+    (list.owner ≡ owner_named owner) × (list.kids ≡ forest kids.now) × HoldsOne list.owner list.kids
 IsRunOf lists (run_of.Subtrees nodes) = (path : List ℕ) × (i : ℕ) ×
     (lists ≡ lists_from path i (forest nodes.now))
 

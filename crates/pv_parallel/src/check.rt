@@ -15,15 +15,13 @@ ghost use Rattle.pv_parallel.specs.Sizes.{HasFewTokens};
 use crate::gate::Gate;
 use crate::gathering::jobs_of;
 use crate::judging::{join_judged, judge_jobs};
-use crate::numbers::first_path;
 use crate::sizes::has_few_nodes;
 use pv_chars::NoMemory;
 use pv_dtd::Dtd;
 use pv_dtd::laws::proper_dtd_law;
-use pv_fresh::{FreshError, count_lists, first_too_wide};
+use pv_fresh::{FreshError, count_lists, first_too_wide, with_first};
 use pv_missing::laws::documents::live_lists_law;
 use pv_missing::laws::proper::proper_doc_law;
-use pv_missing::laws::verdicts::first_impossible_at_law;
 use pv_missing::{Verdicts, is_narrow};
 use pv_productive::Grammar;
 use pv_reach::{Judge, Plan};
@@ -96,13 +94,12 @@ pub fn check_doc_par_by<G: Gate + Sync, L: Ledger>(
         G.entered gate.now k) }
 {
     live_lists_law::<Mark>();
-    first_impossible_at_law::<Mark>();
     proper_dtd_law(judge.grammar().dtd());
     proper_doc_law(doc);
     let verdicts = judge_lists(rt, judge, root, doc, gate)?;
-    let first = first_path(judge.alloc(), doc, &verdicts)?;
-    count_lists(verdicts.len() as u64, steps);
-    Ok(Verdicts::of(verdicts, first))
+    let found = with_first(judge.alloc(), doc, verdicts)?;
+    count_lists(found.len(), steps);
+    Ok(found)
 }
 
 // The verdicts of all lists, none of which is too wide.

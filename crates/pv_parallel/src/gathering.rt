@@ -10,10 +10,10 @@ ghost use Rattle.pv_tree.specs.declared.nodes.Mark.{Mark};
 ghost use Rattle.pv_parallel.specs.Jobs.{Adds, AreJobs, HasGathered, IsRunOf, TakesFront};
 ghost use Rattle.pv_parallel.specs.Sizes.{HasFewTokens};
 
-use crate::jobs::{Job, OwnerName, Run};
+use crate::jobs::{Job, Run};
 use crate::sizes::small_front;
 use pv_chars::NoMemory;
-use pv_tree::{Doc, Node};
+use pv_tree::{Doc, Node, OwnerName};
 use std::alloc::Global;
 
 /// The pieces of work so far.

@@ -1,15 +1,6 @@
 //! Pieces of work: lists of a document that stand together in document order.
 
-use pv_tree::Node;
-
-/// Whose list it is.
-#[derive(Clone, Copy)]
-pub enum OwnerName<'a> {
-    /// That of the document node.
-    Document,
-    /// That of an element of this name.
-    Element(&'a [u8]),
-}
+use pv_tree::{Node, OwnerName};
 
 /// Lists that stand together in document order.
 #[derive(Clone, Copy)]

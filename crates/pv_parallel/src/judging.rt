@@ -1,28 +1,27 @@
 //! Lists judged by threads, and their verdicts in order.
 
-ghost use Rattle.std.specs.Prelude.{◌≡◌, ◌≢◌, ◌<◌, ◌+◌, ◌∷◌, [], ℕ, IfErr, IfOk, IfSome, List};
+ghost use Rattle.std.specs.Prelude.{◌≡◌, ◌≢◌, ◌<◌, ◌+◌, ◌∷◌, [], ℕ, IfErr, IfOk, List};
 ghost use Rattle.std.specs.Prelude.{Err, Ok, OnOk, Vec, length};
 ghost use Rattle.std.specs.List.{AllByRecursion, AllZip};
 ghost use Rattle.std.specs.declared.alloc.Global.{Global};
 ghost use Rattle.pv_productive.specs.PlainForms.{dtd_of};
-ghost use Rattle.pv_rules.specs.Sites.{HasSite};
 ghost use Rattle.pv_tree.specs.Lists.{Listed, lists_at, lists_from};
 ghost use Rattle.pv_tree.specs.PlainForms.{plain, forest};
 ghost use Rattle.pv_tree.specs.Words.{word_of};
 ghost use Rattle.pv_tree.specs.declared.nodes.Mark.{Mark};
 ghost use Rattle.pv_tree.specs.declared.nodes.Verdict.{Verdict};
 ghost use Rattle.pv_missing.specs.Owners.{IsOwner};
-ghost use Rattle.pv_missing.specs.PlainForms.{plain_of};
 ghost use Rattle.pv_missing.specs.Verdicts.{IsVerdict};
 ghost use Rattle.pv_missing.specs.Widths.{FitsVerdict, IsListForVerdict};
 ghost use Rattle.pv_missing.specs.WordVerdicts.{HoldsOne};
 ghost use Rattle.pv_reach.specs.declared.errors.ReachError.TheVariants.{TooWide as too_wide};
-ghost use Rattle.pv_parallel.specs.Jobs.{AreJoined, IsRunOf, JudgesBehind, JudgesJob, plain_owner};
+ghost use Rattle.pv_parallel.specs.Jobs.{AreJoined, IsRunOf, JudgesBehind, JudgesJob};
 
 use crate::gate::Gate;
-use crate::jobs::{Job, OwnerName, Run};
+use crate::jobs::{Job, Run};
 use pv_chars::NoMemory;
-use pv_missing::{Of, element_owner, root_owner};
+use pv_fresh::owner_in;
+use pv_missing::{Of, element_owner};
 use pv_reach::{Judge, ReachError, judge_kids};
 use pv_tree::{Node, Verdict};
 use rayon::prelude::*;
@@ -104,19 +103,6 @@ fn judge_nodes<G: Gate>(
         judge_node(judge, node, first, gate, verdicts)?;
     }
     Ok(())
-}
-
-// Whose list it is, as the grammar knows it.
-fn owner_in(judge: &Judge<'_>, root: &[u8], owner: OwnerName<'_>) -> Option<Of>
-    ensures known { IfSome result (λ of. HasSite (dtd_of judge.now) (plain_of of)) }
-    ensures owner { (list : Listed Mark) → list.owner ≡ plain_owner owner.entry →
-        IsOwner (dtd_of judge.now) root.now list result }
-{
-    let dtd = judge.grammar().dtd();
-    match owner {
-        OwnerName::Document => root_owner(dtd, root),
-        OwnerName::Element(name) => element_owner(dtd, name),
-    }
 }
 
 // Judges the lists of a job.

@@ -12,7 +12,6 @@ mod gate;
 mod gathering;
 mod jobs;
 mod judging;
-mod numbers;
 mod sizes;
 
 pub use check::{check_doc_par, check_doc_par_by};

@@ -7,7 +7,7 @@ pub returns-in_ok-judge_list-in-List : goal.returns-in_ok-judge_list-in-List
 returns-in_ok-judge_list-in-List g c = record {
   verdicts = λ lists run.
       let is = rw c.in-List.is at run in
-      rw is.1 (rw c.new-verdicts.ensures.items at (c.in_ok-judge_list-in-List.ensures.judged c.args.root.now is.0 is.3 (c.owner_in-owner.ensures.owner is.0 is.2) is.4));
+      rw is.1 (rw c.new-verdicts.ensures.items at (c.in_ok-judge_list-in-List.ensures.judged c.args.root.now is.0 is.3 (c.owner_in-owner.ensures is.0 is.2) is.4));
   wide = tt;
 }
 
