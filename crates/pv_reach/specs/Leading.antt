@@ -45,6 +45,15 @@ abbrev pub IsHead : List ℕ → List ℕ → ℕ → ℕ → Type 0
 IsHead above below c v = (v ≡ c) ⊎ ((c < length above) × (c < length below) ×
     (v ≡ get_or above c 0) × (v ≡ get_or below c 0))
 
+-- for each column its own, or the one that this table has for it and one of the edges that were
+-- turned has too
+pub record AreHeads (turned : List Edge) (above heads : List ℕ) : Type 0 where
+  pub below : List ℕ
+  pub long : length heads ≡ length above
+  pub as_long : length below ≡ length above
+  pub led : AreLed turned below
+  pub are : (c : ℕ) → c < length above → IsHead above below c (get_or heads c 0)
+
 -- each column reaches the same as the one that stands for it
 pub record AreAlike (rules : List ColumnRule) (heads : List ℕ) : Type 0 where
   pub alike : (c : ℕ) → c < length heads →
