@@ -62,6 +62,8 @@ CHECKS = [
         "the page, by mouse and keyboard: keys at 0 to 300 ms after the mouse while the program is busy, a letter finished from a "
         "plain text, offers by their costs, refusals with their reasons, typing, attributes, finding, undo, two windows, contrasts, a "
         "phone's width, 100,000 nodes"),
+    row("examples", "the examples in comments of the crates", "rt", 3600, "python3 tests/examples.py",
+        "the examples in comments of public items, compiled without proofs; that the tests which they name are there"),
     row("look", "a first look without proofs, against README", "rt", 3600, "tests/look.sh",
         "that `tools/look` shows, without proofs, what README's first session shows"),
     row("failing_allocations", "commands with an allocation failing", "cc", 3600, "python3 tests/failing_allocations.py PVTAG 12000",
