@@ -199,8 +199,8 @@ CHECKS = [
     row("style", "files by pyflakes and shellcheck, pages by their form", "+cmark +pyflakes3 +shellcheck", 1200, "python3 tests/style.py",
         "nothing of what the program does: that these tools find nothing in Python files and shell scripts; that prose of the pages "
         "keeps to 120 columns, it and the messages of clients to the words of the field, that no list, heading or table comes about "
-        "by accident, and that this table is that of `tests/run.py`; that each choice of `docs/DECISIONS.md` names a file that is there, and each edit of a "
-        "crate a text that is there once"),
+        "by accident, and that this table is that of `tests/run.py`; that each choice of `docs/DECISIONS.md` names a file that is there, "
+        "and each edit of a crate a text that is there once"),
     row("definitions", "the page of definitions against its sources", "", 1200, "tools/definitions --check",
         "that the tables of `docs/DEFINITIONS.md` are those of the comments above the definitions, and that each definition which a "
         "public contract cites has a sentence; that two crates define no name except those that `docs/DEVELOPING.md` lists"),

@@ -1,7 +1,8 @@
-"""Checks what has no behaviour: Python files by pyflakes, shell scripts by shellcheck, the clients' types by mypy, where these are installed; that prose of the pages keeps to
-120 columns, it and the messages of the clients to the words of the field, and that by cmark, where it is installed, no list, heading or table of a page comes about by accident;
-that each check has its file's name, and docs/PROVED.md their table; the file that each choice of docs/DECISIONS.md names; that each edit which the
-gate leaves out still has its place. Prints each finding, and how many files and pages passed; ends with 1 where one failed."""
+"""Checks what has no behaviour: Python files by pyflakes, shell scripts by shellcheck, the clients' types by mypy, where these are installed; that
+prose of the pages keeps to 120 columns, it and the messages of the clients to the words of the field, and that by cmark, where it is installed, no
+list, heading or table of a page comes about by accident; that each check has its file's name, and docs/PROVED.md their table; the file that each
+choice of docs/DECISIONS.md names; that each edit which the gate leaves out still has its place. Prints each finding, and how many files and pages
+passed; ends with 1 where one failed."""
 import re
 import shutil
 import subprocess
