@@ -86,7 +86,7 @@ def edits_elements(driver, program):
         page.choose("insert first", "person")
         soon(lambda: "<closer><person></person>Yours" in page.written(), True, "an insertion in an element")
         page.click_tag("place", 2)
-        page.choose("insert behind", "date")
+        page.choose("insert after", "date")
         soon(lambda: "Delft</place><date></date>" in page.written(), True, "an insertion beside an element")
         page.click_tag("date", 1)
         page.open_menu()
