@@ -194,7 +194,7 @@ def edits_attributes(driver, program):
                 page.keys(key)
 
         form()
-        need("who (CDATA, required), kind ((said | written))" in page.find("#attributes .about").text, "what the DTD declares")
+        need("who (CDATA, required), kind ((said | written)" in page.find("#attributes .about").text, "what the DTD declares")
         same(page.texts("#attributes td:last-child .note"), ["required", "not declared"], "what it requires, and doesn't declare")
         page.press("#attributes .add")
         page.keys("who", Keys.TAB, "Anna & \"Tom\" <")
