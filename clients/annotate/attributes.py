@@ -8,15 +8,16 @@ import re
 import threading
 from typing import Any
 
-from changes import one_line
+from changes import attributes_for, lines_of, name_of, one_line
 from editor import Editor
 from forms import are_attributes
 from moves import ATTRIBUTES
 from pvtag import attributes as libxml
 from pvtag.document import NAMED, Told, decimal
+from pvtag.filling import given_to
 from pvtag.masks import mask
 from pvtag.program import Trouble, read_file
-from runs import element_of
+from runs import below, element_of
 
 PAIR = re.compile(r"""([^\s=]+)\s*=\s*("[^"]*"|'[^']*')""")
 REFERENCE = re.compile(r"&(#x[0-9a-fA-F]+|#[0-9]+|\w+);")
@@ -111,7 +112,7 @@ class Attributes:
             node, _ = element_of(self.editor.document, ask["node"])
             declared = self.declared.get(node.name, []) if self.declared else None
             ids = self.ids() if any(each["kind"].startswith("IDREF") for each in declared or ()) else []
-            return {"name": node.name, "pairs": pairs_of(node.attrs), "declared": declared, "why": self.why, "ids": ids}
+            return {"name": node.name, "pairs": self.spelled(pairs_of(node.attrs)), "declared": declared, "why": self.why, "ids": ids}
 
     def read(self) -> dict[str, list[Told]]:
         if not self.known.declares_any:
@@ -157,17 +158,61 @@ class Attributes:
 
     def change(self, ask: Any) -> Told:
         """Gives an element these attributes; a move."""
-        pairs = [(str(name), str(value)) for name, value in ask["pairs"]]
+        told = [(str(name), str(value)) for name, value in ask["pairs"]]
         with self.editor.lock:
             since = self.editor.known(ask)
-            if pairs == pairs_of(element_of(self.editor.document, ask["node"])[0].attrs):
+            before = pairs_of(element_of(self.editor.document, ask["node"])[0].attrs)
+            if told == self.spelled(before):
                 return self.editor.state(since)
+            pairs = self.read_back(told, before)
         # The program is asked, for which no move waits: one that was made meanwhile is told below.
         self.check(pairs)
         with self.editor.lock:
             since = self.editor.known(ask)
             node, path = element_of(self.editor.document, ask["node"])
             return self.editor.answer(since, [f"{ATTRIBUTES}{path} {one_line(self.editor.with_entities(written(pairs, node.attrs)))}"])
+
+    def spelled(self, pairs: list[tuple[str, str]]) -> list[tuple[str, str]]:
+        """Attributes in which a reference to an entity is shown as it is written."""
+        names = self.references()
+        return [(name, "".join(names.get(char, char) for char in value)) for name, value in pairs] if names else pairs
+
+    def read_back(self, told: list[tuple[str, str]], before: list[tuple[str, str]]) -> list[tuple[str, str]]:
+        """The same back: a value that wasn't changed is what it was, and in others a reference is one again."""
+        names, olds = self.references(), dict(zip(self.spelled(before), before))
+        pairs = list[tuple[str, str]]()
+        for pair in told:
+            name, value = olds.get(pair, pair)
+            if pair not in olds:
+                for char, reference in names.items():
+                    value = value.replace(reference, char)
+            pairs.append((name, value))
+        return pairs
+
+    def references(self) -> dict[str, str]:
+        """The references to entities, by the characters that stand for them."""
+        stands = self.editor.masked.stands
+        return {char: stands[form.encode()].decode() for char, form in self.editor.entities.items()}
+
+    def tag(self, ask: Any) -> Told:
+        """Makes a tag with its attributes, round a run, at a place or in the place of another; a move."""
+        pairs = [(str(name), str(value)) for name, value in ask["pairs"]]
+        self.check(pairs)
+        with self.editor.lock:
+            since = self.editor.known(ask)
+            lines = lines_of(self.editor.document, ask)
+            path, *at = lines[-1].removesuffix(f" {name_of(ask)}").split(" ")[1:]
+            made = below(path, int(at[0])) if at else path
+            return self.editor.answer(since, [*lines, *attributes_for(made, written(pairs))])
+
+    def given(self, name: str) -> str:
+        """The attributes that a new element takes, as they stand in its tag: what it requires and has one value."""
+        return written(given_to(self.known, name))
+
+    def look(self) -> None:
+        """Reads the DTD, where that wasn't done yet: no move waits for it then."""
+        with self.asking:
+            self.known.told
 
     def check(self, pairs: list[tuple[str, str]]) -> None:
         """Asks the program whether a tag may have these attributes, by their form."""

@@ -7,11 +7,12 @@ are found by walking through both side by side.
 import contextlib
 import time
 from collections import Counter
-from collections.abc import Collection, Iterator
+from collections.abc import Callable, Collection, Iterator
 from typing import Any, NamedTuple
 
 from alone import bare, completed, whole
-from changes import name_of
+from attributes import Attributes
+from changes import attributes_for, name_of
 from editor import Editor
 from moves import short
 from pvtag.document import TEXT, Document, Node, Told, shown
@@ -107,9 +108,9 @@ def without(news: list[New], left: Collection[int]) -> list[New]:
     return [new._replace(around=outer(new.around)) for new in news if new.node.id not in left]
 
 
-def lines_for(path: str, news: list[New]) -> list[str]:
+def lines_for(path: str, news: list[New], given: Callable[[str], str] = lambda name: "") -> list[str]:
     """The edits that make all new elements of a list: an outer one before those in it, and the last one first, so that
-    no place is moved before it is used."""
+    no place is moved before it is used. Each has the attributes that are `given` by its name."""
     spots = {spot for new in news for spot in (new.start, new.end)}
     cuts = sorted((at, unit) for at, unit in spots if unit is not None)
     lines = [f"split {below(path, at)} {unit}" for at, unit in reversed(cuts)]
@@ -123,13 +124,14 @@ def lines_for(path: str, news: list[New]) -> list[str]:
         list_, first = places[new.around] if new.around is not None else (path, 0)
         start, end = index(new.start), index(new.end)
         lines.append(f"wrap {list_} {start - first} {end - first} {new.node.name}")
+        lines += attributes_for(below(list_, start - first), given(new.node.name))
         places[new.node.id] = below(list_, start - first), start
     return lines
 
 
 class Completions:
-    def __init__(self, editor: Editor) -> None:
-        self.editor, self.wide = editor, Wide(editor)
+    def __init__(self, editor: Editor, attributes: Attributes | None = None) -> None:
+        self.editor, self.wide, self.attributes = editor, Wide(editor), attributes
         self.asked: Session | None = None
         self.version, self.news = -1, dict[int, tuple[Node, New]]()
         self.lists: list[tuple[Node, list[New]]] = []
@@ -257,6 +259,8 @@ class Completions:
         """Makes what is missing: one new element of the preview, all of them that can have one name alone, or those of one
         list, by the names that were chosen; one move. How many of all were left is told."""
         editor = self.editor
+        if self.attributes is not None:
+            self.attributes.look()
         with editor.lock:
             since = editor.known(ask)
             if "node" in ask:
@@ -269,7 +273,7 @@ class Completions:
                 # The lists further on first, since the paths of those before them stay then.
                 paths = [(editor.document.path_of(owner), without(news, self.choices)) for owner, news in self.lists]
                 paths.sort(key=depth_of, reverse=True)
-                lines = [line for path, news in paths for line in lines_for(path, news)]
+                lines = [line for path, news in paths for line in lines_for(path, news, self.given)]
                 return {**(editor.answer(since, lines) if lines else editor.state(since)), "left": len(self.choices)}
             return editor.answer(since, lines) if lines else editor.state(since)
 
@@ -281,7 +285,7 @@ class Completions:
             raise Stale
         for new in news:
             new.node.name = chosen_name(names.get(str(new.node.id)), new.node)
-        return lines_for(path, news)
+        return lines_for(path, news, self.given)
 
     def lines_of_one(self, number: Any, name: Any) -> list[str]:
         if number not in self.news:
@@ -289,7 +293,11 @@ class Completions:
         owner, new = self.news[number]
         path = element_of(self.editor.document, owner.id)[1]
         cuts, path, start, end = run_between(path, new.start, new.end)
-        return [*cuts, f"wrap {path} {start} {end} {chosen_name(name, new.node)}"]
+        name = chosen_name(name, new.node)
+        return [*cuts, f"wrap {path} {start} {end} {name}", *attributes_for(below(path, start), self.given(name))]
+
+    def given(self, name: str) -> str:
+        return self.attributes.given(name) if self.attributes is not None else ""
 
 
 def kind_of(kid: Node) -> str:

@@ -8,30 +8,36 @@ from typing import Any
 from alone import Alone, alone
 from declared import Declared
 from editor import Editor
+from neighbours import Neighbours
 from pvtag.costs import TURN, Known, Task
 from pvtag.document import Node, Told
 from pvtag.program import file_of
 from pvtag.session import Ended, Made, Refused, Session
 from runs import below, element_of, run_between, run_of, spots_of
+from uses import Uses
 
 # Of so many places what is known is kept.
 KEPT = 300
+# So many of the names that are offered first are counted first.
+FIRST = 9
 # The document of a list, the cuts that a move needs there, and its line without a name.
 Beside = tuple[Alone, list[str], str]
 
 
 class Costs:
-    def __init__(self, editor: Editor, declared: dict[str, Declared]) -> None:
+    def __init__(self, editor: Editor, declared: dict[str, Declared], uses: Uses | None = None) -> None:
         self.editor, self.declared = editor, declared
+        empty = [name for name, each in declared.items() if each.kind == "empty"]
+        self.uses = uses or Uses(editor, Neighbours(editor.script.document, editor.root), empty)
         self.lock, self.number = threading.Lock(), 0
         self.task: Task | None = None
         # What a list misses is the same wherever it stands, and whatever its texts say.
         self.known: dict[tuple[bytes, str, str, str], Known] = {}
 
     def offer(self, ask: Any) -> Told:
-        """The names that may go round a run, or that an element may have: those used lately, those with which nothing
-        is missing in the lists that they change, what is known of the others, and the number by which it is asked what
-        they cost."""
+        """The names that may go round a run, or that an element may have, in the order in which they are offered; those with
+        which nothing is missing in the lists that they change, what is known of the others, and the number by which it is
+        asked what they cost."""
         editor = self.editor
         with editor.lock:
             cuts, line, lists = self.edit(ask)
@@ -39,15 +45,15 @@ class Costs:
             reply = editor.tried(cuts, lambda: editor.session.offer(words[1], *map(int, words[2:])))
             if isinstance(reply, Refused):
                 return editor.refusal(reply)
-            recent = [name for name in editor.recent() if name in reply]
-            names = self.ordered(reply, recent)
+            offered = self.uses.ordered(reply, lists[-1].name, "node" not in ask and ask["from"] == ask["to"])
+            names = self.ordered(offered)
             beside = self.beside(ask)
             known = self.known_of(beside)
             if names:
                 editor.tried(cuts, lambda: self.look(line, known, known.lacking(names), lists))
             there, cuts, line = beside
             task = self.begin(Task(lambda: self.session(there), there.path, cuts, line, names, known))
-            return {"names": reply, "recent": recent, "whole": list(known.whole), "task": task, "costs": known.costs.copy()}
+            return {"names": offered, "whole": list(known.whole), "task": task, "costs": known.costs.copy()}
 
     @contextlib.contextmanager
     def session(self, there: Alone) -> Iterator[Session]:
@@ -91,10 +97,9 @@ class Costs:
                 elif reply.open == others + 2:
                     known.slow.add(name)
 
-    def ordered(self, names: list[str], recent: list[str]) -> list[str]:
-        """The order in which costs are asked: what was used lately first, then what needs least in itself."""
-        others = [name for name in names if name not in recent]
-        return recent + sorted(others, key=lambda name: self.declared[name].size)
+    def ordered(self, names: list[str]) -> list[str]:
+        """The order in which costs are asked: the first that are offered, then what needs least in itself."""
+        return names[:FIRST] + sorted(names[FIRST:], key=lambda name: self.declared[name].size)
 
     def begin(self, task: Task) -> int:
         """Another task, in the place of the last one; its number."""

@@ -14,7 +14,7 @@ from again import Again
 from changes import lines_of
 from forms import check_forms
 from moves import (
-    ATTRIBUTES, EDITS, LONGEST, BadLine, Move, exchanged, groups_of, is_edit, move_of, surviving, title_of, undo_of,
+    ATTRIBUTES, EDITS, LONGEST, BadLine, Move, exchanged, groups_of, is_edit, is_main, move_of, surviving, title_of, undo_of,
 )
 from pvtag.document import ELEMENT, Document, Told
 from pvtag.masks import Masked, mask
@@ -486,7 +486,8 @@ def replay(session: Session, move: Move, script: Script) -> None:
 
 def redraw(document: Document, move: Move) -> list[Told]:
     """Makes a move in a tree; the changes."""
-    last = max(at for at, line in enumerate(move.lines) if is_edit(line) or at == 0)
+    told = is_main if any(map(is_main, move.lines)) else is_edit
+    last = max(at for at, line in enumerate(move.lines) if told(line) or at == 0)
     edits = []
     for at, line in enumerate(move.lines):
         if at == last:

@@ -50,22 +50,26 @@ class Everywhere:
             since = self.editor.known(ask)
             # The last place first: what is done there moves no path before it.
             places = [Stretch(*map(int, place)) for place in reversed(ask["places"])]
-            lines, refused = self.tried([self.lines_for(place, name) for place in places])
-            if not lines:
-                return {**self.editor.state(since), "refused": refused}
-            return {**self.editor.answer(since, lines), "refused": refused}
+            return self.make(since, [self.lines_for(place, name) for place in places])
 
-    def tried(self, moves: list[list[str]]) -> tuple[list[str], int]:
-        """The lines of those that the session makes, one behind another, and how many it refuses; nothing is
-        changed."""
+    def make(self, since: int, moves: list[list[str]]) -> Told:
+        """Makes of these what the session makes, one behind another, in one move; how many it refuses is told."""
+        lines, refused = self.tried(moves)
+        answer = self.editor.answer(since, lines) if lines else self.editor.state(since)
+        return {**answer, "refused": len(refused)}
+
+    def tried(self, moves: list[list[str]]) -> tuple[list[str], list[int]]:
+        """The lines of those that the session makes, one behind another, and the numbers of those that it refuses; nothing
+        is changed."""
         made: list[str] = []
-        editor, refused, start = self.editor, 0, self.editor.ahead
+        refused: list[int] = []
+        editor, start = self.editor, self.editor.ahead
         try:
-            for lines in moves:
+            for at, lines in enumerate(moves):
                 before = editor.ahead
                 if any(isinstance(editor.play(line), Refused) for line in lines):
                     editor.rewind(before)
-                    refused += 1
+                    refused.append(at)
                 else:
                     made += lines
         finally:

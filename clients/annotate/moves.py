@@ -134,9 +134,14 @@ def is_edit(line: str) -> bool:
     return not line.startswith(CUTS)
 
 
+def is_main(line: str) -> bool:
+    """Whether a line is an edit by which a move is told: not of attributes alone."""
+    return is_edit(line) and not line.startswith(ATTRIBUTES)
+
+
 def title_of(lines: Sequence[str], document: Document) -> str:
     """What the last edit of a move, which is about to be made, makes of the document, in words."""
-    edits = [line for line in lines if is_edit(line)] or list(lines)
+    edits = [line for line in lines if is_main(line)] or [line for line in lines if is_edit(line)] or list(lines)
     named = shape_of(edits)
     if named:
         return named

@@ -21,6 +21,8 @@ from declared import Declared
 from editor import Differs, Editor, Unseen
 from everywhere import Everywhere
 from explain import Explainer
+from palette import Palette
+from pieces import Pieces
 from pvtag.document import Told
 from pvtag.program import Trouble, shown_name
 from pvtag.session import Ended
@@ -56,8 +58,10 @@ class Server(ThreadingHTTPServer):
     def __init__(self, editor: Editor, declared: dict[str, Declared], port: int, title: str,
                  patience: float = PATIENCE) -> None:
         self.editor, self.declared, self.title, self.patience = editor, declared, title, patience
-        self.costs, self.completions, self.texts = Costs(editor, declared), Completions(editor), Texts(editor)
-        self.attributes, self.everywhere, self.explainer = Attributes(editor), Everywhere(editor), Explainer(editor)
+        self.costs, self.texts, self.attributes = Costs(editor, declared), Texts(editor), Attributes(editor)
+        self.everywhere, self.explainer = Everywhere(editor), Explainer(editor)
+        self.completions, self.palette = Completions(editor, self.attributes), Palette(editor.dtd, self.attributes)
+        self.pieces = Pieces(editor, self.everywhere)
         self.token = secrets.token_urlsafe(24)
         self.files = {name: read_page(name) for name in os.listdir(FOLDER) if os.path.splitext(name)[1] in TYPES}
         self.windows: set[str] = set()
@@ -274,5 +278,10 @@ ASKED: dict[str, Callable[[Server, Any], Told]] = {
     "attribute-faults": lambda server, ask: server.attributes.faults(ask),
     "places": lambda server, ask: server.everywhere.places(ask),
     "tag-places": lambda server, ask: server.everywhere.tag(ask),
+    "tag": lambda server, ask: server.attributes.tag(ask),
+    "palette": lambda server, ask: server.palette.told(ask),
+    "set-palette": lambda server, ask: server.palette.put(ask),
+    "pieces": lambda server, ask: server.pieces.of(ask),
+    "tag-pieces": lambda server, ask: server.pieces.tag(ask),
     "why": lambda server, ask: server.explainer.of_lists(ask),
 }

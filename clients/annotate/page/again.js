@@ -1,13 +1,10 @@
 // The last tag again, and the same tag on all places of the same text.
-import { app, change, listeners, question, tell, turnsSoFar } from "./app.js"
+import { app, listeners, question, tell, turnsSoFar } from "./app.js"
 import { choose, chosen, leaveAt } from "./choose.js"
 import { make as element } from "./draw.js"
-import { closeMenu } from "./menu.js"
 import { make } from "./offers.js"
 import { isEmpty, plainTextOf, textOf, told } from "./place.js"
-
-const dialog = document.getElementById("everywhere")
-const [title, count, list] = [dialog.querySelector("h2"), dialog.querySelector(".about"), dialog.querySelector("ol")]
+import { aboutText, showPlaces } from "./places.js"
 
 // The name of the last element that was made, and its text.
 let last = null
@@ -47,43 +44,16 @@ export function tagEverywhere() {
 // Lists the places of a text; those that are left ticked are tagged, in one move.
 export async function openEverywhere(name, text) {
   if (!text.trim()) return tell(`⟨${name}⟩ holds no text of which there could be other places.`)
-  // It is there at once, so that no key comes anywhere else meanwhile.
-  closeMenu()
-  title.textContent = `⟨${name}⟩ round “${text.length > 40 ? `${text.slice(0, 40)}…` : text}”`
-  count.textContent = "…"
-  list.replaceChildren()
-  dialog.querySelector(".tag-all").disabled = true
-  dialog.onclose = null
-  dialog.returnValue = ""
-  dialog.showModal()
-  const answer = await question("places", { name, text })
-  if (!dialog.open) return
-  if (!answer) return dialog.close()
-  const { places, more } = answer
-  const open = places.filter(({ refused }) => !refused)
-  const rest = places.length - open.length
-  const left = `${rest ? `; at ${rest} more it would be refused` : ""}${more ? "; there are more than are listed" : ""}`
-  const counted = `${open.length} place${open.length === 1 ? "" : "s"}`
-  count.textContent = `${counted} without this tag${left}. Those that are ticked get it, in one move.`
-  list.replaceChildren(...open.map((place) => rowOf(place, text)))
-  dialog.querySelector(".tag-all").disabled = open.length === 0
-  dialog.onclose = () => close(name, open)
+  const ask = async () => {
+    const answer = await question("places", { name, text })
+    if (!answer) return null
+    const open = answer.places.filter(({ refused }) => !refused)
+    return { rows: open.map((place) => rowOf(place, text)), about: aboutText(open.length, "place", answer.places.length - open.length, answer.more) }
+  }
+  const heading = `⟨${name}⟩ round “${text.length > 40 ? `${text.slice(0, 40)}…` : text}”`
+  await showPlaces({ heading, name, request: "tag-places", ask })
 }
 
-function rowOf({ before, behind, part, in: owner }, text) {
-  const box = document.createElement("input")
-  box.type = "checkbox"
-  box.checked = !part
-  const context = element("span", "context", before, element("mark", "", text), behind)
-  const note = element("span", "note", `in ${owner}${part ? ", part of a word" : ""}`)
-  return element("li", "", element("label", "", box, " ", context, " ", note))
-}
-
-async function close(name, open) {
-  if (dialog.returnValue !== "tag") return
-  const boxes = [...list.querySelectorAll("input")]
-  const places = open.filter((_, at) => boxes[at].checked).map(({ place }) => place)
-  if (places.length === 0) return
-  const told = ({ refused }) => refused && tell(`The tag was refused at ${refused} of these places.`)
-  await change("tag-places", { name, places }, told)
-}
+const rowOf = ({ place, before, behind, part, in: owner }, text) => (
+  { place, parts: [before, element("mark", "", text), behind], note: `in ${owner}${part ? ", part of a word" : ""}`, isTicked: !part }
+)

@@ -159,6 +159,20 @@ export function boxOfChosen() {
   return boxes.at(-1) ?? range?.getBoundingClientRect() ?? host.getBoundingClientRect()
 }
 
+// The box round all of what is chosen, as far as it is in sight.
+export function boxRoundChosen() {
+  const range = run && !element && !isEmpty(run) && rangeOf(run, app.view)
+  const boxes = range ? [...range.getClientRects()] : []
+  if (boxes.length === 0) return boxOfChosen()
+  const sight = host.getBoundingClientRect()
+  const most = (side, ends) => Math.max(sight.top, Math.min(sight.bottom, side(...ends)))
+  const top = most(Math.min, boxes.map((box) => box.top))
+  const bottom = most(Math.max, boxes.map((box) => box.bottom))
+  const left = Math.min(...boxes.map((box) => box.left))
+  const right = Math.max(...boxes.map((box) => box.right))
+  return { top, bottom, left, right, height: bottom - top }
+}
+
 // Where a caret stands at a place of a list; none where it isn't drawn.
 function boxOfPlace({ owner, from: [kid, unit], to }) {
   if (kid === null) return boxIn(owner)
@@ -200,6 +214,19 @@ export function showCaret() {
 export function scrollTo({ top, bottom, height }) {
   const sight = host.getBoundingClientRect()
   if (height && (top < sight.top || bottom > sight.bottom)) host.scrollTop += top - (sight.top + sight.height / 3)
+}
+
+// Scrolls so that a node's tag stands a third from the top: what is said at it is in sight then, however tall it is.
+export function bringUp(node) {
+  const up = () => {
+    const box = app.view.reveal(node)
+    const sight = host.getBoundingClientRect()
+    const { top } = (box.querySelector(":scope > .tag") ?? box).getBoundingClientRect()
+    host.scrollTop = box === host ? 0 : host.scrollTop + top - (sight.top + sight.height / 3)
+  }
+  up()
+  // What came into sight by that may have another height than was guessed.
+  requestAnimationFrame(up)
 }
 
 // Shows what was made, and goes on after its text; in it, where it is to be filled, and after it where nothing can be.

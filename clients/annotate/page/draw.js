@@ -36,6 +36,8 @@ export class View {
     this.scroller = scroller
     this.prefix = prefix
     this.boxes = new Map()
+    // The colours of names that have one.
+    this.colours = new Map()
     this.seen = new IntersectionObserver((entries) => this.look(entries), { root: scroller, rootMargin: `${NEAR}px` })
   }
 
@@ -70,7 +72,7 @@ export class View {
   // Puts a verdict on a box: its colour, what it is called, and why nothing can mend it, which `explain` fills in.
   judge(node, box) {
     box.dataset.verdict = node.verdict ?? "valid"
-    box.ariaLabel = [`${node.name}${VERDICTS[node.verdict] ?? ""}${node.new ? ", new" : ""}`, node.attrs].filter(Boolean).join(", ")
+    box.ariaLabel = [`${node.name}${VERDICTS[node.verdict] ?? ""}${node.new ? ", new" : ""}`, spelled(node.attrs ?? "")].filter(Boolean).join(", ")
     box.querySelector(":scope > .why")?.remove()
     if (node.verdict !== "impossible" || !this.explain) return
     const why = make("span", "why")
@@ -193,6 +195,8 @@ export class View {
     box.ariaLevel = String(lineOf(node).length - 1)
     box.ariaSelected = "false"
     if (node.new) box.classList.add("new")
+    // Elements round it have other colours than their own.
+    box.style.setProperty("--own", this.colours.get(node.name) ?? "initial")
     this.judge(node, box)
     return box
   }
@@ -212,7 +216,7 @@ export class View {
     const tag = make("span", `tag ${form}`, node.name)
     tag.dataset.tag = node.id
     tag.ariaHidden = "true"
-    if (node.attrs && form !== "end") tag.append(" ", make("span", "attrs", node.attrs))
+    if (node.attrs && form !== "end") tag.append(" ", make("span", "attrs", spelled(node.attrs)))
     return tag
   }
 
@@ -234,6 +238,13 @@ export class View {
     text.append(sliceOf(node, at, end))
     return text
   }
+}
+
+// Attributes in which a reference to an entity is as it was written.
+function spelled(attrs) {
+  let text = attrs
+  for (const [form, name] of entities) text = text.replaceAll(form, name)
+  return text
 }
 
 // The references to entities, by what stands for them in the document that the program reads.

@@ -7,6 +7,7 @@ import { field, isIn } from "./field.js"
 import { onLocked, setLocked } from "./lock.js"
 import { closeMenu, isMenuOpen, stand } from "./menu.js"
 import { askToDelete, extendTo, openFor } from "./offers.js"
+import { takeKey } from "./palette.js"
 import { isEmpty, rangeOf } from "./place.js"
 import { erase, type } from "./type.js"
 
@@ -223,6 +224,7 @@ function pressed(event) {
   else if (event.key in PAGES && isInField) host.scrollBy(0, PAGES[event.key] * host.clientHeight)
   else if (event.key === "Backspace" && !(isInField && command)) remove(-1)
   else if (event.key === "Delete" && !(isInField && command)) remove(1)
+  else if (takeKey(event)) return event.preventDefault()
   else if (!isInField && isCharacter(event)) type(event.key)
   else return
   event.preventDefault()

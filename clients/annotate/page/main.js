@@ -3,13 +3,14 @@ import { tagAgain, tagEverywhere } from "./again.js"
 import { app, catchUp, change, listeners, question, tell } from "./app.js"
 import { ask, Gone, hello, sayBye } from "./ask.js"
 import { empties, entities } from "./draw.js"
-import { choose, chooseElement, rest, setTouch, takeSelection } from "./choose.js"
+import { rest, setTouch, takeSelection } from "./choose.js"
 import { openFinder } from "./find.js"
 import { closeMenu, isMenuOpen } from "./menu.js"
-import { missingIn, missingParts, takeOver } from "./offers.js"
+import { goToNext, showMissing } from "./next.js"
+import { setPalette, showPalette, takeKey } from "./palette.js"
 import { save, showElements, showHistory, showPreview } from "./panels.js"
-import { forget, isSaying, say, showRefused, whyOf } from "./refusal.js"
-import { attributesSentence, attributesValid, countWrong, faultsOf, nextPlace, onWrong } from "./wrong.js"
+import { forget, isSaying } from "./refusal.js"
+import { attributesSentence, attributesValid, countWrong, onWrong } from "./wrong.js"
 import "./type.js"
 import { toStart } from "./keys.js"
 
@@ -99,32 +100,6 @@ function whyUncounted({ no, list }) {
   return ""
 }
 
-// The next place that isn't finished, with what is missing there or why it can't be finished.
-let last = null
-async function goToNext(step) {
-  const node = nextPlace(last && app.tree.nodes.get(last.id) === last ? last : null, step)
-  if (!node) return
-  last = node
-  app.view.reveal(node).scrollIntoView({ block: "center" })
-  if (node.owner === null) choose(null)
-  else chooseElement(node)
-  host.focus({ preventScroll: true })
-  if (faultsOf(node).length && (node.verdict ?? "valid") === "valid") return say(node, `${faultsOf(node).map(({ sentence }) => sentence).join("; ")}. Enter opens the menu.`)
-  if (node.verdict === "impossible") {
-    const { why, kids } = (await whyOf(node)) ?? {}
-    if (last === node && why) {
-      showRefused({ kids })
-      say(node, why)
-    }
-    return
-  }
-  const looking = setTimeout(() => last === node && say(node, "What is missing here is looked for …"), 400)
-  const answer = await missingIn(node)
-  clearTimeout(looking)
-  const chosen = () => Object.fromEntries(answer.missing.filter((each) => each.chosen).map(({ id, chosen }) => [id, chosen]))
-  if (last === node && answer) say(node, missingParts(answer), answer.missing?.length ? () => takeOver(node, chosen()) : null)
-}
-
 export async function act(name) {
   closeMenu()
   await (name === "save" ? save() : change(name))
@@ -143,7 +118,7 @@ function toggleMore(isOpen) {
 
 const DO = {
   next: () => goToNext(1), undo: () => act("undo"), redo: () => act("redo"), save: () => act("save"),
-  tags: toggleTags, history: showHistory, list: showElements, search: openFinder, preview: showPreview, help: () => button("keys").showModal(),
+  tags: toggleTags, history: showHistory, list: showElements, lacks: showMissing, colours: showPalette, search: openFinder, preview: showPreview, help: () => button("keys").showModal(),
 }
 for (const [id, call] of Object.entries(DO)) button(id).addEventListener("click", call)
 button("more").addEventListener("click", () => toggleMore())
@@ -166,6 +141,7 @@ document.addEventListener("keydown", (event) => {
   else if (command && key === "f") openFinder()
   else if (command && (key === "y" || (key === "z" && event.shiftKey))) act("redo")
   else if (command && key === "z") act("undo")
+  else if (event.altKey && takeKey(event)) closeMenu()
   else if (key === "escape" && isMenuOpen()) closeMenu()
   else if (key === "escape" && isSaying()) forget()
   else return
@@ -192,6 +168,7 @@ for (const name of empty) empties.add(name)
 for (const [form, name] of Object.entries(known)) entities.set(form, name)
 if (note) tell(note)
 await catchUp()
+question("palette").then((answer) => answer?.palette.length && setPalette(answer.palette))
 toStart()
 takeSelection()
 setTouch(matchMedia("(pointer: coarse)").matches)

@@ -3,7 +3,8 @@
 import { worded } from "./draw.js"
 
 const box = document.getElementById("menu")
-const [title, about, input, list, refusal] = box.children
+const [title, about, input, list, each, refusal] = box.children
+const isEach = each.querySelector("input")
 const isNarrow = matchMedia("(max-width: 600px)")
 
 let open = null
@@ -15,12 +16,14 @@ let wanted = null
 // there.
 const MOMENT = 250
 let seen = { labels: [], at: 0, time: -Infinity }
+// So many rows are taken by a digit.
+const DIGITS = 9
 
 // A menu opens at once, also while its choices are asked for: then it shows an ellipsis, and holds Enter until they come.
 // With `keepFocus` the menu's field doesn't take the focus: with a finger that would bring the keyboard over the page.
-// Opens at a box of the page, which `box` gives. `typed`, where it is there, takes a name that isn't among the choices;
+// Opens at a box of the page, which `box` gives, beside all that is chosen, which `around` gives. `typed`, where it is there, takes a name that isn't among the choices;
 // `names` are those that are declared; `hint` stands where there is no choice, `about` above them all. `inSight` is called
-// where other choices come into sight.
+// where other choices come into sight. `each`, where it is there, takes a name for each line or paragraph, by Alt+Enter.
 export function openMenu({ closed, keepFocus = false, ...menu }) {
   const before = open
   open = { closed, names: new Set(), entered: null, ...menu }
@@ -28,6 +31,8 @@ export function openMenu({ closed, keepFocus = false, ...menu }) {
   title.textContent = open.name
   tellAbout(open.about)
   input.value = ""
+  each.hidden = !open.each
+  isEach.checked = false
   wanted = null
   seen.time = -Infinity
   refuse(null)
@@ -35,6 +40,7 @@ export function openMenu({ closed, keepFocus = false, ...menu }) {
   tellWaiting()
   filter()
   stand()
+  lift()
   if (!keepFocus) input.focus({ preventScroll: true })
 }
 
@@ -54,6 +60,7 @@ export function setChoices(choices, about = null) {
   const top = list.scrollTop
   filter()
   stand()
+  lift()
   // What was scrolled to stays in sight, but for a row that an arrow key chose.
   list.scrollTop = top
   if (wanted !== null) document.getElementById(`choice${at}`)?.scrollIntoView({ block: "nearest" })
@@ -74,10 +81,16 @@ function tellWaiting() {
 
 // What Enter was pressed for before there were choices.
 function takeHeld() {
-  const text = open.entered
+  const { text, ofEach } = open.entered
   open.entered = null
   const choice = ranked(text)[0]
-  if (choice) choice.take(choice.label)
+  if (choice) carryOut(choice, ofEach)
+}
+
+// What is no name of an element, as a row that extends one, has nothing to do with each line.
+function carryOut(choice, ofEach) {
+  if (ofEach && open.each && !choice.isOther) open.each(choice.label)
+  else choice.take(choice.label)
 }
 
 // What stands where there is no choice.
@@ -123,15 +136,42 @@ export function refuse(why) {
   if (open) stand()
 }
 
-// Below the box, or above where there is no room. In a narrow window the style sheet says where.
+// Below what is chosen, or above it, or beside it; where there is no room for that, less high. It covers what is chosen only
+// where that fills the window. In a narrow window the style sheet says where.
 export function stand() {
   if (!open || isNarrow.matches) return
-  const at = open.box()
+  box.style.maxHeight = ""
+  const all = (open.around ?? open.box)()
   const { width, height } = box.getBoundingClientRect()
-  const isBelow = at.bottom + 6 + height <= innerHeight
-  const top = isBelow ? at.bottom + 6 : Math.max(6, Math.min(at.top - 6 - height, innerHeight - height - 6))
+  const [above, below] = [all.top - 2 * GAP, innerHeight - all.bottom - 2 * GAP]
+  let top = all.bottom + GAP
+  let left = Math.max(GAP, Math.min(open.box().left, innerWidth - width - GAP))
+  if (below < height && above >= height) top = all.top - GAP - height
+  else if (below < height) {
+    const right = all.right + GAP + width <= innerWidth - GAP
+    const isBeside = right || all.left - GAP - width >= GAP
+    const room = Math.max(above, below)
+    top = Math.max(GAP, innerHeight - height - GAP)
+    if (isBeside) left = right ? all.right + GAP : all.left - GAP - width
+    else if (room >= LOW) {
+      box.style.maxHeight = `${room}px`
+      top = below >= above ? all.bottom + GAP : all.top - GAP - Math.min(height, room)
+    } else left = innerWidth - width - GAP
+  }
   box.style.top = `${top}px`
-  box.style.left = `${Math.max(6, Math.min(at.left, innerWidth - width - 6))}px`
+  box.style.left = `${left}px`
+}
+// The gap between the menu and what is chosen, and the lowest that a menu is made, in pixels.
+const GAP = 6
+const LOW = 170
+
+// In a narrow window the document goes up, as far as the menu at the foot would cover what is chosen.
+function lift() {
+  if (!open?.around || !isNarrow.matches) return
+  const { top, bottom } = open.around()
+  const host = document.getElementById("document")
+  const over = bottom + GAP - box.getBoundingClientRect().top
+  if (over > 0) host.scrollTop += Math.min(over, Math.max(0, top - host.getBoundingClientRect().top - GAP))
 }
 
 // What is declared and typed whole comes first, offered or not; then what begins so, and what holds it. A name that
@@ -167,6 +207,7 @@ function itemOf({ label, note, isTyped }, number) {
   item.id = `choice${number}`
   item.role = "option"
   item.dataset.number = number
+  if (number < DIGITS && input.value === "") item.dataset.digit = item.ariaKeyShortcuts = String(number + 1)
   if (note) item.append(" ", line("span", "note", note))
   return item
 }
@@ -200,11 +241,17 @@ function show() {
   else chosen?.scrollIntoView({ block: "nearest" })
 }
 
-function take(number, before) {
+function take(number, before, ofEach = isEach.checked) {
   const choice = shown[number]
-  if (open.isWaiting) return void (open.entered = choice?.label ?? input.value.trim())
+  if (open.isWaiting) return void (open.entered = { text: choice?.label ?? input.value.trim(), ofEach })
   const hasMoved = performance.now() - seen.time < MOMENT && choice?.label !== before
-  if (choice && !hasMoved) choice.take(choice.label)
+  if (choice && !hasMoved) carryOut(choice, ofEach)
+}
+
+// A digit takes a row, where nothing is typed: no name begins with one.
+function takeRow(digit) {
+  const number = Number(digit) - 1
+  if (!open.isWaiting) take(number, seen.labels[number])
 }
 
 input.addEventListener("input", () => {
@@ -221,12 +268,16 @@ input.addEventListener("keydown", (event) => {
     wanted = shown[at].label
     seen.time = -Infinity
     show()
-  } else if (event.key === "Enter") event.repeat || take(at, seen.labels[seen.at])
+  } else if (event.key === "Enter") event.repeat || take(at, seen.labels[seen.at], event.altKey || isEach.checked)
+  else if (isDigit(event) && input.value === "") event.repeat || takeRow(event.key)
   else if (event.key === "Escape" || event.key === "Tab") closeMenu()
   else return
   event.preventDefault()
   event.stopPropagation()
 })
+const isDigit = ({ key, ctrlKey, metaKey, altKey }) => /^[1-9]$/.test(key) && !ctrlKey && !metaKey && !altKey
+// The field has the focus again.
+isEach.addEventListener("change", () => input.focus({ preventScroll: true }))
 list.addEventListener("scroll", () => open?.inSight?.())
 list.addEventListener("mousedown", (event) => event.preventDefault())
 list.addEventListener("click", (event) => {

@@ -2,13 +2,15 @@
 // element.
 import { app, change, listeners, question, tell } from "./app.js"
 import { ask } from "./ask.js"
-import { boxOfChosen, caretIn, choose, chosen, flash, isByTouch, rest } from "./choose.js"
+import { boxOfChosen, boxRoundChosen, caretIn, choose, chosen, flash, isByTouch, rest } from "./choose.js"
 import { empties } from "./draw.js"
 import { isLocked, sayLocked } from "./lock.js"
 import { openAttributes } from "./attributes.js"
 import { openEverywhere } from "./again.js"
 import { closeMenu, hint, isMenuOpen, openMenu, refuse, rowsInSight, setChoices, shut, stand, waitAgain } from "./menu.js"
 import { isEmpty, markRun, nameOf, runAt, runOver, singlesIn, textOf, told, unmark } from "./place.js"
+import { editPalette } from "./palette.js"
+import { hasLines, openPieces } from "./pieces.js"
 import { forget, isSaying, say, sentenceOf, showRefused, whyOf } from "./refusal.js"
 
 // So long what names cost is waited for, in milliseconds.
@@ -65,7 +67,7 @@ export function askToDelete(node) {
   const text = textOf(node).trim().replace(/\s+/g, " ")
   const all = { label: "Delete with content", note: text.length > 40 ? `${text.slice(0, 40)}…` : text, take: () => deleteAll(node) }
   begin({ fill: () => (app.tree.isThere(node) ? setChoices([all, ...partsOf(node)]) : shut(GONE)) })
-  openMenu({ name: `Take ⟨${node.name}⟩ away?`, box: boxOfChosen, choices: [all, ...partsOf(node)], closed, keepFocus: isByTouch() })
+  openMenu({ name: `Take ⟨${node.name}⟩ away?`, box: boxOfChosen, around: boxRoundChosen, choices: [all, ...partsOf(node)], closed, keepFocus: isByTouch() })
 }
 
 function partsOf(node) {
@@ -89,7 +91,7 @@ export function extendTo(node) {
 
 function openForElement(node) {
   begin({ fill: () => fillForElement(node, openings) })
-  openMenu({ name: `⟨${node.name}⟩`, box: boxOfChosen, choices: choicesFor(node), closed, keepFocus: isByTouch() })
+  openMenu({ name: `⟨${node.name}⟩`, box: boxOfChosen, around: boxRoundChosen, choices: choicesFor(node), closed, keepFocus: isByTouch() })
   fillForElement(node, openings)
 }
 
@@ -117,10 +119,18 @@ function choicesFor(node) {
     choices.push({ label: "Delete with content", take: () => askToDelete(node) })
   }
   choices.push({ label: "Attributes", note: node.attrs ?? "", take: () => openAttributes(node) })
+  choices.push({ label: "To the palette", take: () => toPalette(node) })
   const text = textOf(node)
   const everywhere = { label: "The same on all places of this text", take: () => openEverywhere(node.name, text) }
   if (text.trim()) choices.push(everywhere)
   return choices
+}
+
+// A tag of the palette that is as this one is: its key is to be given.
+async function toPalette(node) {
+  const answer = await question("attributes", { node: node.id })
+  closeMenu()
+  if (answer) editPalette({ name: node.name, pairs: answer.pairs })
 }
 
 // What is missing in the element comes in after its menu, and again where the document was changed meanwhile.
@@ -185,12 +195,13 @@ export function offerNames(name, { kind, run = null, node = null }, { first, las
   }
   const take = (label) => make(() => told_(label))
   const at = () => marks && runAt(app.tree, marks)
-  const others = (call) => (call && at() ? call(at()).map((each) => ({ ...each, take: () => each.take(null, at) })) : [])
+  const others = (call) => (call && at() ? call(at()).map((each) => ({ ...each, isOther: true, take: () => each.take(null, at) })) : [])
   const here = { marks, told: told_, take, count: null, all: (names) => [...others(first), ...names, ...others(last)] }
   here.fill = () => fillNames(here)
   begin(here)
-  const menu = { name, box: boxOfChosen, choices: [], isWaiting: true, typed: take, names: app.names, inSight: () => here.count?.() }
-  openMenu({ ...menu, closed, keepFocus: isByTouch() })
+  const menu = { name, box: boxOfChosen, around: boxRoundChosen, choices: [], isWaiting: true, typed: take, names: app.names, inSight: () => here.count?.() }
+  const each = kind === "wrap" && hasLines(run) ? (label) => at() && openPieces(label, at()) : null
+  openMenu({ ...menu, each, closed, keepFocus: isByTouch() })
   fillNames(here)
 }
 
@@ -261,12 +272,12 @@ function takeCosts(costs, counts) {
 // How many menus were opened or closed: what comes in for one of them isn't shown in the next.
 let openings = 0
 
-// First those after which no more is missing, then by how many more; what was used lately first in each group, and what
-// brings it nearer.
-function ordered({ names = [], recent = [] }, costs) {
-  const lately = new Map(recent.map((name, at) => [name, at]))
+// First those after which no more is missing, then by how many more; in each group in the order in which the program
+// tells them.
+function ordered({ names = [] }, costs) {
   const more = (name) => costs[name]?.more ?? (costs[name] === undefined ? UNCOUNTED : Infinity)
-  const order = (name) => [Math.max(0, more(name)), lately.get(name) ?? recent.length, more(name)]
+  const rank = new Map(names.map((name, at) => [name, at]))
+  const order = (name) => [Math.max(0, more(name)), rank.get(name)]
   const sorted = names.toSorted((one, other) => compared(order(one), order(other)))
   const isCounted = names.some((name) => costs[name])
   const group = (name) => (isCounted ? groupOf(costs[name]) : undefined)

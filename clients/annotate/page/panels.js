@@ -1,38 +1,19 @@
 // What stands beside the document, its history and its elements by name, and the preview over it.
-import { app, change, listeners, onTrouble, question, tell } from "./app.js"
+import { app, change, onTrouble, question, tell } from "./app.js"
 import { ask } from "./ask.js"
 import { chooseElement, rest } from "./choose.js"
 import { make, View } from "./draw.js"
 import { choiceOf } from "./refusal.js"
+import { panel } from "./sides.js"
 import { Tree } from "./tree.js"
 
-const moves = document.getElementById("moves")
-const elements = document.getElementById("elements")
 const completed = document.getElementById("completed")
 const beside = document.getElementById("beside")
-const buttons = new Map([[moves, document.getElementById("history")], [elements, document.getElementById("list")]])
 
-// Shows one of the two, or hides it.
-function toggle(panel, fill) {
-  const isHidden = !panel.hidden
-  for (const [each, button] of buttons) {
-    each.hidden = each !== panel || isHidden
-    button.setAttribute("aria-expanded", String(!each.hidden))
-  }
-  fill()
-}
-for (const [panel] of buttons) {
-  panel.querySelector("header button").addEventListener("click", () => {
-    toggle(panel, () => {})
-    rest()
-  })
-}
+export const showHistory = panel("moves", "history", fillMoves)
+export const showElements = panel("elements", "list", fillElements)
 
-export const showHistory = () => toggle(moves, fillMoves)
-export const showElements = () => toggle(elements, fillElements)
-
-async function fillMoves() {
-  if (moves.hidden) return
+async function fillMoves(moves) {
   const answer = await question("history")
   if (!answer) return
   const items = ["opened", ...answer.made, ...answer.undone].map((text, at) => {
@@ -48,8 +29,7 @@ async function fillMoves() {
 // The element that was gone to last, by its name.
 const visited = new Map()
 
-function fillElements() {
-  if (elements.hidden) return
+function fillElements(elements) {
   const names = [...app.tree.names()].sort(([one], [other]) => one.localeCompare(other))
   const items = names.map(([name, { count, open, bad }]) => {
     const left = [open && `${open} not finished`, bad && `${bad} can't be`].filter(Boolean).join(", ")
@@ -70,11 +50,6 @@ function goToNamed(name, item) {
   chooseElement(all[at])
   item.querySelector(".count").textContent = `${at + 1} of ${all.length}`
 }
-listeners.push((changed) => {
-  if (!changed) return
-  fillMoves()
-  fillElements()
-})
 
 // The preview.
 const WHY_NOT = {

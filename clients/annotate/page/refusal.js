@@ -55,8 +55,7 @@ export function showRefused({ list, kids = [] }) {
 // elements that are missing and may have several names: they are chosen here.
 export function say(node, text, take = null) {
   told = node
-  const parts = typeof text === "string" ? [text] : text
-  sentence.replaceChildren(...parts.flatMap((part) => (typeof part === "string" ? worded(part) : [choiceOf(part)])))
+  sentence.replaceChildren(...inParts(text))
   takeOver.hidden = take === null
   takeOver.onclick = take
   box.dataset.kind = take ? "missing" : "why"
@@ -67,6 +66,12 @@ export function say(node, text, take = null) {
   if (tag) tag.after(box)
   else host.prepend(box)
   box.hidden = false
+}
+
+// A sentence, or its parts, as it is shown.
+export function inParts(text) {
+  const parts = typeof text === "string" ? [text] : text
+  return parts.flatMap((part) => (typeof part === "string" ? worded(part) : [choiceOf(part)]))
 }
 
 // The names that an element may have, the first chosen; which of them is, stands in its `chosen`.

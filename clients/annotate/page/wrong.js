@@ -35,9 +35,11 @@ listeners.push((isChanged) => {
 
 // The next place that isn't finished, or where an attribute is missing or wrong, in the order of the document.
 export function nextPlace(after, step) {
-  const nodes = [...app.tree.all()]
-  const order = new Map(nodes.map((node, at) => [node, step * at]))
-  const places = nodes.filter((node) => node.kids && ((node.verdict ?? "valid") !== "valid" || faultsOf(node).length))
+  const order = new Map([...app.tree.all()].map((node, at) => [node, step * at]))
+  const places = unfinished()
   if (step < 0) places.reverse()
   return places.find((node) => after && order.get(node) > order.get(after)) ?? places[0]
 }
+
+// All of them, in the order of the document.
+export const unfinished = () => [...app.tree.all()].filter((node) => node.kids && ((node.verdict ?? "valid") !== "valid" || faultsOf(node).length))

@@ -1,0 +1,288 @@
+"""Tries what makes a letter quick in `clients/annotate`: a tag round each line, the order of what is offered, and the palette.
+
+Words: PROGRAM, and names of cases, all where there are none. Prints each difference, and how many cases passed; ends with 1 where one failed.
+"""
+import functools
+import os
+import sys
+import tempfile
+
+sys.dont_write_bytecode = True
+
+from lib.annotate.fixture import FOLDER, LETTER, fault_of, need, run_cases, same  # noqa: E402
+from lib.annotate.letter import DTD, PLAIN, WHOLE  # noqa: E402
+
+sys.path[:0] = [FOLDER, os.path.dirname(FOLDER)]
+
+from attributes import Attributes  # noqa: E402
+from completions import Completions  # noqa: E402
+from costs import Costs  # noqa: E402
+from declared import declared_by  # noqa: E402
+from editor import Editor  # noqa: E402
+from everywhere import Everywhere  # noqa: E402
+from neighbours import Neighbours  # noqa: E402
+from palette import Palette  # noqa: E402
+from pieces import Pieces  # noqa: E402
+from pvtag.program import Trouble  # noqa: E402
+from runs import Stale  # noqa: E402
+from script import Script  # noqa: E402
+from uses import Uses  # noqa: E402
+
+LINES = "<letter><opener><salute>Dear</salute></opener><body>\n  One <lb/> here,\n\tTwo.\n\n<!-- no -->\n<p>Three.</p>\nFour &#10;five\n \n Six</body></letter>\n"
+
+
+class Place:
+    """A folder with a document, and what is marked up in it."""
+
+    def __init__(self, program, source, dtd=LETTER, root="letter", **others):
+        self.kept = tempfile.TemporaryDirectory()
+        self.program, self.folder, self.root = program, self.kept.name, root
+        for name, text in {"doc.xml": source, **others}.items():
+            with open(os.path.join(self.folder, name), "w", encoding="utf-8", newline="") as file:
+                file.write(text)
+        self.dtd = dtd if os.path.isabs(dtd) else os.path.join(self.folder, dtd)
+        self.editor = Editor([program], self.dtd, root, Script(os.path.join(self.folder, "doc.xml")))
+
+    def __enter__(self):
+        return self
+
+    def __exit__(self, *_):
+        self.editor.close()
+        self.kept.cleanup()
+
+    def run_of(self, words, until=None, nth=0):
+        """A run from words up to the end of others, in the list that holds the first and the last."""
+        document = self.editor.document
+        texts = [node for node in document.nodes.values() if node.kind == "text" and is_there(document, node)]
+        order = {node.id: at for at, node in enumerate(in_order(document))}
+        texts.sort(key=lambda node: order[node.id])
+        places = [(node, at) for node in texts for at in all_in(whole(node), words)]
+        first, at = places[nth]
+        if until is None:
+            last, to = first, at + len(words)
+        else:
+            last, to = next((node, whole(node).index(until) + len(until)) for node in texts
+                            if until in whole(node) and order[node.id] >= order[first.id])
+        ones, others = line_of(first), line_of(last)
+        depth = next(at for at, (one, other) in enumerate(zip(ones, others)) if one is not other or one is first)
+        one, other = ones[depth], others[depth]
+        return {"list": one.owner.id, "from": [one.id, at if one is first else 0], "to": [other.id, to if other is last else 1]}
+
+    def wrap(self, name, place):
+        return self.editor.move({"version": self.editor.version, "kind": "wrap", "place": place, "name": name})
+
+
+def whole(node):
+    return "".join(unit if len(unit) == 1 else "\0" for unit in node.units)
+
+
+def all_in(text, words):
+    at = text.find(words)
+    while at >= 0:
+        yield at
+        at = text.find(words, at + 1)
+
+
+def line_of(node):
+    line = []
+    while node is not None:
+        line.insert(0, node)
+        node = node.owner
+    return line
+
+
+def in_order(document):
+    todo = [document.top]
+    while todo:
+        node = todo.pop()
+        yield node
+        todo.extend(reversed(node.kids))
+
+
+def is_there(document, node):
+    return any(node is each for each in in_order(document))
+
+
+def element(editor, name, nth=0):
+    return [node for node in editor.document.elements() if node.name == name][nth]
+
+
+def tags_each_line(program):
+    """Each line, or each paragraph, of a run gets a tag, in one move; a line end in an element, and one that is a
+    reference, cuts nothing."""
+    with Place(program, LINES) as place:
+        editor = place.editor
+        pieces = Pieces(editor, Everywhere(editor))
+        body = element(editor, "body")
+        run = {"list": body.id, "from": [body.kids[0].id, 0], "to": [None, 0]}
+        told = pieces.of({"place": run, "name": "p"})
+        same((told["by"], [row["text"] for row in told["pieces"]]), ("paragraphs", ["One ⟨lb⟩ here, Two.", "⟨p⟩ Four five", "Six"]), "paragraphs")
+        same([row["refused"] for row in told["pieces"]], [False, True, False], "one would stand in another")
+        told = pieces.of({"place": run, "name": "p", "by": "lines"})
+        same([row["text"] for row in told["pieces"]], ["One ⟨lb⟩ here,", "Two.", "Four five", "Six"], "lines, without the one that has the tag")
+        same((editor.ahead, len(editor.made)), (0, 0), "nothing was made")
+        places = [row["place"] for row in told["pieces"]]
+        same(pieces.tag({"version": editor.version, "name": "p", "places": places})["refused"], 0, "all of them")
+        want = LINES.replace("One <lb/> here,", "<p>One <lb/> here,</p>").replace("Two.", "<p>Two.</p>").replace("Four &#10;five", "<p>Four &#10;five</p>")
+        same(editor.shown().decode(), want.replace("Six", "<p>Six</p>"), "the document")
+        same((len(editor.made), editor.made[-1].title), (1, "⟨p⟩ in 4 places"), "one move")
+        editor.undo({"version": editor.version})
+        same(editor.shown().decode(), LINES, "taken back")
+        need(isinstance(fault_of(lambda: pieces.tag({"version": editor.version - 1, "name": "p", "places": places})), Stale), "what isn't there any more")
+        same(pieces.tag({"version": editor.version, "name": "salute", "places": places})["refused"], 4, "a tag that is refused everywhere")
+        same(len(editor.made), 1 - 1, "makes nothing")
+        told = pieces.of({"place": run, "name": "salute", "by": "lines"})
+        same([row["refused"] for row in told["pieces"]], [True] * 4 + [True], "which is told")
+
+
+# Names that nobody wants here, beside those of the letter; all of them stand wherever a name or a date does.
+OTHERS = [f"other{number}" for number in range(44)]
+WIDE = DTD.replace("|hi)*>", "|hi|" + "|".join(OTHERS) + ")*>").replace("|placeName|date)*>", "|placeName|date|" + "|".join(OTHERS) + ")*>")
+WIDE = "".join(f"<!ELEMENT {name} (#PCDATA)>\n" for name in OTHERS) + WIDE
+# The moves of the letter: a name, and the words that it goes round.
+MOVES = [
+    ("title", "Letter to Pieter"), ("text", "Leiden", "know why."), ("opener", "Leiden", "Dear brother,"), ("dateline", "Leiden", "1764"),
+    ("placeName", "Leiden"), ("date", "3 May 1764"), ("salute", "Dear brother,"), ("p", "I have", "to Anna."), ("p", "We saw:"),
+    ("list", "the Old Church", "the market."), ("item", "the Old Church"), ("item", "the New Church"), ("item", "the market."),
+    ("p", "From Delft", "12 May."), ("closer", "Yours, Jan"), ("postscript", "PS Greet", "know why."), ("persName", "Mr Adams"),
+    ("placeName", "Delft"), ("persName", "Anna"), ("persName", "Mr Adams", None, 1), ("placeName", "London"), ("date", "12 May"),
+    ("persName", "Jan"), ("hi", "Old"), ("hi", "New"), ("hi", "will"), ("hi", "regards"),
+]
+# What is tagged by the key for the last tag again, without a menu.
+AGAIN = ("the New Church", "the market.", "London", "New")
+
+
+def rows_of(costs, place):
+    """The names for a place, in the order in which the menu has them at first: by what they cost, as far as that is quickly
+    told, and then as they are offered."""
+    offer = costs.offer(place)
+    known, is_quick = dict(offer["costs"]) | dict.fromkeys(offer["whole"], 0), False
+    while not is_quick:
+        answer = costs.more({"task": offer["task"], "names": [], "all": False})
+        known, is_quick = known | answer["costs"], answer["is_quick"]
+    return sorted(offer["names"], key=lambda name: max(0, known[name]) if known.get(name) is not None else 1 << 30)
+
+
+def offers_what_is_wanted(program):
+    """Under a DTD of 60 names the wanted name is among the first five in nine of ten moves of a letter, where another letter
+    lies beside it; without one it is, from its second use on."""
+    for others, first in (({"before.xml": WHOLE, "other.xml": "<nothing>", "plain.txt": "x"}, True), ({}, False)):
+        with Place(program, f"<TEI>{PLAIN}</TEI>\n", "wide.dtd", "TEI", **{"wide.dtd": WIDE}, **others) as place:
+            declared = declared_by([program], place.dtd)
+            need(len(declared) >= 60, f"so many names: {len(declared)}")
+            around = Neighbours(place.editor.script.document, "TEI")
+            around.read.join()
+            same(around.count, len(others) and 1, "documents beside it")
+            costs = Costs(place.editor, declared, Uses(place.editor, around, ["lb"]))
+            seen, ranks = set(), []
+            for name, words, *more in MOVES:
+                run = place.run_of(words, *more)
+                rows = rows_of(costs, run)
+                need(name in rows, f"{name} is offered: {rows}")
+                parent = place.editor.document.nodes[run["list"]].name
+                if words not in AGAIN and (first or (parent, name) in seen):
+                    ranks.append((rows.index(name), name, words))
+                seen.add((parent, name))
+                need("changes" in place.wrap(name, run), f"{name} round {words}")
+            good = sum(rank < 5 for rank, *_ in ranks)
+            need(good * 10 >= len(ranks) * 9 and len(ranks) > 3, f"{good} of {len(ranks)}: {ranks}")
+            p = element(place.editor, "p", 1)
+            at_caret = costs.offer({"list": p.id, "from": [p.kids[0].id, 1], "to": [p.kids[0].id, 1]})["names"]
+            same(at_caret[0], "lb", "at a caret what is EMPTY comes first")
+            costs.close()
+
+
+TAGS = """# The names of our letters.
+#
+a  person  key="adams" type='x'  #b3541e
+l place
+1\tdate\tkey="1 < 2" #abc
+"""
+
+
+def has_a_palette(program):
+    """Tags with attributes are read of a file beside the DTD, and written to it; one is put in one move."""
+    with open(LETTER, encoding="utf-8") as file:
+        dtd = file.read()
+    source = "<letter><opener><salute>Dear</salute></opener><body><p>I met Mr Adams.</p></body></letter>"
+    with Place(program, source, "own.dtd", "letter", **{"own.dtd": dtd, "tags.txt": TAGS.replace("1 < 2", "1 &lt; 2")}) as place:
+        editor, path = place.editor, os.path.join(place.folder, "tags.txt")
+        attributes = Attributes(editor)
+        palette = Palette(place.dtd, attributes)
+        rows = palette.rows()
+        same([(row["key"], row["name"], row["pairs"], row["colour"]) for row in rows],
+             [("a", "person", [("key", "adams"), ("type", "x")], "#b3541e"), ("l", "place", [], ""), ("1", "date", [("key", "1 < 2")], "#abc")], "the file")
+        os.chmod(path, 0o640)
+        same(palette.put({"palette": rows})["palette"], rows, "what is written is what is read")
+        with open(path, encoding="utf-8") as file:
+            text = file.read()
+        need(text.startswith("# The names of our letters.\n#\na  person"), f"its notes stay: {text}")
+        same(os.stat(path).st_mode & 0o777, 0o640, "its mode")
+        for bad in ({"key": "ab"}, {"key": ""}, {"key": "l"}, {"name": "a b"}, {"name": ""}, {"colour": "red"}, {"pairs": [["a b", ""]]}, {"pairs": [["a", "\x01"]]}):
+            fault = fault_of(lambda: palette.put({"palette": [{**rows[0], **bad}, rows[1]]}))
+            need(isinstance(fault, Trouble), f"{bad}: {fault!r}")
+        same(palette.rows(), rows, "nothing is written then")
+        for bad in ("a\n", "ab person\n", "a person key=adams\n", "a person\na place\n"):
+            with open(path, "w", encoding="utf-8") as file:
+                file.write(bad)
+            need("tags.txt" in str(fault_of(palette.rows)), f"{bad!r} is told")
+        os.unlink(path)
+        same((palette.rows(), len(palette.put({"palette": rows})["palette"])), ([], 3), "a file that isn't there is made")
+        told = attributes.tag({"version": editor.version, "kind": "wrap", "place": place.run_of("Mr Adams"), "name": "person", "pairs": [["key", "<a>"]]})
+        need("changes" in told and b'met <person key="&lt;a>">Mr Adams</person>.' in editor.shown(), f"a tag with its attributes: {editor.shown()}")
+        same((len(editor.made), editor.made[0].title), (1, "⟨person⟩ round “Mr Adams”"), "one move, told by its tag")
+        editor.undo({"version": editor.version})
+        same(editor.shown().decode(), source, "taken back")
+        attributes.tag({"version": editor.version, "kind": "insert", "place": {**place.run_of("met"), "to": place.run_of("met")["from"]}, "name": "lb", "pairs": [["n", "1"]]})
+        need(b'I <lb n="1"/>met' in editor.shown(), f"at a caret: {editor.shown()}")
+        told = attributes.tag({"version": editor.version, "kind": "wrap", "place": place.run_of("Adams"), "name": "body", "pairs": [["n", "1"]]})
+        same((told["no"], len(editor.made)), ("impossible", 1), "a tag that is refused")
+        attributes.close()
+
+
+def gives_required_attributes(program):
+    """What is taken over has the attributes that it requires, where they have one value; a reference to an entity is shown
+    and written as it is."""
+    dtd = """<!ELEMENT doc (a, a)><!ELEMENT a (b)><!ELEMENT b EMPTY><!ATTLIST a kind (only) #REQUIRED who CDATA #REQUIRED>
+    <!ATTLIST b v CDATA #FIXED "1"><!ATTLIST doc x CDATA #IMPLIED>"""
+    with Place(program, "<doc></doc>", "own.dtd", "doc", **{"own.dtd": dtd}) as place:
+        editor = place.editor
+        attributes = Attributes(editor)
+        if attributes.known.why_not:
+            print("skipped: required attributes (no lxml, package python3-lxml)")
+        else:
+            completions = Completions(editor, attributes)
+            completions.preview()
+            completions.take({"version": editor.version})
+            same(editor.shown().decode(), '<doc><a kind="only"><b></b></a><a kind="only"><b></b></a></doc>', "all of it")
+            same(len(editor.made), 1, "one move")
+            editor.undo({"version": editor.version})
+            same(editor.shown().decode(), "<doc></doc>", "taken back")
+            completions.missing({"node": element(editor, "doc").id})
+            completions.take({"version": editor.version, "node": element(editor, "doc").id})
+            need(editor.shown().decode().startswith('<doc><a kind="only"><b></b></a>'), f"those of one list: {editor.shown()}")
+        attributes.close()
+    source = "<!DOCTYPE doc [<!ENTITY me 'Anna'>]>\n<doc x='&me; &amp;me; b'/>"
+    with Place(program, source, "own.dtd", "doc", **{"own.dtd": dtd}) as place:
+        editor = place.editor
+        attributes, root = Attributes(editor), element(editor, "doc")
+        pairs = attributes.of({"node": root.id})["pairs"]
+        same(pairs, [("x", "&me; &me; b")], "as it is written")
+        attributes.change({"version": editor.version, "node": root.id, "pairs": pairs})
+        same(editor.whole_source().decode(), source, "what wasn't changed stays as it was")
+        attributes.change({"version": editor.version, "node": root.id, "pairs": [*pairs, ["y", "of &me;"]]})
+        same(editor.whole_source().decode(), source.replace("b'/>", "b' y=\"of &me;\"/>"), "another one with a reference")
+        attributes.close()
+
+
+CASES = [tags_each_line, offers_what_is_wanted, has_a_palette, gives_required_attributes]
+
+
+def main():
+    program = os.path.abspath(sys.argv[1])
+    wanted = [case for case in CASES if not sys.argv[2:] or case.__name__ in sys.argv[2:]]
+    return run_cases("quick letters", [functools.update_wrapper(functools.partial(case, program), case) for case in wanted])
+
+
+if __name__ == "__main__":
+    sys.exit(main())

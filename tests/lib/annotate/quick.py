@@ -1,0 +1,157 @@
+"""The page of `clients/annotate`: what makes a letter quick: a tag round each line, rows by their digits, and the list of what
+is missing. Cases of `annotate.py`."""
+from .browser import Page
+from .fixture import ARTICLE, LETTER as DTD, Server, same, soon
+from selenium.webdriver.common.keys import Keys
+
+BODY = "<body>\nOne line here,\nand two.\n\nThree\nlines.\n</body>"
+LETTER = f"<letter><opener><salute>Dear brother,</salute></opener>{BODY}</letter>\n"
+# Whether the menu covers a part of what is chosen.
+COVERS = """
+const menu = document.getElementById('menu').getBoundingClientRect()
+const [range] = CSS.highlights.get('chosen')
+const isOver = ({ left, right, top, bottom }) => left < menu.right && right > menu.left && top < menu.bottom && bottom > menu.top
+return [...range.getClientRects()].some(isOver)
+"""
+
+
+def tags_each_line(driver, program):
+    """Alt+Enter in the menu, or its box, puts the tag round each line or paragraph that stays ticked; one move."""
+    with Server(program, LETTER) as server:
+        page = Page(driver, server.url)
+        page.select("One", "lines.")
+        page.open_menu()
+        page.keys("p")
+        page.keys(Keys.ALT, Keys.ENTER)
+        soon(lambda: page.texts("#everywhere .context"), ["One line here, and two.", "Three lines."], "paragraphs, since there are some")
+        same(page.menu(), None, "the menu is closed")
+        page.js("const cut = document.querySelector('#everywhere .cut'); cut.value = 'lines'; cut.dispatchEvent(new Event('change'))")
+        soon(lambda: page.texts("#everywhere .context"), ["One line here,", "and two.", "Three", "lines."], "or lines")
+        page.press("#everywhere li input", 2)
+        page.press("#everywhere .tag-all")
+        soon(page.moves, 1, "one move")
+        want = "<body>\n<p>One line here,</p>\n<p>and two.</p>\n\nThree\n<p>lines.</p>\n</body>"
+        soon(lambda: want in page.written(), True, "those that were ticked")
+        page.keys(Keys.CONTROL, "z")
+        soon(page.moves, 0, "undo")
+        page.select("One", "lines.")
+        page.open_menu()
+        page.press("#menu .each")
+        page.keys("p", Keys.ENTER)
+        soon(lambda: page.js("return document.activeElement.className"), "tag-all", "by the box in the menu, and then by Enter")
+        page.keys(Keys.ENTER)
+        soon(lambda: "<body><p>One line here,\nand two.</p><p>Three\nlines.</p></body>" in page.written(), True, "each paragraph")
+        page.select("brother")
+        page.open_menu()
+        same(page.find("#menu .each").is_displayed(), False, "one line has no pieces")
+        page.keys(Keys.ESCAPE)
+
+
+def takes_rows_by_digits(driver, program):
+    """A digit takes the row that has it, where nothing is typed; while rows are still to come it does nothing."""
+    with Server(program, LETTER.replace("<body>", "<body><p>I met him.</p>")) as server:
+        page = Page(driver, server.url)
+        page.select("him")
+        page.see_menu(["place", "date", "person"], "what is offered")
+        same(page.js("return [...document.querySelectorAll('#choices [data-digit]')].map((each) => each.dataset.digit)"), ["1", "2", "3"], "its digits")
+        page.keys("3")
+        soon(lambda: "I met <person>him</person>." in page.written(), True, "the third row")
+        page.select("met")
+        page.see_menu(["person"], "what stands there already comes first")
+        page.keys("9")
+        same((page.moves(), page.js("return document.querySelector('#menu input').value")), (1, ""), "there is no such row")
+        page.keys("p1")
+        same(page.js("return document.querySelector('#menu input').value"), "p1", "behind a letter it is typed")
+        page.keys(Keys.ESCAPE)
+
+
+def lists_what_is_missing(driver, program):
+    """Each place that isn't finished, with its sentence; it is gone to, and taken over there."""
+    source = "<letter><opener>Dear brother,</opener>" + BODY + "<closer>Yours</closer></letter>\n"
+    with Server(program, source) as server:
+        page = Page(driver, server.url)
+        page.press("#lacks")
+        soon(lambda: page.texts("#lacking .sentence"), lambda texts: len(texts) == 2 and all("Missing here" in text for text in texts), "two places")
+        same(page.texts("#lacking .name"), ["opener", "body"], "in the order of the document")
+        page.press("#lacking li .open", 1)
+        soon(lambda: page.texts(".chosen > .tag:not(.end)"), ["body"], "a click goes there")
+        page.press("#lacking .take")
+        soon(lambda: "<opener><salute>Dear brother,</salute></opener>" in page.written(), True, "it is taken over")
+        soon(lambda: page.texts("#lacking .name"), ["body"], "and isn't listed any more")
+        same(page.moves(), 1, "one move")
+    with Server(program, LETTER.replace("<body>", "<closer>x</closer><body>")) as server:
+        page = Page(driver, server.url)
+        page.press("#lacks")
+        soon(lambda: page.texts("#lacking .sentence"), lambda texts: "closer stands before body" in texts[0], "why one can't be finished")
+
+
+def keeps_words_in_sight(driver, program):
+    """The menu covers nothing of what is chosen, and F8 brings a tag a third from the top, also of a tall element."""
+    lines = "".join(f"Line {number} of a long text.\n" for number in range(60))
+    with Server(program, f"<doc><head>H</head><sec><p>{lines}</p>{lines}</sec><sec><p>{lines}</p></sec></doc>", ARTICLE, "doc") as server:
+        page = Page(driver, server.url)
+        for first, last in (("Line 1 ", "Line 3 of"), ("Line 8 ", "Line 17 of"), ("Line 12 ", "Line 18 of")):
+            page.select(first, last)
+            page.open_menu()
+            soon(lambda: page.js(COVERS), False, f"the menu beside {first}to {last}")
+            page.keys("nothing", Keys.ENTER)
+            soon(lambda: page.find("#menu .refusal").is_displayed(), True, "a refusal makes it larger")
+            soon(lambda: page.js(COVERS), False, "and it covers nothing then")
+            page.keys(Keys.ESCAPE)
+            page.keys(Keys.ESCAPE)
+        page.keys(Keys.F8)
+        soon(lambda: page.find("#reason").text, lambda text: "Missing here" in text, "what is missing")
+        third = "const { top, height } = document.getElementById('document').getBoundingClientRect();" \
+            "return Math.abs(document.querySelector('.chosen > .tag').getBoundingClientRect().top - top - height / 3) < 40 || document.getElementById('document').scrollTop === 0"
+        soon(lambda: page.js(third), True, "a third from the top")
+        soon(lambda: page.js("const { top, bottom } = document.getElementById('reason').getBoundingClientRect(); return top > 0 && bottom < innerHeight"), True, "its sentence is in sight")
+
+
+def has_a_palette(driver, program):
+    """Tags with attributes, made from the page: Alt and a key puts one, a click does, and the key alone where the text is
+    locked; its colour is that of its elements."""
+    with Server(program, None, ARTICLE, "letter") as server:
+        with open(DTD, encoding="utf-8") as file:
+            server.write(file.read(), "own.dtd")
+        server.write(LETTER.replace("<body>", "<body><p>I met Mr Adams, and Tom.</p>"))
+        server.words[2] = server.path("own.dtd")
+        server.start()
+        page = Page(driver, server.url)
+        page.press("#colours")
+        page.press("#palette .edit")
+        page.keys("a", Keys.TAB, "person", Keys.TAB, "key=\"adams\"", Keys.TAB, "red")
+        page.press("#tags-of .set")
+        soon(lambda: page.find("#tags-of .refusal").text, lambda text: "red" in text, "a colour of another form")
+        page.js("document.querySelector('#tags-of td:nth-child(4) input').value = '#b3541e'")
+        page.press("#tags-of .set")
+        soon(lambda: page.texts("#palette li"), ["a person key=\"adams\""], "the palette")
+        same(server.text("tags.txt").splitlines()[-1], "a  person key=\"adams\"  #b3541e", "its file")
+        page.select("Mr Adams")
+        page.open_menu()
+        page.keys(Keys.ALT, "a")
+        soon(lambda: "met <person>Mr Adams</person>," in page.written(), True, "with the menu open")
+        same((page.moves(), page.menu(), page.texts("#document .attrs")), (1, None, ["key=\"adams\""]), "one move, with its attributes")
+        colour = "return getComputedStyle(document.querySelector('#document .inline .inline')).borderBottomColor"
+        same(page.js(colour), "rgb(179, 84, 30)", "its colour")
+        page.select("Tom")
+        page.open_menu()
+        page.keys(Keys.ESCAPE)
+        page.keys("a")
+        soon(lambda: "and <person>Tom</person>." in page.written(), True, "its key alone, while the text is locked")
+        page.keys(Keys.CONTROL, "z")
+        soon(page.moves, 1, "undo")
+        page.press("#lock")
+        page.click_text("Tom")
+        page.type("a")
+        soon(lambda: "and aTom." in page.written(), True, "while it isn't, the key is text")
+        page.select("aTom")
+        page.open_menu()
+        page.press("#palette li button")
+        soon(lambda: "and <person>aTom</person>." in page.written(), True, "a click")
+        server.stop()
+        server.start()
+        page = Page(driver, server.url)
+        soon(lambda: page.js(colour), "rgb(179, 84, 30)", "it is there at the next start")
+
+
+CASES = [tags_each_line, takes_rows_by_digits, lists_what_is_missing, keeps_words_in_sight, has_a_palette]
