@@ -20,12 +20,14 @@ from costs import Costs  # noqa: E402
 from declared import declared_by  # noqa: E402
 from editor import Editor  # noqa: E402
 from everywhere import Everywhere  # noqa: E402
+from explain import Explainer  # noqa: E402
 from neighbours import Neighbours  # noqa: E402
 from palette import Palette  # noqa: E402
 from pieces import Pieces  # noqa: E402
 from pvtag.program import Trouble  # noqa: E402
 from runs import Stale  # noqa: E402
 from script import Script  # noqa: E402
+from suggest import Suggestions  # noqa: E402
 from uses import Uses  # noqa: E402
 
 LINES = "<letter><opener><salute>Dear</salute></opener><body>\n  One <lb/> here,\n\tTwo.\n\n<!-- no -->\n<p>Three.</p>\nFour &#10;five\n \n Six</body></letter>\n"
@@ -275,7 +277,68 @@ def gives_required_attributes(program):
         attributes.close()
 
 
-CASES = [tags_each_line, offers_what_is_wanted, has_a_palette, gives_required_attributes]
+def gives_reasons_one_can_read(program):
+    """A long model is told by its first names, with the DTD's entities spelled out; comments are those before a name."""
+    with Place(program, "<doc><head>x</head><p>One two</p></doc>", "own.dtd", "doc", **{"own.dtd": READABLE}) as place:
+        editor = place.editor
+        explainer = Explainer(editor)
+        told = place.wrap("head", place.run_of("two"))["later"]()
+        same(told["why"], "`p` can't hold `head`, and no element between them could. `p` takes text, `hi`, `foreign` … (14).", "a long one")
+        same(told["model"], "(#PCDATA|" + "|".join(INLINE) + ")*", "its whole model")
+        told = place.wrap("doc", place.run_of("x"))["later"]()
+        same((told["why"].split(". ")[1], "model" in told), ("`head` is declared `(#PCDATA)`.", False), "a short one")
+        takes = explainer.takes
+        same(takes.comments, {"p": "A paragraph.", "head": "What stands above."}, "comments")
+        same(takes.of("none"), ("", ""), "what isn't declared")
+
+
+INLINE = "hi foreign name date place person abbr num corr sic gap note ref".split()
+READABLE = f"""<!ENTITY % inline "{'|'.join(INLINE)}"><!ENTITY % all '#PCDATA | %inline;'>
+<!-- ==== A paragraph. ==== -->
+<!ELEMENT p (%all;)*>
+<!-- Not this one. --> <!ENTITY % x ""> <!ELEMENT doc (head, p+)>
+<!-- What
+ stands above. --><!ELEMENT head (#PCDATA)>
+""" + "".join(f"<!ELEMENT {name} (#PCDATA)>" for name in INLINE)
+
+
+def suggests_what_was_tagged(program):
+    """Exact words that had the same tag three times, in the documents beside or here, where they stand without it."""
+    beside = "<letter><opener><salute>x</salute></opener><body><p>{}</p></body></letter>"
+    adams, delft = "<person key='adams' id='{}'>Mr Adams</person>", "<place>Delft</place>"
+    others = {
+        "a.xml": beside.format(adams.format("a") + adams.format("b") + delft + "<place>May</place><date>May</date>"),
+        "b.xml": beside.format(adams.format("a") + delft + "<place>May</place><date>May</date><place>Rome</place>"),
+        "c.xml": beside.format("<place>May</place><date>May</date><place>Rome</place><person>Tom</person>"), "d.xml": "<other>", "e.xml": "<letter>&",
+    }
+    source = "<letter><opener><salute>Mr Adams</salute></opener><body><p>Mr Adams of Delft, <place>Delft</place>, Delftware &amp; Mr Adams; May Rome Tom</p></body></letter>"
+    with open(LETTER, encoding="utf-8") as file:
+        dtd = file.read() + "<!ATTLIST person key CDATA #IMPLIED id ID #IMPLIED>"
+    with Place(program, source, "own.dtd", "letter", **{"own.dtd": dtd}, **others) as place:
+        editor = place.editor
+        around, attributes = Neighbours(editor.script.document, "letter"), Attributes(editor)
+        around.read.join()
+        same(around.count, 3, "the documents that can be read")
+        suggestions = Suggestions(editor, around, Everywhere(editor), attributes)
+
+        def told():
+            return [(row["text"], row["name"], row["count"], row["here"], row["before"][-8:]) for row in suggestions.told()["rows"]]
+
+        first = suggestions.told()["rows"][0]
+        if attributes.known.why_not:
+            print("skipped: identifiers in suggestions (no lxml, package python3-lxml)")
+        else:
+            same(told(), [("Mr Adams", "person", 3, 2, ""), ("Delft", "place", 3, 1, "Adams of "[-8:]), ("Mr Adams", "person", 3, 2, "tware & ")],
+                 "no part of a word, none that has it, none that had two tags as often")
+            same(first["pairs"], [("key", "adams")], "its attributes, without the identifier")
+            need("changes" in attributes.tag({"version": editor.version, "kind": "wrap", **{key: first[key] for key in ("place", "name", "pairs")}}), "it is taken")
+            need(b'<p><person key="adams">Mr Adams</person> of Delft' in editor.shown(), f"the document: {editor.shown()}")
+            same([row[:4] for row in told()], [("Delft", "place", 3, 1), ("Mr Adams", "person", 4, 1)], "what is left")
+        same((editor.ahead, len(editor.made)), (0, 0 if attributes.known.why_not else 1), "nothing else was made")
+        attributes.close()
+
+
+CASES = [suggests_what_was_tagged, gives_reasons_one_can_read, tags_each_line, offers_what_is_wanted, has_a_palette, gives_required_attributes]
 
 
 def main():

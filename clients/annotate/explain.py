@@ -7,14 +7,16 @@ from typing import Any
 from editor import Editor
 from pvtag.document import Document, Told
 from pvtag.dtd import Dtd
-from pvtag.reasons import Reasons, kids_of
+from pvtag.reasons import Reason, Reasons, kids_of
 from runs import element_of
+from takes import Takes
 
 
 class Explainer:
     def __init__(self, editor: Editor) -> None:
         self.editor = editor
-        self.reasons = Reasons(editor.program, Dtd(editor.program, editor.dtd), editor.root)
+        dtd = Dtd(editor.program, editor.dtd)
+        self.reasons, self.takes = Reasons(editor.program, dtd, editor.root), Takes(dtd)
         # One is explained at a time; the editor's lock isn't held meanwhile.
         self.lock = threading.Lock()
         self.told: dict[int, Told] = {}
@@ -33,7 +35,7 @@ class Explainer:
                 return {}
             reason = refused.reason
             kids = [number for kid in reason.kids if (number := refused.ids[kid]) is not None]
-            told: Told = {"why": reason.sentence(), "cause": reason.cause, "kids": kids}
+            told: Told = {**self.worded(reason), "cause": reason.cause, "kids": kids}
             return told if refused.owner is None else {**told, "list": refused.owner}
 
         return told
@@ -51,5 +53,14 @@ class Explainer:
             reasons = self.reasons.of_lists([asked for asked, _ in new.values()])
             for (number, (_, ids)), reason in zip(new.items(), reasons, strict=True):
                 kids = [ids[kid] for kid in reason.kids] if reason is not None else []
-                self.told[number] = {"node": number, "why": reason.sentence() if reason is not None else "", "kids": kids}
+                self.told[number] = {"node": number, **(self.worded(reason) if reason is not None else {"why": ""}), "kids": kids}
             return {"reasons": [self.told[node.id] for node, _ in there]}
+
+    def worded(self, reason: Reason) -> Told:
+        """A reason in words: what is so, and what the list's element takes; `model` is its whole model, where that is long."""
+        so, *declared = reason.sentences()
+        name = reason.owner or self.editor.root
+        if not declared or not declared[0].startswith(f"`{name}` is declared `"):
+            return {"why": " ".join([so, *declared])}
+        takes, model = self.takes.of(name)
+        return {"why": f"{so} {takes}".strip(), **({"model": model} if model else {})}

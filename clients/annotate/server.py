@@ -21,6 +21,7 @@ from declared import Declared
 from editor import Differs, Editor, Unseen
 from everywhere import Everywhere
 from explain import Explainer
+from neighbours import Neighbours
 from palette import Palette
 from pieces import Pieces
 from pvtag.document import Told
@@ -28,7 +29,9 @@ from pvtag.program import Trouble, shown_name
 from pvtag.session import Ended
 from runs import Stale
 from script import Changed, Question
+from suggest import Suggestions
 from texts import Texts
+from uses import Uses
 
 FOLDER = os.path.join(os.path.dirname(os.path.abspath(__file__)), "page")
 TYPES = {".html": "text/html", ".css": "text/css", ".js": "text/javascript"}
@@ -58,10 +61,13 @@ class Server(ThreadingHTTPServer):
     def __init__(self, editor: Editor, declared: dict[str, Declared], port: int, title: str,
                  patience: float = PATIENCE) -> None:
         self.editor, self.declared, self.title, self.patience = editor, declared, title, patience
-        self.costs, self.texts, self.attributes = Costs(editor, declared), Texts(editor), Attributes(editor)
+        self.around = Neighbours(editor.script.document, editor.root)
+        uses = Uses(editor, self.around, [name for name, each in declared.items() if each.kind == "empty"])
+        self.costs, self.texts, self.attributes = Costs(editor, declared, uses), Texts(editor), Attributes(editor)
         self.everywhere, self.explainer = Everywhere(editor), Explainer(editor)
         self.completions, self.palette = Completions(editor, self.attributes), Palette(editor.dtd, self.attributes)
         self.pieces = Pieces(editor, self.everywhere)
+        self.suggestions = Suggestions(editor, self.around, self.everywhere, self.attributes)
         self.token = secrets.token_urlsafe(24)
         self.files = {name: read_page(name) for name in os.listdir(FOLDER) if os.path.splitext(name)[1] in TYPES}
         self.windows: set[str] = set()
@@ -227,7 +233,7 @@ def hello(server: Server, ask: Any) -> Told:
     server.hello(str(ask["window"]))
     empty = [name for name, declared in server.declared.items() if declared.kind == "empty"]
     return {"title": server.title, "names": list(server.declared), "empty": empty, "note": note_of(server.editor),
-            "entities": entities_of(server.editor)}
+            "entities": entities_of(server.editor), "comments": server.explainer.takes.comments}
 
 
 def note_of(editor: Editor) -> str:
@@ -281,6 +287,7 @@ ASKED: dict[str, Callable[[Server, Any], Told]] = {
     "tag": lambda server, ask: server.attributes.tag(ask),
     "palette": lambda server, ask: server.palette.told(ask),
     "set-palette": lambda server, ask: server.palette.put(ask),
+    "suggestions": lambda server, ask: server.suggestions.told(ask),
     "pieces": lambda server, ask: server.pieces.of(ask),
     "tag-pieces": lambda server, ask: server.pieces.tag(ask),
     "why": lambda server, ask: server.explainer.of_lists(ask),

@@ -26,6 +26,9 @@ export const worded = (text) => text.split("`").map((part, at) => (at % 2 ? make
 // The names that are declared EMPTY: nothing can be put into these.
 export const empties = new Set()
 
+// What the DTD's author wrote before the declarations of names.
+export const comments = new Map()
+
 // What a list's verdict is called.
 const VERDICTS = { possible: ", not finished", impossible: ", can't be finished" }
 
@@ -215,6 +218,7 @@ export class View {
   tag(node, form) {
     const tag = make("span", `tag ${form}`, node.name)
     tag.dataset.tag = node.id
+    if (comments.has(node.name)) tag.title = comments.get(node.name)
     tag.ariaHidden = "true"
     if (node.attrs && form !== "end") tag.append(" ", make("span", "attrs", spelled(node.attrs)))
     return tag

@@ -2,7 +2,7 @@
 import { tagAgain, tagEverywhere } from "./again.js"
 import { app, catchUp, change, listeners, question, tell } from "./app.js"
 import { ask, Gone, hello, sayBye } from "./ask.js"
-import { empties, entities } from "./draw.js"
+import { comments, empties, entities } from "./draw.js"
 import { rest, setTouch, takeSelection } from "./choose.js"
 import { openFinder } from "./find.js"
 import { closeMenu, isMenuOpen } from "./menu.js"
@@ -10,6 +10,7 @@ import { goToNext, showMissing } from "./next.js"
 import { setPalette, showPalette, takeKey } from "./palette.js"
 import { save, showElements, showHistory, showPreview } from "./panels.js"
 import { forget, isSaying } from "./refusal.js"
+import { openSuggestions, showSuggestions } from "./suggest.js"
 import { attributesSentence, attributesValid, countWrong, onWrong } from "./wrong.js"
 import "./type.js"
 import { toStart } from "./keys.js"
@@ -118,11 +119,17 @@ function toggleMore(isOpen) {
 
 const DO = {
   next: () => goToNext(1), undo: () => act("undo"), redo: () => act("redo"), save: () => act("save"),
-  tags: toggleTags, history: showHistory, list: showElements, lacks: showMissing, colours: showPalette, search: openFinder, preview: showPreview, help: () => button("keys").showModal(),
+  tags: toggleTags, history: showHistory, list: showElements, lacks: showMissing, colours: showPalette, before: showSuggestions, search: openFinder, preview: showPreview, help: () => button("keys").showModal(),
 }
 for (const [id, call] of Object.entries(DO)) button(id).addEventListener("click", call)
 button("more").addEventListener("click", () => toggleMore())
 button("others").addEventListener("click", () => toggleMore(false))
+// In a narrow window what is wanted often stands with the others too.
+const often = ["lacks", "search", "preview"].map(button)
+const isNarrow = matchMedia("(max-width: 900px)")
+const standOften = () => (isNarrow.matches ? button("others").prepend(...often) : button("more").before(...often))
+isNarrow.addEventListener("change", standOften)
+standOften()
 for (const dialog of document.querySelectorAll("dialog")) {
   const close = dialog.querySelector("button.close")
   if (!close.form) close.addEventListener("click", () => dialog.close())
@@ -133,7 +140,8 @@ document.addEventListener("keydown", (event) => {
   const key = event.key.toLowerCase()
   const command = event.ctrlKey || event.metaKey
   if (event.isComposing || document.querySelector("dialog[open]")) return
-  if (key === "f8") goToNext(event.shiftKey ? -1 : 1)
+  if (key === "f7") openSuggestions()
+  else if (key === "f8") goToNext(event.shiftKey ? -1 : 1)
   else if (key === "f4" && event.shiftKey) tagEverywhere()
   else if (key === "f4") tagAgain()
   else if (key === "f1") DO.help()
@@ -161,11 +169,12 @@ onWrong(() => {
   showVerdict()
   showNext(lastNeed)
 })
-const { title, names, empty, note, entities: known } = await hello()
+const { title, names, empty, note, entities: known, comments: told } = await hello()
 button("title").textContent = document.title = title
 app.names = new Set(names)
 for (const name of empty) empties.add(name)
 for (const [form, name] of Object.entries(known)) entities.set(form, name)
+for (const [name, text] of Object.entries(told)) comments.set(name, text)
 if (note) tell(note)
 await catchUp()
 question("palette").then((answer) => answer?.palette.length && setPalette(answer.palette))

@@ -1,6 +1,6 @@
 // The menu: choices that are filtered by typing, Enter takes one. A choice has a label and `take`, which is given the
 // label; it may have a note, and a group, whose name stands above its choices where nothing is typed.
-import { worded } from "./draw.js"
+import { comments, worded } from "./draw.js"
 
 const box = document.getElementById("menu")
 const [title, about, input, list, each, refusal] = box.children
@@ -129,10 +129,10 @@ export function closeMenu() {
 
 export const isMenuOpen = () => open !== null
 
-// Why nothing came of a choice.
+// Why nothing came of a choice: a sentence, or its parts.
 export function refuse(why) {
   refusal.hidden = why === null
-  refusal.replaceChildren(...worded(why ?? ""))
+  refusal.replaceChildren(...(typeof why === "string" ? worded(why) : why ?? []))
   if (open) stand()
 }
 
@@ -208,6 +208,7 @@ function itemOf({ label, note, isTyped }, number) {
   item.role = "option"
   item.dataset.number = number
   if (number < DIGITS && input.value === "") item.dataset.digit = item.ariaKeyShortcuts = String(number + 1)
+  if (comments.has(label)) item.title = comments.get(label)
   if (note) item.append(" ", line("span", "note", note))
   return item
 }

@@ -31,10 +31,10 @@ async function goTo(node) {
   host.focus({ preventScroll: true })
   if (isWrong(node)) return say(node, `${wrongOf(node)}. Enter opens the menu.`)
   if (node.verdict === "impossible") {
-    const { why, kids } = (await whyOf(node)) ?? {}
+    const { why, kids, model } = (await whyOf(node)) ?? {}
     if (last === node && why) {
       showRefused({ kids })
-      say(node, why)
+      say(node, why, null, model)
     }
     return
   }

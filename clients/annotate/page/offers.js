@@ -11,7 +11,7 @@ import { closeMenu, hint, isMenuOpen, openMenu, refuse, rowsInSight, setChoices,
 import { isEmpty, markRun, nameOf, runAt, runOver, singlesIn, textOf, told, unmark } from "./place.js"
 import { editPalette } from "./palette.js"
 import { hasLines, openPieces } from "./pieces.js"
-import { forget, isSaying, say, sentenceOf, showRefused, whyOf } from "./refusal.js"
+import { forget, isSaying, say, sentenceOf, showRefused, whyOf, withModel } from "./refusal.js"
 
 // So long what names cost is waited for, in milliseconds.
 const SCREENFUL = 120
@@ -215,7 +215,11 @@ async function fillNames(here) {
   const costs = {}
   takeCosts(costs, answer.costs ?? {})
   for (const label of answer.whole ?? []) costs[label] = { more: 0 }
-  const choices = () => here.all(ordered(answer, costs).map((choice) => ({ ...choice, take: here.take })))
+  const choices = () => {
+    const names = ordered(answer, costs)
+    here.offered = names.map(({ label }) => label)
+    return here.all(names.map((choice) => ({ ...choice, take: here.take })))
+  }
   const first = answer.task ? askCosts(answer.task, costs) : null
   if (first) await Promise.race([first, new Promise((done) => setTimeout(done, SCREENFUL))])
   if (!isOpen()) return
@@ -333,11 +337,14 @@ let making = false
 // The sentence stands in the menu, or at the tag where no menu is open.
 export function showWhyNot(refusal, move = {}) {
   showRefused(refusal)
-  const text = sentenceOf(refusal, move)
-  refused = { node: app.tree.nodes.get(refusal.list) ?? app.tree.top, text }
-  if (isMenuOpen()) refuse(text)
-  else say(refused.node, text)
+  const instead = isMenuOpen() ? (offer?.offered ?? []).filter((name) => name !== move.name).slice(0, INSTEAD) : []
+  const text = sentenceOf(refusal, move, instead)
+  refused = { node: app.tree.nodes.get(refusal.list) ?? app.tree.top, text, model: refusal.model }
+  if (isMenuOpen()) refuse(withModel(text, refusal.model))
+  else say(refused.node, text, null, refusal.model)
 }
+// So many names that would do are told.
+const INSTEAD = 3
 
 // What the last refusal said, and the list that it spoke of.
 let refused = null
@@ -345,7 +352,7 @@ let refused = null
 function closed() {
   begin(null)
   rest()
-  if (refused && !isSaying()) say(refused.node, refused.text)
+  if (refused && !isSaying()) say(refused.node, refused.text, null, refused.model)
   refused = null
 }
 

@@ -2,7 +2,7 @@
 // missing in a list is told there too, and may be taken over.
 import { app, listeners, question } from "./app.js"
 import { rest } from "./choose.js"
-import { worded } from "./draw.js"
+import { make, worded } from "./draw.js"
 
 const host = document.getElementById("document")
 const box = document.getElementById("reason")
@@ -20,9 +20,9 @@ const REASONS = {
   "root-shape": "a document has one root element, and nothing beside it.",
 }
 
-// A refusal in words.
-export function sentenceOf({ no, what, list, why, new: isNew }, move = {}) {
-  if (why) return `Refused. ${why}`
+// A refusal in words, with names that would do in its place.
+export function sentenceOf({ no, what, list, why, new: isNew }, move = {}, instead = []) {
+  if (why) return `Refused. ${why}${instead.length ? ` What may stand here: ${instead.map((name) => `\`${name}\``).join(", ")}.` : ""}`
   if (no === "shape") return `Refused: ${REASONS[what] ?? `the place has changed (${what}).`}`
   if (no === "limit") return "Refused: the document would be past a limit of the program."
   if (no === "memory") return "Refused: there is too little memory."
@@ -51,11 +51,18 @@ export function showRefused({ list, kids = [] }) {
   for (const kid of kids) outline(kid, "in-way")
 }
 
+// A sentence, with the whole content model that it is about, where that is long: it is shown when it is wanted.
+export function withModel(text, model) {
+  if (!model) return worded(text)
+  const more = make("details", "model", make("summary", "", "its content model"), make("code", "", model))
+  return [...worded(text), " ", more]
+}
+
 // Says a sentence behind a node's tag, where it covers nothing; `take` may be offered with it. Parts of the sentence may be
 // elements that are missing and may have several names: they are chosen here.
-export function say(node, text, take = null) {
+export function say(node, text, take = null, model = "") {
   told = node
-  sentence.replaceChildren(...inParts(text))
+  sentence.replaceChildren(...(model ? withModel(text, model) : inParts(text)))
   takeOver.hidden = take === null
   takeOver.onclick = take
   box.dataset.kind = take ? "missing" : "why"
@@ -127,5 +134,5 @@ listeners.push((changed) => changed && (asked = new Map()))
 // The reason stands at the tag of each list that can't be mended.
 app.view.explain = async (node, element) => {
   const answer = await whyOf(node)
-  element.replaceChildren(...worded(answer?.why ?? ""))
+  element.replaceChildren(...withModel(answer?.why ?? "", answer?.model))
 }

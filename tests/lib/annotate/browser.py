@@ -145,6 +145,8 @@ class Page:
     def press(self, css, nth=0):
         """Clicks with the mouse on one of what is there, as soon as it is there and nothing lies over it."""
         self.rest()
+        if self.js(FOLDED, css):
+            self.find("#more").click()
         soon(lambda: self.all(css)[nth].click(), None, f"a click on {css}")
 
     def keys(self, *keys):
@@ -237,6 +239,8 @@ const isBusy = () => document.body.ariaBusy === 'true'
 const look = () => (isBusy() ? setTimeout(look, 20) : moves() ? requestAnimationFrame(look) : setTimeout(done))
 setTimeout(() => requestAnimationFrame(() => setTimeout(look)))
 """
+# Whether a button stands among those that are folded away.
+FOLDED = "const all = document.getElementById('others'); return all.contains(document.querySelector(arguments[0])) && getComputedStyle(all).display === 'none'"
 SETTLED = "return import('./type.js').then(({ settled }) => settled()).then(() => true)"
 NOTES = """
 let group = null

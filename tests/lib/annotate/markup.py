@@ -47,7 +47,7 @@ def refuses_where_it_was_asked(driver, program):
     with Server(program, LETTER) as server:
         page = Page(driver, server.url)
         page.select("met")
-        page.see_menu(["place", "date", "person"], "what is offered in a paragraph")
+        page.see_menu(["place", "person", "date"], "what is offered in a paragraph, what stands in one first")
         same(len(page.menu()), 3, "no other name")
         page.keys("body", Keys.ENTER)
         soon(lambda: page.find("#menu .refusal").is_displayed(), True, "the refusal")

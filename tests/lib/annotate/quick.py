@@ -154,4 +154,53 @@ def has_a_palette(driver, program):
         soon(lambda: page.js(colour), "rgb(179, 84, 30)", "it is there at the next start")
 
 
-CASES = [tags_each_line, takes_rows_by_digits, lists_what_is_missing, keeps_words_in_sight, has_a_palette]
+def tells_reasons_one_can_read(driver, program):
+    """The first names of a long model, all of it on demand, and what may stand there instead; the DTD's comment on a name is
+    the tip of its tag and of its row."""
+    inline = "hi foreign name date place person abbr num corr sic gap note ref".split()
+    dtd = f"<!ENTITY % inline '{'|'.join(inline)}'><!ELEMENT doc (head, p+)><!ELEMENT head (#PCDATA)><!-- A paragraph. --><!ELEMENT p (#PCDATA|%inline;)*>"
+    dtd += "<!-- Highlighted words. -->" + "".join(f"<!ELEMENT {name} (#PCDATA)>" for name in inline)
+    with Server(program, None, ARTICLE, "doc") as server:
+        server.write(dtd, "own.dtd")
+        server.write("<doc><head>x</head><p>One two</p></doc>")
+        server.words[2] = server.path("own.dtd")
+        server.start()
+        page = Page(driver, server.url)
+        same(page.js("return [...document.querySelectorAll('#document .tag:not(.end)')].map(({ title }) => title)"), ["", "", "A paragraph."], "the tips of tags")
+        page.select("two")
+        page.see_menu(["hi", "foreign"], "what is offered")
+        same(page.js("return document.querySelector('#choices [role=option]').title"), "Highlighted words.", "the tip of a row")
+        page.keys("head", Keys.ENTER)
+        told = "p takes text, hi, foreign … (14). What may stand here: hi, foreign, name. its content model"
+        soon(lambda: " ".join(page.find("#menu .refusal").text.split()), lambda text: told in text, "why")
+        page.press("#menu .refusal summary")
+        soon(lambda: page.find("#menu .refusal details code").text, "(#PCDATA|" + "|".join(inline) + ")*", "the model")
+        page.keys(Keys.ESCAPE)
+        soon(lambda: page.find("#reason").text, lambda text: "p takes text" in text, "at the tag too")
+
+
+def suggests_tags(driver, program):
+    """F7 goes to words that were tagged the same way three times: Enter tags them and goes to the next, Delete passes them."""
+    tagged = "<person key='adams'>Mr Adams</person> "
+    body = f"<body><p>{tagged * 3}and Mr Adams; </p><p>Mr Adams, Mr Adams and Mr Adams.</p></body>"
+    with Server(program, LETTER.replace(BODY, body)) as server:
+        page = Page(driver, server.url)
+        page.keys(Keys.F7)
+        soon(lambda: page.texts("#suggestions mark"), ["Mr Adams"] * 4, "the places")
+        soon(lambda: page.js("return document.activeElement.closest('#suggestions li') === document.querySelector('#suggestions li')"), True, "the first has the keys")
+        same(page.texts("#suggestions .note")[0], "was ⟨person key=\"adams\"⟩ 3 times; 4 here", "what it was")
+        page.keys(Keys.ENTER)
+        soon(lambda: "and <person>Mr Adams</person>; </p>" in page.written(), True, "it is tagged")
+        soon(lambda: len(page.texts("#suggestions mark")), 3, "three are left")
+        soon(lambda: page.js("return document.activeElement.closest('#suggestions li') === document.querySelector('#suggestions li')"), True, "the next has the keys")
+        page.keys(Keys.DELETE)
+        same(len(page.texts("#suggestions mark")), 2, "one is passed")
+        page.keys(Keys.ENTER)
+        soon(lambda: "<p>Mr Adams, <person>Mr Adams</person> and Mr Adams.</p>" in page.written(), True, "and the one after it is tagged")
+        soon(lambda: len(page.texts("#suggestions mark")), 1, "what was passed doesn't come again")
+        same(page.moves(), 2, "each is one move")
+        page.keys(Keys.CONTROL, "z")
+        soon(page.moves, 1, "undo")
+
+
+CASES = [tags_each_line, takes_rows_by_digits, lists_what_is_missing, keeps_words_in_sight, has_a_palette, tells_reasons_one_can_read, suggests_tags]

@@ -133,7 +133,6 @@ def fits_a_phone(driver, program):
         need(max(tops) - min(tops) <= 2, f"the head is one row: {tops}")
         width = "return [document.documentElement.scrollWidth, document.getElementById('document').scrollWidth - document.getElementById('document').clientWidth]"
         soon(lambda: page.js(width), [375, 0], "nothing sticks out")
-        page.press("#more")
         page.press("#list")
         soon(lambda: page.find("#elements").is_displayed(), True, "a panel")
         box = page.js("const { left, right } = document.getElementById('elements').getBoundingClientRect(); return [left >= 0, right]")

@@ -1,0 +1,94 @@
+"""Tags for words that were tagged the same way before: in the documents beside, or in this one.
+
+Only exact words are looked for, and only those that had the same tag with the same attributes three times or more, and no
+other as often. Each suggestion is an edit that the session would make.
+"""
+import re
+from collections import Counter
+from typing import Any
+
+from attributes import Attributes, pairs_of
+from editor import Editor
+from everywhere import Everywhere, beside, in_order, stands_in
+from neighbours import LONGEST, Neighbours, Tag
+from pvtag.document import TEXT, Node, Told, shown
+from pvtag.session import Refused
+from runs import Stretch, spot_at, texts_of
+
+# So often words had their tag, at least.
+OFTEN = 3
+# So many words are looked for, and so many places told.
+WORDS, PLACES = 3000, 300
+
+
+class Suggestions:
+    def __init__(self, editor: Editor, around: Neighbours, everywhere: Everywhere, attributes: Attributes) -> None:
+        self.editor, self.around, self.everywhere, self.attributes = editor, around, everywhere, attributes
+
+    def told(self, _: Any = None) -> Told:
+        """The places of words that have no tag here, in the order of the document: the words, what stands beside them, the
+        tag, how often they had it, and how many places of the same words there are."""
+        self.attributes.look()
+        with self.editor.lock:
+            known = self.known()
+            rows = self.rows(known) if known else []
+            counts = Counter(row["text"] for row in rows)
+            return {"version": self.editor.version, "rows": [{**row, "here": counts[row["text"]]} for row in rows]}
+
+    def known(self) -> dict[str, tuple[Tag, int]]:
+        """The words that had one tag often, with it."""
+        counts: dict[str, Counter[Tag]] = {}
+        for text, tags in self.around.tagged.copy().items():
+            for tag, count in tags.copy().items():
+                counts.setdefault(text, Counter())[self.without_ids(tag)] += count
+        for node in in_order(self.editor.document):
+            text = text_of(node)
+            if text and node.owner is not None and node.owner.owner is not None:
+                counts.setdefault(text, Counter())[self.without_ids((node.name, tuple(pairs_of(node.attrs))))] += 1
+        known = dict[str, tuple[Tag, int]]()
+        for text, tags in counts.items():
+            (tag, count), *others = tags.most_common(2)
+            if count >= OFTEN and text.strip() == text and len(text) > 1 and (not others or others[0][1] < count):
+                known[text] = tag, count
+        return dict(sorted(known.items(), key=lambda row: -row[1][1])[:WORDS])
+
+    def without_ids(self, tag: Tag) -> Tag:
+        """A tag without the attributes of which each value stands once in a document."""
+        name, pairs = tag
+        ids = {each.name for each in self.attributes.known.of(name) if each.type == "ID"} | {"xml:id"}
+        return name, tuple(pair for pair in pairs if pair[0] not in ids)
+
+    def rows(self, known: dict[str, tuple[Tag, int]]) -> list[Told]:
+        wanted = re.compile("|".join(re.escape(text) for text in sorted(known, key=len, reverse=True)))
+        rows = list[Told]()
+        for owner in in_order(self.editor.document):
+            for first, nodes in texts_of(owner):
+                line = "".join("".join(map(shown, node.units)) for node in nodes)
+                for found in wanted.finditer(line):
+                    (name, pairs), count = known[found[0]]
+                    stretch = Stretch(owner.id, first, found.start(), found.end())
+                    told = beside(line, stretch)
+                    if told["part"] or stands_in(owner, name) or isinstance(self.everywhere.wrapped(stretch, name), Refused):
+                        continue
+                    rows.append({"text": found[0], "name": name, "pairs": list(pairs), "count": count, "in": owner.name,
+                                 "before": told["before"], "behind": told["behind"], "place": place_of(owner, stretch)})
+                    if len(rows) == PLACES:
+                        return rows
+        return rows
+
+
+def text_of(node: Node) -> str:
+    """The text of an element that holds no tags, where it isn't long."""
+    if any(kid.kind != TEXT for kid in node.kids):
+        return ""
+    text = "".join("".join(map(shown, kid.units)) for kid in node.kids)
+    return text if len(text) <= LONGEST else ""
+
+
+def place_of(owner: Node, stretch: Stretch) -> Told:
+    """A stretch as the page tells places."""
+    at, unit = spot_at(owner, stretch.first, stretch.start)
+    last, end = spot_at(owner, stretch.first, stretch.end)
+    before = owner.kids[last - 1]
+    return {"list": owner.id, "from": [owner.kids[at].id, unit or 0],
+            "to": [before.id, len(before.units)] if end is None else [owner.kids[last].id, end]}
