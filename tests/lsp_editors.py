@@ -188,6 +188,54 @@ vim.cmd('qall!')
 """
 
 
+# What is found of nXML, as the table of docs/EDITORS.md has it.
+NXML = {
+    "draft": ['1 Missing attributes "kind", "id"', "1 Text not allowed", '1 Missing element "salute"'],
+    "swapped": ['1 Missing attributes "kind", "id"', '2 Missing element "body"', "3 Element not allowed in this context"],
+    "half": ['1 Missing attributes "kind", "id"', "1 Text not allowed", '1 Missing element "salute"', "2 Missing `>'", "2 Unknown element"],
+    "names": ["/p", "date", "lb", "person", "place"],
+    "attributes": ["id", "kind"],
+    "values": ["business", "private"],
+    "ends": ["opener"],
+    "finished": "<letter><opener></opener>",
+    "hover": [],
+    "definitions": [],
+    "commands": [],
+    "outline": 2,
+    "pair": "<a><pq>x</pq></a>",
+    "indented": "<a>\n  <p>Some\n  <b>bold</b>\n  words</p>\n</a>",
+    "associated": "letter.rnc",
+    "formed": ['2 Missing end-tag "b"'],
+}
+SCHEMAS = """<locatingRules xmlns="http://thaiopensource.com/ns/locating-rules/1.0">
+<uri pattern="*.letter.xml" uri="letter.rnc"/></locatingRules>"""
+
+
+def nxml(seconds):
+    """The column of nXML in the table of docs/EDITORS.md."""
+    folder = tempfile.mkdtemp()
+    try:
+        with open(os.path.join(EXAMPLES, "letter.dtd"), encoding="utf-8") as dtd, open(f"{folder}/l.dtd", "w", encoding="utf-8") as out:
+            out.write(dtd.read() + "<!ATTLIST letter id ID #REQUIRED kind (private|business) #REQUIRED>")
+        with open(f"{folder}/schemas.xml", "w", encoding="utf-8") as out:
+            out.write(SCHEMAS)
+        shutil.copy(os.path.join(EXAMPLES, "letter-swapped.xml"), f"{folder}/swapped.xml")
+        subprocess.run(["trang", "l.dtd", "letter.rnc"], cwd=folder, check=True, capture_output=True, timeout=20 * seconds)
+        words = ["emacs", "-Q", "--batch", "-l", os.path.join(TOP, "tests", "lib", "nxml.el")]
+        environment = os.environ | {"HOME": folder, "NXML_TOLD": f"{folder}/told"}
+        subprocess.run(words, env=environment, cwd=folder, stdin=subprocess.DEVNULL, capture_output=True, timeout=20 * seconds)
+        with open(f"{folder}/told", encoding="utf-8") as told:
+            found = json.load(told)
+        version = found.pop("version", "")
+        if not version.startswith("28."):
+            print(f"skipped: nXML's column (Emacs {version}, not 28)")
+            return
+        for row, wanted in NXML.items():
+            same(found.get(row, found), wanted, row)
+    finally:
+        shutil.rmtree(folder)
+
+
 def has_eglot():
     return bool(
         glob.glob(PACKAGES + "eglot-*")
@@ -210,6 +258,13 @@ def main():
             except Exception as fault:
                 failed += 1
                 print(f"differs: neovim, its servers: {type(fault).__name__}: {fault}", flush=True)
+        if editor is emacs and not sys.argv[3:] and shutil.which("trang"):
+            try:
+                nxml(seconds)
+                passed += 1
+            except Exception as fault:
+                failed += 1
+                print(f"differs: nXML: {type(fault).__name__}: {fault}", flush=True)
         for case in CASES:
             if sys.argv[3:] and f"{editor.__name__}-{case.name}" not in sys.argv[3:]:
                 continue

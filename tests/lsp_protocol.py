@@ -6,6 +6,8 @@ ends with 1 where one failed.
 """
 import contextlib
 import os
+import random
+import re
 import shutil
 import sys
 import tempfile
@@ -13,6 +15,7 @@ import tempfile
 sys.dont_write_bytecode = True
 
 from lib.lsp_client import (  # noqa: E402
+    CAPABILITIES,
     DRAFT,
     EXAMPLES,
     LETTER,
@@ -22,9 +25,11 @@ from lib.lsp_client import (  # noqa: E402
     edits_of,
     finished,
     need,
+    position,
     run_cases,
     same,
     uri_of,
+    utf16,
 )
 from lib.waiting import PATIENCE, until  # noqa: E402
 
@@ -487,6 +492,67 @@ def withstands_hostile_texts(program):
         same(client.complaints, [], "nothing unforeseen")
 
 
+# What random texts are made of: all line ends, characters of one to four bytes, tags that are whole and half typed.
+PIECES = ["a", "\u00e9", "\u20ac", "\U0001f600", "\r", "\n", "\r\n", "\t", "\u2028", "<p>", "</p>", "<person>", "</person>", "<lb/>", "<", ">", "</", "&amp;", "&", "<!-- ",
+          " -->", "<![CDATA[", "]]>", "<letter>", "<body>", "</body>", " x='1'", "\ud83d", "x" * 3000, "\U0001f600" * 1500]
+ABOUT_ALL = ("textDocument/documentSymbol", "textDocument/foldingRange", "textDocument/documentLink")
+ABOUT_PLACE = ("textDocument/documentHighlight", "textDocument/linkedEditingRange", "textDocument/hover", "textDocument/completion",
+               "textDocument/references", "textDocument/prepareRename", "textDocument/definition")
+CODES = (-32800, -32801, -32803)
+
+
+def keeps_step(program):
+    """Many edits at once, of any texts, with requests and cancellations between: each request has one answer, and the server's text is the
+    editor's."""
+    dice = random.Random(7)
+    for encodings in ([], ["utf-8"]):
+        width = (lambda part: len(encoded(part))) if encodings else utf16
+        with Client(program, CAPABILITIES | {"general": {"positionEncodings": encodings}}) as client:
+            for round_ in range(4):
+                uri, text, version, numbers = uri_of(f"step-{round_}.xml"), DRAFT, 1, []
+                client.open(uri, text)
+                with client.at_once():
+                    for _ in range(12):
+                        changes = []
+                        for _ in range(dice.randint(1, 4)):
+                            start, end = sorted(between(text, dice.randint(0, len(text))) for _ in range(2))
+                            end = end if dice.random() < 0.2 else between(text, min(end, start + dice.randint(0, 6)))
+                            new = "".join(dice.choices(PIECES, k=dice.randint(0, 3)))
+                            place = {"start": position(text, start, width), "end": position(text, end, width)}
+                            changes.append({"range": place, "text": new})
+                            text = text[:start] + re.sub("[\ud800-\udfff]", "\ufffd", new) + text[end:]
+                        version += 1
+                        client.tell("textDocument/didChange", {"textDocument": {"uri": uri, "version": version}, "contentChanges": changes})
+                        client.documents[uri] = [text, version]
+                        method = dice.choice(ABOUT_ALL + ABOUT_PLACE)
+                        at = between(text, dice.randint(0, len(text))) if method in ABOUT_PLACE else None
+                        numbers.append(client.begin(method, client.about(uri, at, width=width)))
+                        if dice.random() < 0.3:
+                            client.tell("$/cancelRequest", {"id": numbers[-1]})
+                for number in numbers:
+                    answer = client.answer(number)
+                    need("result" in answer or answer["error"]["code"] in CODES, answer)
+                other = uri_of(f"step-{round_}-again.xml")
+                client.open(other, text)
+                for method in ABOUT_ALL:
+                    one, same_text = (client.ask(method, {"textDocument": {"uri": each}}) for each in (uri, other))
+                    same(one, same_text, f"{method} of {text!r}")
+                same(client.complaints, [], "nothing unforeseen")
+                left = [each for each in client.aside if each.get("id") in numbers and "method" not in each]
+                same(left, [], "one answer each")
+                client.tell("textDocument/didClose", {"textDocument": {"uri": uri}})
+                client.tell("textDocument/didClose", {"textDocument": {"uri": other}})
+
+
+def encoded(text):
+    return text.encode(errors="replace")
+
+
+def between(text, at):
+    """This place, or the one before a CRLF that it is inside of."""
+    return at - 1 if text[at - 1 : at + 1] == "\r\n" and at else at
+
+
 CASES = [
     finds_dtds,
     keeps_no_old_dtds,
@@ -500,6 +566,7 @@ CASES = [
     refuses_nonsense,
     refuses_bad_messages,
     cancels,
+    keeps_step,
     answers_whole,
     writes_no_file,
     withstands_hostile_texts,

@@ -8,7 +8,7 @@ from typing import NamedTuple
 from documents import Asked, Document
 from grammar import Grammar
 from nodes import NAME
-from pvtag.attributes import Attribute, AttributeFault
+from pvtag.attributes import Attribute, AttributeFault, Attributes
 from pvtag.masks import mask
 from pvtag.program import Trouble
 from text import Json
@@ -28,6 +28,8 @@ IN_TAG = re.compile(
 REST = re.compile(rb"(?:[^<>\"']|" + VALUE + rb")*")
 PAIR = re.compile(rb"([^\s=<>\"'/]+)\s*=\s*(" + VALUE + rb")")
 FIELD, ENUM_MEMBER, SNIPPET = 5, 20, 2
+# What means something else in a snippet.
+SPECIAL = re.compile(r"[\\$}]")
 
 
 # ---- what is wrong ----
@@ -78,6 +80,13 @@ def of(document: Document, start: int, end: int, severity: int, code: str, messa
 
 # ---- what may stand here ----
 
+def known(grammar: Grammar, work: Work) -> Attributes:
+    """The attributes, once what the DTD declares of them is known, or the work has ended."""
+    if grammar.attributes.declares_any:
+        work.wait_for(grammar.declared.read_attributes())
+    return grammar.attributes
+
+
 class Place(NamedTuple):
     """A place in a start tag: the element's name, the names of its other attributes; and the start of a name that is being
     typed, or the attribute whose value is, and where that begins."""
@@ -110,7 +119,7 @@ def complete(asked: Asked, offset: int) -> list[Json]:
     if place is None:
         return []
     try:
-        attributes = asked.grammar.attributes
+        attributes = known(asked.grammar, asked.work)
     except Trouble:
         # Where no DTD is found, that is told with the diagnostics.
         return []
@@ -126,7 +135,9 @@ def named(document: Document, each: Attribute, place: Place, offset: int, number
     """An item for an attribute: its name, with the value where there is one alone."""
     is_typed = document.data[offset : offset + 1] == b"="
     value = each.only if each.is_required or each.need == "fixed" else None
-    text = each.name if is_typed else f'{each.name}="{escaped(value) if value is not None else "$1" if snippets else ""}"'
+    given = escaped(value) if value is not None else ""
+    shown = "$1" if snippets and value is None else SPECIAL.sub(r"\\\g<0>", given) if snippets else given
+    name = SPECIAL.sub(r"\\\g<0>", each.name) if snippets else each.name
     item: Json = {
         "label": each.name,
         "kind": FIELD,
@@ -134,7 +145,7 @@ def named(document: Document, each: Attribute, place: Place, offset: int, number
         "filterText": each.name,
         "detail": each.declared,
         "documentation": ("Required: " if each.is_required else "") + each.meaning,
-        "textEdit": document.put(place.start, offset, text.replace("$", "\\$").replace("\\$1", "$1") if snippets else text),
+        "textEdit": document.put(place.start, offset, name if is_typed else f'{name}="{shown}"'),
     }
     return item | ({"insertTextFormat": SNIPPET} if snippets else {})
 
@@ -180,9 +191,10 @@ def escaped(value: str) -> str:
 
 def hover(asked: Asked, element: str, start: int, end: int) -> Json | None:
     """What the DTD says of the attribute in a start tag that the place is in."""
-    document, attributes = asked.document, asked.grammar.attributes
+    document = asked.document
     for pair in PAIR.finditer(document.data, start, end):
         if pair.start() <= asked.offset <= pair.end():
+            attributes = known(asked.grammar, asked.work)
             name = pair[1].decode(errors="replace")
             declared = attributes.one(element, name)
             if declared is None:
@@ -195,9 +207,9 @@ def hover(asked: Asked, element: str, start: int, end: int) -> Json | None:
     return None
 
 
-def listed(grammar: Grammar, element: str) -> str:
+def listed(grammar: Grammar, work: Work, element: str) -> str:
     """The attributes of an element, in a line; "" where there are none."""
-    row = grammar.attributes.of(element)
+    row = known(grammar, work).of(element)
     if not row:
         return ""
     required = [f"`{each.name}`" for each in row if each.is_required]

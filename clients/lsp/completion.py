@@ -21,8 +21,6 @@ LONGEST = 1024
 # fewer in long lists.
 NEXT, TRIED = 6, 20_000
 PROPERTY, SNIPPET = 10, 2
-# What means something else in a snippet.
-SPECIAL = re.compile(r"[\\$}]")
 
 
 def complete(asked: Asked, work: Work) -> Json:
@@ -136,7 +134,7 @@ def beginning(
 def tags_of(grammar: Grammar, name: str, new: NewElement, is_whole: bool, snippets: bool) -> str:
     """What is put behind `<`: both tags where the element may end here, else its start tag."""
     with_attributes = name + new.attributes.decode()
-    shown, begun = (SPECIAL.sub(r"\\\g<0>", text) if snippets else text for text in (name, with_attributes))
+    shown, begun = (attributes.SPECIAL.sub(r"\\\g<0>", text) if snippets else text for text in (name, with_attributes))
     if not is_whole:
         return f"{begun}>"
     if name in grammar.dtd.types and grammar.dtd.types[name].kind == "empty":

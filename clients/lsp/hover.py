@@ -12,8 +12,8 @@ from pvtag.session import Ended
 from text import Json
 from work import Work
 
-# A declaration of more characters is cut.
-LONGEST = 600
+# A declaration of more characters is cut, and a list in more bytes isn't judged by itself.
+LONGEST, LARGEST = 600, 1_000_000
 
 
 def hover(asked: Asked, work: Work) -> Json | None:
@@ -28,7 +28,7 @@ def hover(asked: Asked, work: Work) -> Json | None:
         return {"contents": {"kind": "plaintext" if is_plain else "markdown", "value": found["value"]}, "range": found["range"]}
     parts = [
         declared(grammar, name, is_plain),
-        attributes.listed(grammar, name),
+        attributes.listed(grammar, work, name),
         told(asked, grammar, tag.element, work) if name in grammar.dtd.types else "",
     ]
     text = "\n\n".join(part for part in parts if part)
@@ -54,6 +54,8 @@ def declared(grammar: Grammar, name: str, is_plain: bool) -> str:
 
 def told(asked: Asked, grammar: Grammar, element: Element, work: Work) -> str:
     """The verdict of an element's list, and what it still needs."""
+    if element.closes - element.inside > LARGEST:
+        return "Its list is too long to be judged by itself here; the diagnostics have its verdict."
     kids = kids_of(element, asked.document.data)
     alone = Alone(element.label, kids)
     verdict = verdict_of(alone, grammar, work)

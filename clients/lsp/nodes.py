@@ -32,17 +32,30 @@ class Leaf(NamedTuple):
 class Element:
     """An element, or the document node, which has no owner: where it starts and ends, and where what is in it does.
 
-    `grown` gives its kids at the first need, where they weren't read with it.
+    `grown` gives its kids at the first need, where they weren't read with it; `placed` its owner and its number among the
+    kids there, where it was found by its tag.
     """
 
-    __slots__ = ("name", "owner", "at", "start", "inside", "closes", "end", "known", "grown")
+    __slots__ = ("name", "above", "number", "start", "inside", "closes", "end", "known", "grown", "placed")
     kind = "element"
 
     def __init__(self, name: bytes, owner: "Element | None", at: int, start: int, inside: int) -> None:
-        self.name, self.owner, self.at, self.start, self.inside = name, owner, at, start, inside
+        self.name, self.above, self.number, self.start, self.inside = name, owner, at, start, inside
         self.closes = self.end = inside
         self.known: list[Node] = []
         self.grown: Callable[[Element], list[Node]] | None = None
+        self.placed: Callable[[Element], tuple[Element, int]] | None = None
+
+    @property
+    def owner(self) -> "Element | None":
+        if self.placed is not None:
+            (self.above, self.number), self.placed = self.placed(self), None
+        return self.above
+
+    @property
+    def at(self) -> int:
+        """Its number among the kids of its owner."""
+        return self.number if self.owner is not None else 0
 
     @property
     def kids(self) -> "list[Node]":

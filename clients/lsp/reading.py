@@ -2,7 +2,7 @@
 import re
 from collections.abc import Iterator
 
-from nodes import END, ITEM, KINDS, LOOSE, SLASH, START, TEXT, Element, Leaf, Node, Tree
+from nodes import END, ITEM, KINDS, LOOSE, SLASH, START, TEXT, Element, Leaf, Node, Tag, Tree
 
 # Items that are looked for up to the text's end, and how they end.
 SOUGHT = ((b"<![CDATA[", b"]]>"), (b"<?", b"?>"), (b"<!DOCTYPE", b">"))
@@ -89,16 +89,64 @@ class Whole(Tree):
             at = item.end()
         self.top.known = [self.element(self.top, 0, at)]
 
-    def element(self, owner: Element, number: int, at: int) -> Element:
-        """The element whose start tag stands here."""
+    def element(self, owner: Element, number: int, at: int, closes: int | None = None) -> Element:
+        """The element whose start tag stands here; where its end tag does, if that is known."""
         item = ITEM.match(self.data, at)
         assert item is not None and item.lastindex == START
         made = Element(item[1], owner, number, at, item.end())
         if self.data[made.inside - 2] != SLASH:
-            made.closes = self.closing(made.name, made.inside)
+            made.closes = self.closing(made.name, made.inside) if closes is None else closes
             made.end = self.plain.index(b">", made.closes) + 1
             made.grown = self.kids_of
         return made
+
+    def tag(self, offset: int) -> Tag | None:
+        """The same by what stands near: the lists that the tag stands in, which may be long, aren't read for it."""
+        at = self.plain.rfind(b"<", self.top.known[0].start, offset + 1)
+        found = self.tag_at(at) if at >= 0 else None
+        if found is None and at == offset:
+            at = self.plain.rfind(b"<", self.top.known[0].start, offset)
+            found = self.tag_at(at) if at >= 0 else None
+        return found if found is not None and offset <= found.end else None
+
+    def tag_at(self, at: int) -> Tag | None:
+        """The tag that stands here, if it is one."""
+        item = ITEM.match(self.data, at)
+        if item is None or item.lastindex not in (START, END):
+            return None
+        is_end = item.lastindex == END
+        made = self.element(self.top, 0, self.opening(item[2], at) if is_end else at, at if is_end else None)
+        if made.start > self.top.known[0].start:
+            made.placed = self.place_of
+        return Tag(made, *item.span())
+
+    def place_of(self, element: Element) -> tuple[Element, int]:
+        """The owner of an element, and its number among the kids there."""
+        owner = self.top
+        while True:
+            at = owner.kid_at(element.start)
+            kid = owner.kids[at]
+            assert isinstance(kid, Element)
+            if kid.start == element.start:
+                return owner, at
+            owner = kid
+
+    def opening(self, name: bytes, at: int) -> int:
+        """Where the start tag stands that an end tag of this name belongs to, which stands at `at`."""
+        plain, depth, closer, opener = self.plain, 1, b"</" + name, b"<" + name
+        while True:
+            start = plain.rindex(opener, 0, at)
+            while plain[start + len(opener)] not in b"/> \t\r\n":
+                start = plain.rindex(opener, 0, start)
+            end = start
+            while (end := plain.find(closer, end + 1, at)) >= 0:
+                depth += plain[end + len(closer)] in b"> \t\r\n"
+            item = ITEM.match(self.data, start)
+            assert item is not None
+            depth -= self.data[item.end() - 2] != SLASH
+            if depth == 0:
+                return start
+            at = start
 
     def kids_of(self, owner: Element) -> list[Node]:
         kids: list[Node] = []

@@ -3,9 +3,10 @@ import contextlib
 import threading
 from collections.abc import Callable, Iterator, Sequence
 from concurrent.futures import Future
+from typing import Any
 
 import memory
-from grammar import Declared, Grammar, List
+from grammar import Grammar, List
 from pvtag import long
 from pvtag.long import Counted, Inserted
 from pvtag.program import RUNNING, Running, Stopped, Trouble, took_too_long
@@ -75,8 +76,8 @@ class Work:
             self.waits.remove(done)
         self.check()
 
-    def wait_for(self, future: Future[Declared]) -> None:
-        """Waits for a DTD that is being read."""
+    def wait_for(self, future: Future[Any]) -> None:
+        """Waits for a DTD that is being read, or its attributes."""
         if not future.done():
             done = threading.Event()
             self.wait(done, lambda: future.add_done_callback(lambda _: done.set()))
