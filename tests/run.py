@@ -143,6 +143,9 @@ CHECKS = [
     row("standoff", "the nesting of ranges against a model", "", 3600, "python3 tests/standoff.py PVTAG 1500 1",
         "`standoff` on random texts and ranges, in two orders: the spans that the library's parser reads off the printed document are "
         "the ranges, its text the text, its verdict that of `check`; refusals by a model"),
+    row("taggers", "what clients make of taggers' output", "", 3600, "python3 tests/taggers.py PVTAG 100 1",
+        "`clients/standoff` and `clients/mark` on random ranges, in lines, columns and JSON, with offsets of each kind, against a model "
+        "that knows spans alone; what is said of files that they can't use"),
     row("client_places", "the places that clients report", "", 3600, "python3 tests/client_places.py PVTAG 100 1",
         "where `clients/pvtag` says that items and nodes of files stand, against the program's numbers, expat and Python's codecs"),
     row("client_files", "what clients say of files in fault", "", 3600, "python3 tests/client_files.py PVTAG 100 1",

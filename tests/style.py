@@ -46,7 +46,7 @@ def sources(of: str) -> list[Path]:
 
 # What finds faults of types, and the commands of the clients that are typed.
 MYPY = ["mypy", "--strict"]
-TYPED = ("report", "why", "complete", "ranges")
+TYPED = ("report", "why", "complete", "ranges", "standoff", "mark")
 
 
 def found_by(words: list[str], files: list[Path]) -> Iterator[tuple[str, str]]:

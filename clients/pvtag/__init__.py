@@ -6,6 +6,7 @@
     session   a session, kept open through two pipes: a method a line, replies as values; it stands on `tracking`, the
               tree beside it
     document  the tree of a document beside a session, kept by the edits that are made
+    spans     ranges beside a text, as taggers write them
     places    lines and columns of a file, and back, and the items that faults are counted in
     entities  the same items of a DTD, with its parameter entities, and the entities that documents refer to
     masks     a document with an internal subset or entities as the program reads it, and the way back

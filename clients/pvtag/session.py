@@ -88,7 +88,8 @@ class Session:
             of_type(word, str)
         for path in files:
             can_be_read(path)
-        self.process = programs.popen(words, stdin=subprocess.PIPE, stdout=subprocess.PIPE, start_new_session=True)
+        with programs.handed_over(words) as (given, open_):
+            self.process = programs.popen(given, stdin=subprocess.PIPE, stdout=subprocess.PIPE, pass_fds=open_, start_new_session=True)
         assert self.process.stdin is not None and self.process.stdout is not None
         self.input, self.output = self.process.stdin, self.process.stdout
         self.lock, self.moves = threading.RLock(), 0
@@ -135,27 +136,43 @@ class Session:
         """Wraps these units of a text, which is cut for that. All is done, and is three moves of the history at most, or
         nothing: where the element is refused the cuts are undone, and what could be redone before is lost. What is raised
         meanwhile ends the program."""
-        named(line_of("wrap", path, start, end), name)
+        return self.wrap_run(path, start, path, end, name)
+
+    def wrap_run(self, first: str, start: int, last: str, end: int, name: str) -> Made | Refused:
+        """The same from a unit of one text up to a unit of another: of two kids of one element, with all between. A kid that
+        is no text is taken whole, from 0 up to 1."""
+        for path, at in ((first, start), (last, end)):
+            named(line_of("split", path, at), name)
         with self.whole():
-            tracked = self.track()
-            if isinstance(tracked, Refused):
-                return tracked
-            size = tracked.size(path)
-            if size is None:
-                return Refused("shape", "not-text" if tracked.has(path) else "no-node")
-            if not 0 <= start < end <= size:
-                return Refused("shape", "range")
-            owner, _, last = path.rpartition(".")
-            at, cuts = int(last) + (start > 0), 0
-            cut = [line_of("split", path, end)] * (end < size) + [line_of("split", path, start)] * (start > 0)
-            for line in [*cut, named(line_of("wrap", owner, at, at + 1), name)]:
+            lines = self.lines_of_run(first, start, last, end, name)
+            if isinstance(lines, Refused):
+                return lines
+            for count, line in enumerate(lines):
                 done = self.edit(line)
                 if isinstance(done, Refused):
-                    for _ in range(cuts):
+                    for _ in range(count):
                         self.undo()
                     return done
-                cuts += 1
             return done
+
+    def lines_of_run(self, first: str, start: int, last: str, end: int, name: str) -> list[str] | Refused:
+        """The edits that wrap a run: cuts of its texts, the last one first, and the element."""
+        tracked = self.track()
+        if isinstance(tracked, Refused):
+            return tracked
+        (owner, _, one), (other, _, two) = first.rpartition("."), last.rpartition(".")
+        sizes = [tracked.size(path) for path in (first, last)]
+        if not all(map(tracked.has, (first, last))):
+            return Refused("shape", "no-node")
+        if first == last and sizes[0] is None:
+            return Refused("shape", "not-text")
+        size, most = (1 if size is None else size for size in sizes)
+        is_within = 0 <= start < size and 0 < end <= most and (int(one), start) < (int(two), end)
+        if owner != other or not is_within:
+            return Refused("shape", "range")
+        cuts = [line_of("split", last, end)] * (end < most) + [line_of("split", first, start)] * (start > 0)
+        at = int(one) + (start > 0)
+        return [*cuts, named(line_of("wrap", owner, at, int(two) + (start > 0) + 1), name)]
 
     def edit(self, line: str) -> Made | Refused:
         """The same by a line of a script."""
