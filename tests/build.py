@@ -24,7 +24,7 @@ from scratch import scratch  # noqa: E402
 from sources import MINUTES, chains_behind, needs, read_minutes  # noqa: E402
 
 TOP = Path(__file__).resolve().parent.parent
-TOOLS = ("build", "kit.py", "look", "machine.py", "minutes", "processes.py", "progress.py", "proving.py", "scratch.py", "sources.py", "unproved.py")
+TOOLS = ("asked.sh", "build", "kit.py", "look", "machine.py", "minutes", "processes.py", "progress.py", "proving.py", "scratch.py", "sources.py", "unproved.py")
 # What an answer without proofs says beside it.
 UNPROVED = re.compile(r"^pvtag: not proved yet; tools/build proves and builds it, in about \d+ minutes\n\Z", re.MULTILINE)
 # It is tools/build on a machine with so many processors, and memory for several runs of the kit or for one, which waits less for the kit.
@@ -275,9 +275,9 @@ def try_other(trial: Trial) -> None:
     trial.expect("both are of their sources", trial.run("tools/build", "pvtag", "pvlong", "--check")[0] == 0)
     with (trial.top / "crates/pvlong/src/main.rt").open("a") as source:
         source.write("// changed\n")
-    states = [trial.run("tools/build", *names, "--check")[0] for names in (["pvtag"], ["pvlong"], ["pvtag", "pvlong"])]
-    trial.expect("one is older than its sources", states == [0, 1, 1], states)
-    told = trial.run("tools/build", "pvtag", "pvlong")
+    states = [trial.run("tools/build", *names, "--check")[0] for names in (["pvtag"], ["pvlong"], ["pvtag", "pvlong"], ["all"])]
+    trial.expect("one is older than its sources", states == [0, 1, 1, 1], states)
+    told = trial.run("tools/build", "all")
     trial.expect("what is older is built", told[0] == 0 and trial.count() == before + 2 and trial.run("tools/build", "pvlong", "--check")[0] == 0, told)
     sums = trial.run("tools/build", "pvtag", "pvlong", "--sum")[1].split()
     trial.expect("a sum of each", len(set(sums)) == 2 and sums[1] == (trial.top / "build/pvlong.sum").read_text().strip(), sums)
@@ -289,6 +289,55 @@ def try_other(trial: Trial) -> None:
     trial.kept.mkdir()
     told = trial.run("pvlong", "a", WRONG="pv_model")
     trial.expect("a failed build of it", told[0] == 10 and told[1] == "" and "pvlong: pv_model couldn't be built:" in told[2], told)
+
+
+TELLING = """#!/bin/sh
+echo "$$ $STATUS"
+exit "$STATUS"
+"""
+
+
+def try_telling(trial: Trial) -> None:
+    """The scripts put a sentence beside `usage` and beside a file that can't be read. What the program writes and its status stay, and words that it takes
+    cost no other process: the shell becomes the program."""
+    other, there = trial.top / "telling", str(trial.top / "crates.txt")
+    other.write_text(TELLING)
+    other.chmod(0o755)
+    for name in ("pvtag", "pvlong"):
+        trial.run("tools/build", name, "--put", str(other))
+    commands = "valid, check, session, complete, why, verify, deny, standoff, dtd, drill"
+    for words, status, wanted in (
+        ("pvtag", 2, f"a command is expected first: one of {commands}"),
+        ("pvtag --help", 2, f"`--help` is no command: they are {commands}"),
+        ("pvtag need d r d", 2, f"`need` is no command: they are {commands}"),
+        ("pvtag check d r", 2, "check takes 3 arguments, DTD ROOT DOC, and has 2"),
+        ("pvtag dtd", 2, "dtd takes 1 argument, DTD, and has 0"),
+        ("pvtag check HERE -a HERE", 2, "ROOT is to be a name, and `-a` is none"),
+        ("pvtag standoff HERE a|b HERE HERE", 2, "ROOT is to be a name, and `a|b` is none"),
+        ("pvtag drill 007", 2, "N is to be a number from 1 to 20000, and `007` is none"),
+        ("pvtag check none r HERE", 3, "none: there is no such file"),
+        ("pvtag verify HERE r HERE tools", 3, "tools is a folder"),
+        ("pvtag check HERE r HERE", 3, ""),
+        ("pvtag why HERE \xe9\u4e00.-_:9 HERE", 2, ""),
+        ("pvtag drill 20000", 0, ""),
+        ("pvtag no words", 0, ""),
+        ("pvlong", 2, "a command is expected first: one of need, complete"),
+        ("pvlong need HERE r none", 3, "none: there is no such file"),
+        ("pvlong need HERE r HERE", 0, ""),
+        ("pvlong check HERE r HERE", 2, "`check` is no command: they are need, complete"),
+    ):
+        name, *rest = words.replace("HERE", there).split()
+        run = trial.start(name, *rest, STATUS=str(status), PATH="/nowhere")
+        said, errors = run.communicate(timeout=PATIENCE)
+        is_same = int((said.split() or ["0"])[0]) == run.pid
+        trial.expect(f"the answer to {words}", said.endswith(f" {status}\n") and run.returncode == status, (said, run.returncode))
+        trial.expect(f"what is said of {words}", errors == (f"{name}: {wanted}\n" if wanted else ""), errors)
+        trial.expect(f"one process for {words}", is_same == (not wanted and words != "pvtag no words"), said)
+    (trial.top / "build/pvtag").unlink()
+    (trial.top / "build/pvtag").mkdir()
+    told = trial.run("pvtag", "a")
+    trial.expect("a folder in its place", told[0] == 10 and told[1] == "" and told[2].endswith("/build/pvtag is a folder, where the program is to be\n"), told)
+    trial.forget()
 
 
 def by_name(trial: Trial, what: str) -> dict[str, Note]:
@@ -507,7 +556,7 @@ def try_looks_that_end(trial: Trial) -> None:
 def main() -> int:
     with tempfile.TemporaryDirectory(prefix="pvtag-trial-") as folder:
         trial = Trial(Path(folder))
-        for part in (try_look, try_looks_that_end, try_failures, try_builds, try_changes, try_placing, try_other, try_progress, try_order, try_priorities, try_kept, try_both,
+        for part in (try_look, try_looks_that_end, try_failures, try_builds, try_changes, try_placing, try_other, try_telling, try_progress, try_order, try_priorities, try_kept, try_both,
                      try_remains, try_minutes):
             part(trial)
     return trial.ended()

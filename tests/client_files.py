@@ -20,6 +20,7 @@ from lib.random_files import ANY, CLIENTS, NAMES, document, dtd, text, write  # 
 from pvtag.faults import fault_of  # noqa: E402
 from pvtag.places import Source  # noqa: E402
 from pvtag.program import file_of, run  # noqa: E402
+from pvtag.session import Session  # noqa: E402
 
 
 # ---- faults ----
@@ -227,6 +228,14 @@ def takes_all_names(program):
         need(got == 0 and b"<salute>" in out and not said, f"complete: {got} {out} {said}")
         got, out, said = command("ranges", draft, "--program", program)
         need(got == 0 and b" 0 body\n" in out and not said, f"ranges: {got} {out} {said}")
+        with Session([program], dtd_path, "letter", draft) as session:
+            same(session.need(), 1, "a session of the library")
+        words = [sys.executable, os.path.join(CLIENTS, "annotate", "annotate"), dtd_path, "letter", draft, "--program", program]
+        with subprocess.Popen(words, stdout=subprocess.PIPE, stderr=subprocess.PIPE) as server:
+            opens = server.stdout.readline()
+            server.terminate()
+            said = server.stderr.read()
+        need(b" http://127.0.0.1:" in opens and not said, f"annotate: {opens} {said}")
 
 
 def reads_and_writes_pipes(program):

@@ -65,6 +65,10 @@ def same_bytes(trial: Trial) -> tuple[Path, Path]:
     return one[0], one[1]
 
 
+# What the package puts on the path.
+COMMANDS = ("pvtag", "pvlong", "pvtag-annotate", "pvtag-complete", "pvtag-flatten", "pvtag-lsp", "pvtag-mark", "pvtag-ranges", "pvtag-report", "pvtag-standoff", "pvtag-why")
+
+
 def copy_file(root: Path, file: str) -> None:
     to = root / file.lstrip("/")
     to.parent.mkdir(parents=True, exist_ok=True)
@@ -130,13 +134,24 @@ def try_installed(trial: Trial, deb: Path) -> None:
         body = '{"jsonrpc":"2.0","id":1,"method":"initialize","params":{"capabilities":{}}}'
         told = trial.inside("pvtag-lsp", given=f"Content-Length: {len(body)}\r\n\r\n{body}")
         trial.expect("the language server", '"capabilities"' in told.stdout, (told.returncode, told.stdout, told.stderr))
+    for words, sentence in ((["pvtag"], "pvtag: a command is expected first"), (["pvtag", "--version"], "pvtag: `--version` is no command"),
+                            (["pvtag", "check", "none.dtd", "a", "none.xml"], "pvtag: none.dtd: there is no such file\n"), (["pvlong", "need"], "pvlong: need takes 3")):
+        told = trial.inside(*words)
+        trial.expect("a sentence", told.stderr.startswith(sentence) and told.returncode == (3 if "none" in sentence else 2), (words, told))
+    told = trial.inside("/bin/sh", "-c", "cd /usr/bin; PATH=/nowhere; ./pvtag valid " + " ".join(letter))
+    trial.expect("the script alone, without other commands", (told.returncode, told.stdout, told.stderr) == (0, "valid\n", ""), told)
     opens_page(trial, letter)
-    for name in ("pvtag", "pvlong", "pvtag-annotate", "pvtag-complete", "pvtag-flatten", "pvtag-lsp", "pvtag-ranges", "pvtag-report", "pvtag-why"):
+    names = sorted(it.name for it in (trial.root / "usr/bin").glob("pv*"))
+    trial.expect("each command", names == sorted(COMMANDS), names)
+    for name in COMMANDS:
+        trial.expect("completion of each command", (trial.root / "usr/share/bash-completion/completions" / name).is_file(), name)
         with gzip.open(trial.root / f"usr/share/man/man1/{name}.1.gz", "rt") as file:
             manual = file.read()
         trial.expect("what the manual tells", "rattle-kit" in manual or name not in ("pvtag", "pvlong"), manual[-600:])
         told = trial.inside(name, "--help").stdout if name not in ("pvtag", "pvlong", "pvtag-flatten") else ""
         trial.expect("it names itself as it was called", not told or told.startswith(f"usage: {name} "), told[:200])
+        options = set(re.findall("^ {2,}(?:-., )?(--[a-z-]+)", told, re.MULTILINE))
+        trial.expect("the completion of its options", options <= set(completed(name, "-")), (name, options))
         lacking = [it for it in re.findall("--([a-z-]+)", told) if it != "help" and f"Fl -{it}" not in manual]
         trial.expect("the options of the manual", lacking == [], (name, lacking))
         if shutil.which("mandoc"):
@@ -150,6 +165,13 @@ def try_installed(trial: Trial, deb: Path) -> None:
     done = dpkg(trial, "--purge", "pvtag")
     left = files_in(trial.root) - before
     trial.expect("removal leaves nothing", done.returncode == 0 and left == set(), (done.stderr, left))
+
+
+def completed(*words: str) -> list[str]:
+    """What bash completes the last of these words to."""
+    script = 'source "$0"; COMP_WORDS=("$@") COMP_CWORD=$(($# - 1)); $(complete -p "${1##*/}" | sed "s/.*-F \\([^ ]*\\) .*/\\1/"); printf "%s\\n" "${COMPREPLY[@]}"'
+    told = subprocess.run(["bash", "-c", script, TOP / "tools/completion.bash", *words], capture_output=True, text=True, timeout=PATIENCE, check=False)
+    return told.stdout.split()
 
 
 def opens_page(trial: Trial, letter: list[str]) -> None:
@@ -189,6 +211,17 @@ def try_completion(trial: Trial) -> None:
                           (["check", f"$(touch {trial.folder}/run)", "l"], ""), (["check", blank, "letter", "x"], ""), (["drill", ""], "")):
         told = subprocess.run(["bash", "-c", script, TOP / "tools/completion.bash", program, *words], capture_output=True, text=True, check=False)
         trial.expect("a completion", told.stdout == f"{wanted}\n", (words, told))
+    where = trial.folder / "commands"
+    where.mkdir()
+    (where / "pvtag").symlink_to(program)
+    for words, wanted in ((["pvtag-why", str(odd).replace(" ", "\\ "), "l"], ["letter", "lb"]), (["pvtag-report", "--format", "tsv", blank, "bo"], ["body"]),
+                          (["pvtag-report", "--format", "t"], ["tsv"]), (["pvtag-mark", "--c"], ["--cut"]), (["pvtag-ranges", blank, "l"], []),
+                          (["pvtag-why", f"$(touch {trial.folder}/run)", "l"], [])):
+        told = completed(str(where / words[0]), *words[1:])
+        trial.expect("a completion of a client", told == wanted, (words, told))
+    unbuilt = trial.folder / "unbuilt"
+    subprocess.run(["git", "clone", "-q", str(TOP), str(unbuilt)], check=True)
+    trial.expect("nothing is built for a completion", completed(str(unbuilt / "pvtag"), "check", blank, "l") == [] and not (unbuilt / "build").exists())
     for words, wanted in ((["n"], "need"), ([""], "need complete"), (["need", blank, "l"], "letter lb")):
         told = subprocess.run(["bash", "-c", script, TOP / "tools/completion.bash", other, *words], capture_output=True, text=True, check=False)
         trial.expect("a completion of pvlong", told.stdout == f"{wanted}\n", (words, told))

@@ -23,6 +23,16 @@ expect() {
     fi
 }
 
+# says NAME STATUS OUTPUT SENTENCE COMMAND..: the same, with a line on the standard error that ends so
+says() {
+    local name=$1 status=$2 output=$3 sentence=$4
+    shift 4
+    expect "$name" "$status" "$output" bash -c '"$@" 2>said.txt
+        status=$?
+        grep -q ": $0\$" said.txt && [ "$(wc -l <said.txt)" = 1 ] || cat said.txt >&2
+        exit $status' "$sentence" "$@"
+}
+
 cd "$work" || exit 1
 cp "$top/examples/article.dtd" a.dtd
 printf '<doc>Hello</doc>' >hello.xml
@@ -54,7 +64,7 @@ expect "a letter" 0 "valid$lf" "$pvtag" valid "$top/examples/letter.dtd" letter 
 expect "invalid" 1 "invalid 0$lf" "$pvtag" valid a.dtd doc hello.xml
 expect "another root" 1 "invalid .$lf" "$pvtag" valid text.dtd p hello.xml
 expect "a blank in EMPTY" 1 "invalid 0$lf" "$pvtag" valid empty.dtd doc blank.xml
-expect "a missing file" 3 "" "$pvtag" valid text.dtd doc nothing.xml
+says "a missing file" 3 "" "nothing.xml: there is no such file" "$pvtag" valid text.dtd doc nothing.xml
 expect "a long DTD" 8 "limit dtd-file$lf" "$pvtag" valid long.dtd doc hello.xml
 expect "the longest DTD" 1 "invalid 0$lf" "$pvtag" valid spaces.dtd doc hello.xml
 expect "EMPTY with text" 1 "invalid 0$lf" "$pvtag" valid empty.dtd doc hello.xml
@@ -71,11 +81,11 @@ expect "check, valid" 0 "valid$lf" "$pvtag" check a.dtd doc valid.xml
 expect "why, possible" 1 "possible$lf" "$pvtag" why a.dtd doc hello.xml
 expect "why, impossible" 0 "pvdeny 1${lf}list 0${lf}cause empty${lf}end$lf" "$pvtag" why empty.dtd doc blank.xml
 expect "deny, by a pipe" 0 "denied 0$lf" bash -c '"$0" why empty.dtd doc blank.xml | "$0" deny empty.dtd doc blank.xml /dev/stdin' "$pvtag"
-expect "deny, a missing file" 3 "" "$pvtag" deny empty.dtd doc blank.xml nothing.den
+says "deny, a missing file" 3 "" "nothing.den: there is no such file" "$pvtag" deny empty.dtd doc blank.xml nothing.den
 expect "deny, no denial" 9 "table line 0$lf" "$pvtag" deny empty.dtd doc blank.xml blank.xml
-expect "one word" 2 "usage$lf" "$pvtag" valid
-expect "no words" 2 "usage$lf" "$pvtag"
-expect "no name" 2 "usage$lf" "$pvtag" valid text.dtd 1x hello.xml
+says "one word" 2 "usage$lf" "valid takes 3 arguments, DTD ROOT DOC, and has 0" "$pvtag" valid
+says "no words" 2 "usage$lf" "one of valid, check, session, complete, why, verify, deny, standoff, dtd, drill" "$pvtag"
+says "no name" 2 "usage$lf" "ROOT is to be a name, and .1x. is none" "$pvtag" valid text.dtd 1x hello.xml
 expect "a bad DTD" 6 "dtd syntax 0$lf" "$pvtag" valid hello.xml doc hello.xml
 expect "a bad document" 7 "document syntax 0$lf" "$pvtag" valid text.dtd doc text.dtd
 expect "a full device" 4 "" bash -c '"$0" valid text.dtd doc hello.xml >/dev/full' "$pvtag"
@@ -106,10 +116,10 @@ expect "a longer script" 0 "4096 no command${lf}1 limit script$lf" bash -c 'scri
 expect "its status" 8 "" bash -c 'script 268435457 | timeout 600 "$0" session a.dtd doc hello.xml >/dev/null' "$pvtag"
 
 # The program for wide lists.
-expect "pvlong, no words" 2 "usage$lf" "$pvlong"
-expect "pvlong, another question" 2 "usage$lf" "$pvlong" check a.dtd doc hello.xml
-expect "pvlong, a missing DTD" 3 "" "$pvlong" need nothing.dtd doc hello.xml
-expect "pvlong, a missing document" 3 "" "$pvlong" need a.dtd doc nothing.xml
+says "pvlong, no words" 2 "usage$lf" "one of need, complete" "$pvlong"
+says "pvlong, another question" 2 "usage$lf" ".check. is no command: they are need, complete" "$pvlong" check a.dtd doc hello.xml
+says "pvlong, a missing DTD" 3 "" "nothing.dtd: there is no such file" "$pvlong" need nothing.dtd doc hello.xml
+says "pvlong, a missing document" 3 "" "nothing.xml: there is no such file" "$pvlong" need a.dtd doc nothing.xml
 expect "pvlong, by a pipe" 0 "need 2$lf" bash -c 'printf "<doc><head/>t</doc>" | "$0" need a.dtd doc /dev/stdin' "$pvlong"
 expect "pvlong, a full device" 4 "" bash -c '"$0" complete a.dtd doc hello.xml >/dev/full' "$pvlong"
 
@@ -123,7 +133,7 @@ seq 20000 | awk 'BEGIN { open = 20000 } { printf "no impossible 0.%d.0\nok 2 %d 
 expect "its lines in a session" 0 "46666 no impossible 0.1.0 ok 2 19999 0 ok 2 6666 0$lf" timeout 600 bash -c '"$0" session a.dtd doc large.xml <large.txt |
     tee got.txt | awk "NR == 1 || NR == 2 { first = first \" \" \$0 } { last = \$0 } END { print NR first, last }"' "$pvtag"
 expect "each of its replies" 0 "" cmp got.txt replies.txt
-for size in 0 20001 007 +3 x; do expect "a drill of $size" 2 "usage$lf" "$pvtag" drill "$size"; done
+for size in 0 20001 007 +3 x; do says "a drill of $size" 2 "usage$lf" "N is to be a number from 1 to 20000, and .$size. is none" "$pvtag" drill "$size"; done
 
 # DTDs at their limits and one past them, and bytes that are no characters. Each is read by `valid`, on a document that it declares.
 printf '<a/>' >a.xml
@@ -287,7 +297,7 @@ sed 's/^total 1$/total 2/' one.pack >other.pack
 expect "a pack is rejected" 1 "rejected totals$lf" "$pvtag" verify pair.dtd a one.xml other.pack
 sed '$d' one.pack >other.pack
 expect "a pack without its end" 9 "pack line 12$lf" "$pvtag" verify pair.dtd a one.xml other.pack
-expect "no pack" 3 "" "$pvtag" verify pair.dtd a one.xml none.pack
+says "no pack" 3 "" "none.pack: there is no such file" "$pvtag" verify pair.dtd a one.xml none.pack
 printf '<a><b/></a>' >one.xml
 expect "a pack of a valid document" 0 "$(lines 'pvpack 1' 'total 0' 'body 11' '<a><b/></a>' 'end')$lf" "$pvtag" complete pair.dtd a one.xml
 printf '<doc><sec/><head/></doc>' >one.xml

@@ -17,7 +17,7 @@ from .finder import is_utf_8
 from .layout import Layout, Node
 from .masks import Masked, MaskedSource, mask
 from .places import Source
-from .program import Answer, Trouble, add_option, file_of, find, read_file, shown_name
+from .program import Answer, Trouble, add_option, file_of, find, is_utf_8, read_file, shown_name
 from .reasons import Reason, Reasons
 from .session import Ended, Session
 

@@ -16,7 +16,7 @@ from xml.sax.saxutils import quoteattr
 from .faults import Refusal, fault_of
 from .memory import MemoryFile
 from .places import BOM, Source
-from .program import TOP, Stopped, Trouble, read_file, run, shown_name
+from .program import TOP, Stopped, Trouble, is_utf_8, read_file, run, shown_name
 
 FLATTEN = os.path.join(TOP, "tools", "flatten")
 NAME = rb"[:A-Z_a-z\x80-\xff][-.0-9:A-Z_a-z\x80-\xff]*"
@@ -156,8 +156,3 @@ class Finder:
             said = said if ran.returncode == 2 and said else ran.stderr.decode(errors="replace")
         lines = [line.removeprefix("flatten: ").replace(shown_name(path), name) for line in said.splitlines()]
         raise Trouble(f"{name}: the DTD can't be made plain: " + "; ".join(lines[:3]))
-
-
-def is_utf_8(word: str) -> bool:
-    """Whether the program takes a word."""
-    return not any("\udc80" <= char <= "\udcff" for char in word)

@@ -17,10 +17,10 @@ TOP = os.path.dirname(os.path.dirname(HERE))
 # script makes one without proofs first, in a minute or two, and runs that.
 SCRIPT, BUILT = os.path.join(TOP, "pvtag"), os.path.join(TOP, "build", "pvtag")
 UNPROVED = ".unproved"
+# What runs the program where the package is installed.
+PACKAGED = os.path.join(os.path.dirname(os.path.dirname(TOP)), "bin", "pvtag")
 # The same of the second program.
 LONG_SCRIPT, LONG_BUILT = os.path.join(TOP, "pvlong"), os.path.join(TOP, "build", "pvlong")
-# The status of words that are no command.
-USAGE = 2
 
 
 # How a process is begun. A client whose processes end with it, also when it is killed, puts another here.
@@ -61,6 +61,8 @@ def find(told: str | None = None, builds: bool = True) -> list[str]:
     for file in (*beside, BUILT, SCRIPT, shutil.which("pvtag")):
         if file is None or not os.path.isfile(file) or not os.access(file, os.X_OK):
             continue
+        if os.path.realpath(file) == PACKAGED and os.access(BUILT, os.X_OK):
+            return [BUILT]
         if os.path.realpath(file) != SCRIPT:
             return [file]
         if builds or is_made(BUILT):
@@ -75,9 +77,9 @@ def is_made(built: str) -> bool:
 
 
 def made() -> str:
-    """The program, which the repository's script makes first. Without words it says how it is used. As long as it isn't
-    proved the script says so, here once, and is what is run."""
-    if run([SCRIPT]).status != USAGE:
+    """The program, which the repository's script makes first, for the smallest drill. As long as it isn't proved the script
+    says so, here once, and is what is run."""
+    if run([SCRIPT, "drill", "1"]).status:
         raise Trouble("the program pvtag couldn't be made")
     os.environ["PVTAG_TOLD"] = "1"
     return BUILT if os.access(BUILT, os.X_OK) else SCRIPT
@@ -100,6 +102,26 @@ def add_option(reader: argparse.ArgumentParser) -> None:
     reader.add_argument("--program", metavar="FILE", help="the program pvtag, where it isn't found by itself")
 
 
+@contextlib.contextmanager
+def handed_over(words: Sequence[str]) -> Iterator[tuple[list[str], list[int]]]:
+    """Words as the program takes them, which are UTF-8: a file of another name is open meanwhile, and to be handed over."""
+    made, files = list(words), list[int]()
+    try:
+        for at, word in enumerate(words):
+            if at and not is_utf_8(word) and os.path.exists(word):
+                files.append(os.open(word, os.O_RDONLY))
+                made[at] = f"/proc/self/fd/{files[-1]}"
+        yield made, files
+    finally:
+        for file in files:
+            os.close(file)
+
+
+def is_utf_8(name: str) -> bool:
+    """Whether the program takes a word."""
+    return not any("\udc80" <= char <= "\udcff" for char in name)
+
+
 class Running:
     """The runs of the program that haven't ended yet, of all threads. Each may take so many seconds, where that is told."""
 
@@ -113,7 +135,8 @@ class Running:
             if self.stopped:
                 raise Stopped
             try:
-                begun = popen(words, stdin=subprocess.PIPE, stdout=subprocess.PIPE, pass_fds=files, start_new_session=True)
+                with handed_over(words) as (given, more):
+                    begun = popen(given, stdin=subprocess.PIPE, stdout=subprocess.PIPE, pass_fds=[*files, *more], start_new_session=True)
             except OSError as fault:
                 raise Trouble(f"{words[0]} can't be run: {fault.strerror}") from None
             self.runs.add(begun)

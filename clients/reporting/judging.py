@@ -15,12 +15,12 @@ from pvtag.attributes import MISSING, Attributes, python_with_lxml
 from pvtag.document_fault import encoding_fault
 from pvtag.dtd import Dtd
 from pvtag.faults import fault_of
-from pvtag.finder import Finder, Named, Plain, is_utf_8, names_in
+from pvtag.finder import Finder, Named, Plain, names_in
 from pvtag.layout import Layout
 from pvtag.long import Counted, counted
 from pvtag.masks import Masked, MaskedSource, mask
 from pvtag.places import Place, Source, Span
-from pvtag.program import Answer, Stopped, Trouble, file_of, find_long, read_file, run
+from pvtag.program import Answer, Stopped, Trouble, file_of, find_long, is_utf_8, read_file, run
 from pvtag.reasons import Reasons
 
 from .earlier import sum_of
