@@ -143,6 +143,9 @@ CHECKS = [
     row("standoff", "the nesting of ranges against a model", "", 3600, "python3 tests/standoff.py PVTAG 1500 1",
         "`standoff` on random texts and ranges, in two orders: the spans that the library's parser reads off the printed document are "
         "the ranges, its text the text, its verdict that of `check`; refusals by a model"),
+    row("schemas", "DTDs that are made of RELAX NG schemas", "trang xmllint", 3600, "python3 tests/schemas.py PVTAG 100 1",
+        "a DTD that `trang` makes of a RELAX NG schema: random documents are valid by it as `xmllint --relaxng` says by the schema; "
+        "schemas that `trang` refuses, for the reasons that `docs/PUBLISHED.md` lists"),
     row("taggers", "what clients make of taggers' output", "", 3600, "python3 tests/taggers.py PVTAG 100 1",
         "`clients/standoff` and `clients/mark` on random ranges, in lines, columns and JSON, with offsets of each kind, against a model "
         "that knows spans alone; what is said of files that they can't use"),
