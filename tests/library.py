@@ -16,7 +16,6 @@ from pathlib import Path
 sys.dont_write_bytecode = True
 from lib.counting import Expecting  # noqa: E402
 from lib.waiting import PATIENCE  # noqa: E402
-from lib.waiting import PATIENCE  # noqa: E402
 
 TOP = Path(__file__).resolve().parent.parent
 sys.path.insert(0, str(TOP / "clients"))

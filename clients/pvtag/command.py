@@ -13,7 +13,6 @@ from typing import NamedTuple, NoReturn
 from .attributes import Attributes, Checked
 from .dtd import Dtd
 from .faults import Fault, Refusal, fault_of
-from .finder import is_utf_8
 from .layout import Layout, Node
 from .masks import Masked, MaskedSource, mask
 from .places import Source
