@@ -207,6 +207,12 @@ export function plainTextOf(run) {
   return sliceOf(first, from, lengthOf(first)) + between.map(({ text }) => text).join("") + sliceOf(last, 0, to)
 }
 
+// The text of a run, also of the elements in it.
+export function allTextOf({ owner: { kids }, from: [first, from], to: [last, to] }) {
+  const part = (kid) => sliceOf(kid, kid === first ? from : 0, kid === last ? to : lengthOf(kid))
+  return kids.slice(kids.indexOf(first), kids.indexOf(last) + 1).map((kid) => (kid.kind === "text" ? part(kid) : textOf(kid))).join("")
+}
+
 // A place so many units on in the texts side by side, or back, as far as they go.
 export function stepped([kid, unit], step, owner) {
   const { kids } = owner

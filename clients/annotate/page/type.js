@@ -7,7 +7,7 @@ import { caretPlace, chosen, goOnAt, timesChosen } from "./choose.js"
 import { isIn, mirror, onTyped } from "./field.js"
 import { isLocked, sayLocked } from "./lock.js"
 import { closeMenu } from "./menu.js"
-import { isEmpty, markRun, plainTextOf, runAt, stepped, told, unmark } from "./place.js"
+import { allTextOf, isEmpty, markRun, plainTextOf, runAt, stepped, told, unmark } from "./place.js"
 import { showWhyNot } from "./offers.js"
 
 const host = document.getElementById("document")
@@ -101,7 +101,7 @@ function goOn(here, [list, kid, unit]) {
   goOnAt({ owner, from: at, to: at }, here === go && here.times === timesChosen())
 }
 
-// Cutting and pasting: text alone.
+// Copying, cutting and pasting: text alone, whatever tags stand in it.
 document.addEventListener("paste", (event) => {
   if (!isIn(host)) return
   event.preventDefault()
@@ -110,9 +110,9 @@ document.addEventListener("paste", (event) => {
 })
 document.addEventListener("copy", (event) => {
   const { run } = chosen()
-  if (!isIn(host) || !run || isEmpty(run) || !plainTextOf(run)) return
+  if (!isIn(host) || !run || isEmpty(run)) return
   event.preventDefault()
-  event.clipboardData.setData("text/plain", plainTextOf(run))
+  event.clipboardData.setData("text/plain", allTextOf(run))
 })
 document.addEventListener("cut", (event) => {
   const { run } = chosen()

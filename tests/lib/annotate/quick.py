@@ -203,4 +203,16 @@ def suggests_tags(driver, program):
         soon(page.moves, 1, "undo")
 
 
-CASES = [tags_each_line, takes_rows_by_digits, lists_what_is_missing, keeps_words_in_sight, has_a_palette, tells_reasons_one_can_read, suggests_tags]
+def copies_over_tags(driver, program):
+    """What is copied over tags is their text."""
+    with Server(program, LETTER.replace(BODY, "<body><p>I met <person>Mr Adams</person> in Delft.</p></body>")) as server:
+        page = Page(driver, server.url)
+        page.js("document.addEventListener('copy', (event) => { window.copied = event.clipboardData.getData('text/plain') })")
+        page.select("met", "Delft")
+        page.open_menu()
+        page.keys(Keys.ESCAPE)
+        page.keys(Keys.CONTROL, "c")
+        soon(lambda: page.js("return window.copied"), "met Mr Adams in Delft", "the text")
+
+
+CASES = [tags_each_line, takes_rows_by_digits, lists_what_is_missing, keeps_words_in_sight, has_a_palette, tells_reasons_one_can_read, suggests_tags, copies_over_tags]
