@@ -194,16 +194,22 @@ class Attributes:
         stands = self.editor.masked.stands
         return {char: stands[form.encode()].decode() for char, form in self.editor.entities.items()}
 
+    def asked(self, ask: Any) -> str:
+        """The attributes that are asked for, as they stand in a tag, where they can; references to entities are ones."""
+        pairs = [(str(name), str(value)) for name, value in ask.get("pairs") or ()]
+        self.check(pairs)
+        with self.editor.lock:
+            return one_line(self.editor.with_entities(written(self.read_back(pairs, []))))
+
     def tag(self, ask: Any) -> Told:
         """Makes a tag with its attributes, round a run, at a place or in the place of another; a move."""
-        pairs = [(str(name), str(value)) for name, value in ask["pairs"]]
-        self.check(pairs)
+        attrs = self.asked(ask)
         with self.editor.lock:
             since = self.editor.known(ask)
             lines = lines_of(self.editor.document, ask)
             path, *at = lines[-1].removesuffix(f" {name_of(ask)}").split(" ")[1:]
             made = below(path, int(at[0])) if at else path
-            return self.editor.answer(since, [*lines, *attributes_for(made, written(pairs))])
+            return self.editor.answer(since, [*lines, *attributes_for(made, attrs)])
 
     def given(self, name: str) -> str:
         """The attributes that a new element takes, as they stand in its tag: what it requires and has one value."""

@@ -3,11 +3,11 @@ wanted."""
 from collections.abc import Iterator
 from typing import Any
 
-from changes import name_of
+from changes import attributes_for, name_of
 from editor import Editor
 from pvtag.document import Document, Node, Told, shown
 from pvtag.session import Refused
-from runs import Stale, Stretch, run_over, texts_of
+from runs import Stale, Stretch, below, run_over, texts_of
 
 # So many places are listed at most, and so many characters beside each.
 MOST = 2000
@@ -39,18 +39,19 @@ class Everywhere:
         *cuts, line = self.lines_for(stretch, name)
         return self.editor.tried(cuts, lambda: self.editor.tried([line], lambda: None))
 
-    def lines_for(self, stretch: Stretch, name: str) -> list[str]:
+    def lines_for(self, stretch: Stretch, name: str, attrs: str = "") -> list[str]:
         cuts, path, start, end = run_over(self.editor.document, stretch)
-        return [*cuts, f"wrap {path} {start} {end} {name}"]
+        return [*cuts, f"wrap {path} {start} {end} {name}", *attributes_for(below(path, start), attrs)]
 
-    def tag(self, ask: Any) -> Told:
-        """Makes the tag round all these places, one move; a place where it is refused is left out, and told."""
+    def tag(self, ask: Any, attrs: str = "") -> Told:
+        """Makes the tag, with these attributes, round all these places, one move; a place where it is refused is left out, and
+        told."""
         name = name_of(ask)
         with self.editor.lock:
             since = self.editor.known(ask)
             # The last place first: what is done there moves no path before it.
             places = [Stretch(*map(int, place)) for place in reversed(ask["places"])]
-            return self.make(since, [self.lines_for(place, name) for place in places])
+            return self.make(since, [self.lines_for(place, name, attrs) for place in places])
 
     def make(self, since: int, moves: list[list[str]]) -> Told:
         """Makes of these what the session makes, one behind another, in one move; how many it refuses is told."""

@@ -283,7 +283,7 @@ ASKED: dict[str, Callable[[Server, Any], Told]] = {
     "set-attributes": lambda server, ask: server.attributes.change(ask),
     "attribute-faults": lambda server, ask: server.attributes.faults(ask),
     "places": lambda server, ask: server.everywhere.places(ask),
-    "tag-places": lambda server, ask: server.everywhere.tag(ask),
+    "tag-places": lambda server, ask: server.everywhere.tag(ask, server.attributes.asked(ask)),
     "tag": lambda server, ask: server.attributes.tag(ask),
     "palette": lambda server, ask: server.palette.told(ask),
     "set-palette": lambda server, ask: server.palette.put(ask),

@@ -9,7 +9,7 @@ import { aboutText, showPlaces } from "./places.js"
 // The name of the last element that was made, and its text.
 let last = null
 listeners.push((changed) => {
-  if (changed && app.made?.name) last = { name: app.made.name, text: textOf(app.made).trim() }
+  if (changed && app.made?.name) last = { name: app.made.name, text: textOf(app.made).trim(), id: app.made.id }
 })
 
 // The last tag once more, round what is selected or where the caret stands.
@@ -36,22 +36,29 @@ async function wrapAgain(run) {
 // The last tag on all places of the text that is selected, or of its own.
 export function tagEverywhere() {
   const { run, element: chosenElement } = chosen()
-  if (chosenElement) return openEverywhere(chosenElement.name, textOf(chosenElement).trim())
+  if (chosenElement) return openEverywhere(chosenElement.name, textOf(chosenElement).trim(), chosenElement)
   if (!last) return tell("No tag was made yet that could be made on other places.")
-  openEverywhere(last.name, (run && !isEmpty(run) && plainTextOf(run)) || last.text)
+  openEverywhere(last.name, (run && !isEmpty(run) && plainTextOf(run)) || last.text, app.tree.nodes.get(last.id))
 }
 
-// Lists the places of a text; those that are left ticked are tagged, in one move.
-export async function openEverywhere(name, text) {
+// Lists the places of a text; those that are left ticked are tagged as this element is, in one move.
+export async function openEverywhere(name, text, node = null) {
   if (!text.trim()) return tell(`⟨${name}⟩ holds no text of which there could be other places.`)
   const ask = async () => {
     const answer = await question("places", { name, text })
     if (!answer) return null
     const open = answer.places.filter(({ refused }) => !refused)
-    return { rows: open.map((place) => rowOf(place, text)), about: aboutText(open.length, "place", answer.places.length - open.length, answer.more) }
+    return { rows: open.map((place) => rowOf(place, text)), pairs: await pairsOf(node), about: aboutText(open.length, "place", answer.places.length - open.length, answer.more) }
   }
   const heading = `⟨${name}⟩ round “${text.length > 40 ? `${text.slice(0, 40)}…` : text}”`
   await showPlaces({ heading, name, request: "tag-places", ask })
+}
+
+// The attributes of an element, but for those of which each value stands once in a document.
+async function pairsOf(node) {
+  const answer = node?.attrs && app.tree.isThere(node) ? await question("attributes", { node: node.id }) : null
+  const ids = new Set(["xml:id", ...(answer?.declared ?? []).filter(({ kind }) => kind === "ID").map(({ name }) => name)])
+  return (answer?.pairs ?? []).filter(([name]) => !ids.has(name))
 }
 
 const rowOf = ({ place, before, behind, part, in: owner }, text) => (

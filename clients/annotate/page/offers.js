@@ -121,7 +121,7 @@ function choicesFor(node) {
   choices.push({ label: "Attributes", note: node.attrs ?? "", take: () => openAttributes(node) })
   choices.push({ label: "To the palette", take: () => toPalette(node) })
   const text = textOf(node)
-  const everywhere = { label: "The same on all places of this text", take: () => openEverywhere(node.name, text) }
+  const everywhere = { label: "The same on all places of this text", take: () => openEverywhere(node.name, text, node) }
   if (text.trim()) choices.push(everywhere)
   return choices
 }

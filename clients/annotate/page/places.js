@@ -6,19 +6,23 @@ import { closeMenu } from "./menu.js"
 const dialog = document.getElementById("everywhere")
 const [title, count, list] = [dialog.querySelector("h2"), dialog.querySelector(".about"), dialog.querySelector("ol")]
 const cut = dialog.querySelector(".cut")
+const attributes = dialog.querySelector(".with")
 const tag = dialog.querySelector(".tag-all")
 
-// Lists places as they are asked for: `ask` gives `rows`, each with its place, the parts that are shown of it, a note, and whether it is
-// ticked, and `rest`, how many of them are refused; `one` is what a place is called. `request` makes the tag, by `name`.
-// What is `by` lines or paragraphs may be cut the other way. `closed` is called at the end.
+// Lists places as they are asked for: `ask` gives `rows`, each with its place, the parts that are shown of it, a note, and
+// whether it is ticked, and a sentence `about` them. `request` makes the tag, by `name`. What is cut `by` lines or
+// paragraphs may be cut the other way. The tag has the `pairs` of attributes that are told, unless that is changed.
+// `closed` is called at the end.
 export async function showPlaces({ heading, name, request, ask, closed = () => {} }) {
   // It is there at once, so that no key comes anywhere else meanwhile.
   closeMenu()
   title.textContent = heading
   cut.hidden = true
+  attributes.hidden = true
   dialog.returnValue = ""
   const own = (shown += 1)
   let open = []
+  let pairs = []
   const fill = async (by) => {
     count.textContent = "…"
     list.replaceChildren()
@@ -30,6 +34,10 @@ export async function showPlaces({ heading, name, request, ask, closed = () => {
     cut.hidden = answer.by === undefined
     cut.value = answer.by ?? ""
     open = answer.rows
+    pairs = answer.pairs ?? []
+    attributes.hidden = pairs.length === 0
+    attributes.value = "with"
+    attributes.options[0].text = `with ${pairs.map(([key, value]) => `${key}="${value}"`).join(" ")}`
     count.textContent = answer.about
     list.replaceChildren(...open.map(rowOf))
     tag.disabled = open.length === 0
@@ -39,7 +47,8 @@ export async function showPlaces({ heading, name, request, ask, closed = () => {
   dialog.onclose = async () => {
     const boxes = [...list.querySelectorAll("input")]
     const places = open.filter((_, at) => boxes[at].checked).map(({ place }) => place)
-    if (dialog.returnValue === "tag" && places.length) await change(request, { name, places }, toldOf)
+    const given = attributes.value === "with" ? pairs : []
+    if (dialog.returnValue === "tag" && places.length) await change(request, { name, places, pairs: given }, toldOf)
     closed()
   }
   dialog.showModal()

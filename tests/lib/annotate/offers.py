@@ -34,7 +34,7 @@ def takes_a_typed_name(driver, program):
         page.open_menu()
         page.keys("pers")
         soon(page.menu, ["person", "pers"], "a text that is no name filters, and comes last")
-        need("no such element" in page.find("#choices .typed").text, "it is told that it isn't declared")
+        soon(lambda: page.texts("#choices .typed"), lambda texts: "no such element" in texts[0], "it is told that it isn't declared")
         page.keys(Keys.ENTER)
         soon(lambda: "<person>Adams</person>" in page.written(), True, "the filtered row is taken")
         page.select("have")

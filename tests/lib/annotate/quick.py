@@ -215,4 +215,23 @@ def copies_over_tags(driver, program):
         soon(lambda: page.js("return window.copied"), "met Mr Adams in Delft", "the text")
 
 
-CASES = [tags_each_line, takes_rows_by_digits, lists_what_is_missing, keeps_words_in_sight, has_a_palette, tells_reasons_one_can_read, suggests_tags, copies_over_tags]
+def tags_places_with_attributes(driver, program):
+    """The same tag on all places has the attributes of the one that it is taken from, but for an identifier; or none."""
+    body = "<body><p>I met <person key='adams' xml:id='a'>Mr Adams</person>. Mr Adams is well.</p></body>"
+    with Server(program, LETTER.replace(BODY, body)) as server:
+        page = Page(driver, server.url)
+        for choice, want in (("with", "key=\"adams\""), ("", None)):
+            page.click_tag("person")
+            page.open_menu()
+            page.keys("the same", Keys.ENTER)
+            soon(lambda: page.js("return document.querySelector('#everywhere .with:not([hidden]) option').text"), "with key=\"adams\"", "its attributes")
+            page.js("document.querySelector('#everywhere .with').value = arguments[0]", choice)
+            page.press("#everywhere .tag-all")
+            soon(page.moves, 1, "one move")
+            soon(lambda: page.texts("#document .attrs")[1:], [want] if want else [], f"the attributes, {choice or 'without'}")
+            soon(lambda: "</person>. <person>Mr Adams</person> is" in page.written(), True, "the tag")
+            page.keys(Keys.CONTROL, "z")
+            soon(page.moves, 0, "undo")
+
+
+CASES = [tags_each_line, takes_rows_by_digits, lists_what_is_missing, keeps_words_in_sight, has_a_palette, tells_reasons_one_can_read, suggests_tags, copies_over_tags, tags_places_with_attributes]
