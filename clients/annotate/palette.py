@@ -56,7 +56,7 @@ class Palette:
 
     def put(self, ask: Any) -> Told:
         """Writes these tags to the file, under the notes that it begins with."""
-        rows = [{**row, "pairs": [(str(name), str(value)) for name, value in row["pairs"]]} for row in ask["palette"]]
+        rows: list[Told] = [{**row, "pairs": [(str(name), str(value)) for name, value in row["pairs"]]} for row in ask["palette"]]
         for row in rows:
             self.check(row)
         twice = twice_in([row["key"] for row in rows])
