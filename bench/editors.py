@@ -16,7 +16,7 @@ import time
 
 TOP = os.path.dirname(os.path.dirname(os.path.abspath(__file__)))
 sys.dont_write_bytecode = True
-sys.path.insert(0, os.path.join(TOP, "tests"))
+sys.path.append(os.path.join(TOP, "tests"))
 
 from lib.lsp_client import EXAMPLES, Client, uri_of  # noqa: E402
 from lsp import DOCBOOK, article, report, spent  # noqa: E402

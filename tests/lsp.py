@@ -6,6 +6,7 @@ ends with 1 where one failed.
 """
 import json
 import os
+import random
 import re
 import sys
 import tempfile
@@ -13,7 +14,7 @@ import tempfile
 sys.dont_write_bytecode = True
 sys.path.insert(0, os.path.join(os.path.dirname(os.path.dirname(os.path.abspath(__file__))), "clients"))
 
-from lib.lsp_client import CAPABILITIES, DRAFT, EXAMPLES, LETTER, URI, Client  # noqa: E402
+from lib.lsp_client import CAPABILITIES, DRAFT, EXAMPLES, LETTER, TOP, URI, Client  # noqa: E402
 from lib.lsp_client import at, codes, edited, edits_of, finished, need, run_cases, same, uri_of  # noqa: E402
 from lib.waiting import until  # noqa: E402
 from pvtag.attributes import python_with_lxml  # noqa: E402
@@ -612,6 +613,39 @@ def tells_what_is_no_xml(program):
         same([each for each in client.aside if each.get("method") == "window/showMessage"], [], "no message")
 
 
+# What random documents are made of, beside elements.
+BESIDE = ["text ", "<!-- <a> </a> -->", "<![CDATA[<a>]]>", "<?p <b?>", "\u00e9"]
+TAGGED = ["<{0}>{1}</{0}>", "<{0} x='1'>{1}</{0} >", '<{0} y="a>b" >{1}</{0}>']
+
+
+def random_element(dice, depth=0):
+    name = dice.choice(["a", "ab", "b", "a-b"])
+    if depth > 5 or dice.random() < 0.2:
+        return f"<{name}/>"
+    kids = [random_element(dice, depth + 1) if dice.random() < 0.5 else dice.choice(BESIDE) for _ in range(dice.choice([0, 1, 2, 4]))]
+    return dice.choice(TAGGED).format(name, "".join(kids))
+
+
+def finds_tags(_):
+    """A tag is found by what stands near as by the lists that it stands in."""
+    sys.path.insert(0, os.path.join(TOP, "clients", "lsp"))
+    from nodes import Tree
+    from reading import Whole
+
+    def shown(tag):
+        if tag is None:
+            return None
+        it = tag.element
+        return tag.start, tag.end, it.start, it.inside, it.closes, it.end, it.at, it.owner.start, it.owner.name, it.depth()
+
+    dice = random.Random(5)
+    for _ in range(60):
+        data = (dice.choice(["", "<!DOCTYPE a>\n", "<!-- <a> -->"]) + random_element(dice) + dice.choice(["", "\n", "<!-- <a/> -->"])).encode()
+        whole = Whole(data)
+        for offset in range(len(data) + 1):
+            same(shown(whole.tag(offset)), shown(Tree.tag(whole, offset)), f"the tag at {offset} of {data!r}")
+
+
 # Positions.
 def counts_positions(program):
     """Characters outside the BMP, all line ends, UTF-16 and UTF-8; all other bytes stay."""
@@ -698,6 +732,7 @@ CASES = [
     defines,
     refers,
     tells_what_is_no_xml,
+    finds_tags,
     renames,
     counts_positions,
     takes_changes_in_order,
