@@ -77,7 +77,7 @@ pub fn one_thread<L: Ledger>(
     Ok(check_doc(alloc, grammar, b"doc", doc, &mut steps)?)
 }
 
-/// The verdicts that several threads find, after this gate.
+/// The verdicts that several threads find, with this gate.
 pub fn by_threads<G: Gate + Sync, L: Ledger>(
     rt: &(impl Threads + Sync),
     alloc: Global,
