@@ -25,7 +25,8 @@ from pvtag.masks import mask, same_length  # noqa: E402
 from pvtag.places import Source  # noqa: E402
 
 # Pairs of messages of xmllint on one fault: the second one says it.
-DOUBLED = re.compile(r"is different from default|is not a declared Notation|reference an unknown notation")
+DOUBLED = re.compile(r"is different from default|namespace name for .* does not match the DTD|is not a declared Notation|reference an unknown notation")
+LISTED = re.compile(r"for attribute (\S+) of (\S+) is not among the enumerated set")
 NAMES = ["a", "b", "x:c"]
 KINDS = ["CDATA", "ID", "IDREF", "IDREFS", "NMTOKEN", "NMTOKENS", "(one|two|three)", "ENTITY", "NOTATION (gif|png)"]
 VALUES = {
@@ -56,7 +57,10 @@ def xmllint(*words: str) -> tuple[bool, list[str]]:
     found = re.findall(r"validity error : (.*)", said) + re.findall(r"(?:namespace|parser) error : (.*)", said)
     found = [each for each in found if published.ASIDE.search(each) or "redefined" in each or "Namespace prefix" in each]
     found = [each for each in found if not re.search("No declaration for element|content does not follow", each)]
-    return not found, [each for each in found if not DOUBLED.search(each)]
+    counted = [each for each in found if not DOUBLED.search(each)]
+    # Of a fixed value that is one of several, xmllint says both that it isn't listed and what it must be.
+    return not found, [each for each, after in zip(counted, [*counted[1:], ""]) if not (
+        (listed := LISTED.search(each)) and f"Value for attribute {listed[1]} of {listed[2]} must be" in after)]
 
 
 def keys_of(faults: list[AttributeFault]) -> list[str]:

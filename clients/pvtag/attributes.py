@@ -411,12 +411,17 @@ class Placing:
         yield self.fault("type", number, tag, "", None, f"libxml2 says: {message.strip()}")
 
     def made(self, kind: str, number: int | None, said: Mapping[str, str]) -> Iterator[AttributeFault]:
+        """The faults of a message: one, or where libxml2 doesn't tell the element, one of each that may be meant."""
         name, value = said.get("attribute", ""), said.get("value")
-        number = self.holding(name, value) if number is None else number
-        tag = self.tags[number] if number is not None and number < len(self.tags) else None
-        if tag is None:
+        numbers = list(self.holding(kind, name, value)) if number is None else [number] if number < len(self.tags) else []
+        for each in numbers:
+            yield from self.made_at(kind, each, name, value)
+        if not numbers:
             yield self.fault(kind, None, None, name, value, f"{name or 'an attribute'}: {' '.join(said.values())}")
-            return
+
+    def made_at(self, kind: str, number: int, name: str, value: str | None) -> Iterator[AttributeFault]:
+        """The fault of an element, if it is one."""
+        tag = self.tags[number]
         if tag.name not in self.attributes.declared and tag.name.rpartition(":")[2] not in self.attributes.declared:
             # Nothing is declared for an element that isn't; that it isn't is told elsewhere.
             return
@@ -456,13 +461,15 @@ class Placing:
         others = [each for each in behind if self.attributes.one(tag.name, each) is None]
         return next(iter(others if kind == "unknown" else behind), name)
 
-    def holding(self, name: str, value: str | None) -> int | None:
-        """The first element that has this attribute, with this value in it."""
+    def holding(self, kind: str, name: str, value: str | None) -> Iterator[int]:
+        """The elements that have this attribute, with this value in it. libxml2 tells the name without its prefix."""
+        types = ("ENTIT",) if kind == "entity" else ("IDREF",) if kind == "idref" else ("",)
         for number, tag in enumerate(self.tags):
             for other, _, text in tag.pairs:
-                if other == name and value is not None and (value == text or value in text.split()):
-                    return number
-        return None
+                declared = self.attributes.one(tag.name, other)
+                is_named = name in (other, other.rpartition(":")[2]) and (declared is None or declared.type.startswith(types))
+                if is_named and value is not None and (value == text or value in text.split()):
+                    yield number
 
     def fault(self, kind: str, number: int | None, tag: Tag | None, name: str, value: str | None, sentence: str) -> AttributeFault:
         own = tag.span if tag is not None else None
