@@ -194,7 +194,7 @@ def keeps_moves(program):
         same(state(editor), before, "what stands behind a refusal")
         editor.undo({"version": editor.version})
         costs = Costs(editor, declared_by([program], LETTER))
-        same(costs.offer(place_of(editor, "met"))["names"], ["place", "date", "person"], "an offer")
+        same(costs.offer(place_of(editor, "met"))["names"], ["person", "place", "date"], "an offer")
         costs.close()
         same(len(editor.undone), 1, "an offer leaves what was undone")
         before = state(editor)

@@ -241,6 +241,8 @@ CASES = [refuses_others, refuses_nonsense, makes_documents, says_what_is_wrong, 
 
 def main():
     program = os.path.abspath(sys.argv[1])
+    # A shell's command in the background ignores it, and so would what is begun here.
+    signal.signal(signal.SIGINT, signal.default_int_handler)
     return run_cases("annotate's requests", [functools.update_wrapper(functools.partial(case, program), case) for case in CASES])
 
 

@@ -284,10 +284,10 @@ class Walk:
     def shown(self):
         """The bytes to be saved; a session that was killed is begun again."""
         try:
-            return self.editor.shown()
+            return self.editor.whole_source()
         except Ended:
             self.editor.begin_again()
-            return self.editor.shown()
+            return self.editor.whole_source()
 
     # What holds after each.
     def check(self):
@@ -310,10 +310,10 @@ class Walk:
         same([row.verdict for row in rows], [node.verdict for node in editor.document.elements()], "the verdicts")
 
     def check_script(self):
-        """The script, played by a session as it stands in its file, makes the document."""
+        """The script, played by a session as it stands in its file, makes the document, its entities masked."""
         with open(self.script.path, "rb") as file:
             lines = file.read().decode().splitlines()
-        with file_of(self.script.source) as path, Session([self.program], self.dtd, self.root, path) as session:
+        with file_of(self.editor.masked.data) as path, Session([self.program], self.dtd, self.root, path) as session:
             for line in lines:
                 session.ask(line)
             same(session.show(), self.editor.session.show(), "the script, played by itself")

@@ -130,7 +130,8 @@ def by_xmllint(files: list[str], variables: dict[str, str]) -> dict[str, list[st
 def agree(trial: Expecting, row: dict[str, object], lines: list[str], is_there: bool) -> None:
     """One row against what xmllint says."""
     verdict, path = row["verdict"], row["path"]
-    errors = [it for it in lines if "warning" not in it]
+    # DocBook has an element called warning.
+    errors = [it for it in lines if " warning : " not in it]
     is_whole = not any("parser error" in it or "I/O" in it for it in errors)
     if verdict in ("valid", "possible", "impossible") and is_whole:
         elements = [it for it in errors if ELEMENTS.search(it)]
