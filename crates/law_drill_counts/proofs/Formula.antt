@@ -9,8 +9,8 @@ use Rattle.pv_opening.specs.Stage.{Responds, opened, refused, responded, short_o
 use Rattle.pv_cli.specs.declared.commands.drill.Counts.{Counts}
 use Rattle.pv_opening.specs.declared.status.Status.TheVariants.{Done}
 use Rattle.pv_session.specs.Sessions.{PlainSession}
-use Rattle.law_drill_counts.proofs.Counting.{LineLaws, lines_counted, open_left}
-use Rattle.law_drill_counts.proofs.Opening.{Reading, never_refused, opened_at}
+use Rattle.law_drill_counts.proofs.LineCounts.{LineLaws, lines_counted, open_left}
+use Rattle.law_drill_counts.proofs.OpenedDrill.{Reading, never_refused, opened_at}
 use Rattle.law_drill_counts.specs.Counts.{CountsByFormula, RespondsByFormula, drill_counts}
 
 pub counts_by_formula : Reading → LineLaws → CountsByFormula
@@ -18,7 +18,9 @@ counts_by_formula known laws n k session after counts open_lists size opens repl
     let counted = lines_counted laws n 0 n (omega arith) size.1 session after counts (opened_at known n size session k opens) replies in
     (counted.1, open_left n after open_lists size.0 counted.0 left)
 
-told : Reading → LineLaws → (n k : ℕ) (session : PlainSession) (r : PlainResponse) → IsDrillSize n → (drill_stage n).Opens session k → TellsCounts n session r → r ≡ with_line Done (counts_text n (drill_counts n) (n / 3))
+told : Reading → LineLaws → (n k : ℕ) (session : PlainSession) (r : PlainResponse) → IsDrillSize n →
+    (drill_stage n).Opens session k → TellsCounts n session r →
+    r ≡ with_line Done (counts_text n (drill_counts n) (n / 3))
 told known laws n k session r size opens tells =
     let both = counts_by_formula known laws n k session tells.after tells.counts tells.open_lists size opens tells.answers tells.left in
     tells.is_response ∙ ap (λ (c : Counts). with_line Done (counts_text n c tells.open_lists)) both.0 ∙ ap (λ k. with_line Done (counts_text n (drill_counts n) k)) both.1

@@ -1,8 +1,8 @@
-pub mod Answered
-pub mod Counting
+pub mod SectionsAnswered
+pub mod LineCounts
 pub mod Formula
 pub mod Limits
 pub mod Lines
-pub mod Opening
-pub mod Printing
+pub mod OpenedDrill
+pub mod PrintedDrill
 pub mod Steps

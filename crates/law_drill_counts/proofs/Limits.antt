@@ -7,9 +7,9 @@ use Rattle.pv_cache.specs.Accepting.{IsNarrowAt, IsWithinLimits}
 use Rattle.pv_chars.specs.Texts.{has_data}
 use Rattle.pv_chars.specs.Units.{units_in}
 use Rattle.pv_dtd.specs.Plain.{PlainDtd}
-use Rattle.pv_edit.proofs.Listing.{ListAt, at_list, inside, top}
+use Rattle.pv_edit.proofs.ListPlaces.{ListAt, at_list, inside, top}
 use Rattle.pv_edit.proofs.Sizes.{places-fit}
-use Rattle.pv_edit.proofs.Standing.{at_node}
+use Rattle.pv_edit.proofs.NodePlaces.{at_node}
 use Rattle.pv_missing.specs.Widths.{FitsVerdict, IsListForVerdict, columns_of}
 use Rattle.law_missing.specs.Documents.{tag}
 use Rattle.law_missing.specs.Dtds.{sections_dtd}

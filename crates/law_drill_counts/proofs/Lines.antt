@@ -26,10 +26,14 @@ replies_known : OneCommand → (before after : PlainSession) (line : List ℕ) (
 replies_known one before after line c told spells (unknown none r s) = absurd (none c spells)
 replies_known one before after line c told spells (known other also by) = rw (one line c other spells also) by
 
-pub replies_wrap_br : OneCommand → (before after : PlainSession) (k : ℕ) (told : Reply) → k ≤ 20000 → RepliesTo before (section_line k 0) told after → RepliesBy before (command.Edit (section_wrap k (codes "br"))) told after
+pub replies_wrap_br : OneCommand → (before after : PlainSession) (k : ℕ) (told : Reply) →
+    k ≤ 20000 → RepliesTo before (section_line k 0) told after →
+    RepliesBy before (command.Edit (section_wrap k (codes "br"))) told after
 replies_wrap_br one before after k told most r = replies_known one before after (section_line k 0) (command.Edit (section_wrap k (codes "br"))) told (wrap_spelled k (codes "br") most) r
 
-pub replies_wrap_p : OneCommand → (before after : PlainSession) (k : ℕ) (told : Reply) → k ≤ 20000 → RepliesTo before (section_line k 1) told after → RepliesBy before (command.Edit (section_wrap k (codes "p"))) told after
+pub replies_wrap_p : OneCommand → (before after : PlainSession) (k : ℕ) (told : Reply) → k ≤ 20000 →
+    RepliesTo before (section_line k 1) told after →
+    RepliesBy before (command.Edit (section_wrap k (codes "p"))) told after
 replies_wrap_p one before after k told most r = replies_known one before after (section_line k 1) (command.Edit (section_wrap k (codes "p"))) told (wrap_spelled k (codes "p") most) r
 
 pub replies_undo : OneCommand → (before after : PlainSession) (k : ℕ) (told : Reply) → RepliesTo before (section_line k 2) told after → RepliesBy before command.Undo told after

@@ -9,7 +9,7 @@ use Rattle.pv_cache.specs.Accepting.{GetsNoWorse, GetsWorse, IsWithinLimits}
 use Rattle.pv_chars.specs.Names.{is_name}
 use Rattle.pv_chars.proofs.NameLemmas.{is_name-IsName}
 use Rattle.pv_conversation.specs.Session.{done_of, reply_to}
-use Rattle.pv_edit.proofs.Leading.{given-doc}
+use Rattle.pv_edit.proofs.InverseLeads.{given-doc}
 use Rattle.pv_edit.proofs.RemarkedReasons.{marks-dont-count}
 use Rattle.pv_edit.specs.ChangedLists.{changed_lists, makes, undoes}
 use Rattle.pv_edit.specs.Laws.{unmarked_outcome}
@@ -24,7 +24,7 @@ use Rattle.pv_missing.specs.Verdicts.{HaveImpossible, is_impossible as impossibl
 use Rattle.pv_missing.proofs.Counts.{same_counts}
 use Rattle.law_missing.proofs.Sections.{proper_sections}
 use Rattle.law_missing.specs.Dtds.{sections_dtd}
-use Rattle.pv_session.proofs.Stamped.{stamped_same, unmarked_bare}
+use Rattle.pv_session.proofs.StampsAlone.{stamped_same, unmarked_bare}
 use Rattle.pv_session.proofs.Ways.{one_replay, replays_more}
 use Rattle.pv_session.proofs.Steps.{not_empty}
 use Rattle.pv_session.specs.Sessions.{PlainSession, Replays, next_move}
@@ -36,7 +36,7 @@ use Rattle.pv_tree.specs.View.{view}
 use Rattle.law_drill_tree.proofs.DtdText.{br_named, p_named}
 use Rattle.law_drill_tree.proofs.Sections.{trees-join}
 use Rattle.law_drill_tree.proofs.Verdicts.{br_impossible, br_proper, doc_possible, proper_doc}
-use Rattle.law_drill_tree.proofs.Wrapping.{nodes_around, wrap_made}
+use Rattle.law_drill_tree.proofs.WrappedSections.{nodes_around, wrap_made}
 use Rattle.law_drill_tree.specs.Sections.{Section, bare, bare_section, drill_doc, root_tree, trees, with_around, section_wrap, wrapped}
 use Rattle.law_drill_counts.proofs.Limits.{within_limits}
 
@@ -62,7 +62,9 @@ not_refused doc edit d e reason is made given =
     let both : refuses reason ≡ gives e = ap unmarked_outcome (sym given) ∙ unmarked_made doc edit d e is made in cc
 
 -- no list of a document that can be made valid is Impossible, and where none is, it can
-no_bad : NoneImpossible Unit → (doc : PlainDoc ℕ) (ts : List (Tree Unit)) → unmarked_doc doc ≡ drill_doc ts → IsProperDoc (drill_doc ts) → (n : ℕ) → HaveImpossible sections_dtd (codes "doc") (lists_of doc) n →
+no_bad : NoneImpossible Unit → (doc : PlainDoc ℕ) (ts : List (Tree Unit)) →
+    unmarked_doc doc ≡ drill_doc ts → IsProperDoc (drill_doc ts) → (n : ℕ) →
+    HaveImpossible sections_dtd (codes "doc") (lists_of doc) n →
     IsPotentiallyValid sections_dtd (codes "doc") (view (root_tree ts)) ↔ (n ≡ 0)
 no_bad none doc ts is proper n h =
     let bare = same_counts ℕ Unit impossible_verdict sections_dtd (codes "doc") doc (drill_doc ts) n (is ∙ sym (unmarked_bare (drill_doc ts))) h in
@@ -84,10 +86,14 @@ pub record Made (ts : List (Tree Unit)) (edit : Edit) (s after : PlainSession) (
 module _ (none : NoneImpossible Unit) (front back : List Section) (k i : ℕ) (place : length front ≡ i) (few : length front + length back ≤ 20000) (s : PlainSession)
     (h : At (trees front ++ bare_section k ∷ trees back) s) where
   -- the document with the text of the section in an element, which is made
-  made_around : (name : List ℕ) → is_name name ≡ true → edit_outcome tt (drill_doc (trees front ++ bare_section k ∷ trees back)) (section_wrap (suc i) name) ≡ gives (drill_doc (with_around name front k back))
+  made_around : (name : List ℕ) → is_name name ≡ true →
+      edit_outcome tt (drill_doc (trees front ++ bare_section k ∷ trees back))
+      (section_wrap (suc i) name) ≡ gives (drill_doc (with_around name front k back))
   made_around name named = wrap_made name front back k i place named
 
-  is_around : (name : List ℕ) → is_name name ≡ true → (edited : PlainDoc ℕ) → edit_outcome 0 s.doc (section_wrap (suc i) name) ≡ gives edited → unmarked_doc edited ≡ drill_doc (with_around name front k back)
+  is_around : (name : List ℕ) → is_name name ≡ true → (edited : PlainDoc ℕ) →
+      edit_outcome 0 s.doc (section_wrap (suc i) name) ≡ gives edited →
+      unmarked_doc edited ≡ drill_doc (with_around name front k back)
   is_around name named edited given = made_same s.doc edited (section_wrap (suc i) name) _ _ h.is_doc (made_around name named) given
 
   around_within : (name : List ℕ) (edited : PlainDoc ℕ) → unmarked_doc edited ≡ drill_doc (with_around name front k back) → (paths : List (List ℕ)) → IsWithinLimits s.dtd edited paths
@@ -140,7 +146,10 @@ module _ (none : NoneImpossible Unit) (front back : List Section) (k i : ℕ) (p
       let edit = section_wrap (suc i) (codes "p") in
       let same = is_around (codes "p") (is_name-IsName (codes "p") p_named) edited acc.is_edited in
       let stamped = ap (λ (t : PlainSession). unmarked_doc t.doc) is ∙ stamped_same (next_move s.moves) (changed_lists (makes edit)) edited in
-      let made : edit_outcome tt (unmarked_doc s.doc) edit ≡ gives (drill_doc (with_around (codes "p") front k back)) = ap (λ x. edit_outcome tt x edit) h.is_doc ∙ made_around (codes "p") (is_name-IsName (codes "p") p_named) in
+      let made : edit_outcome tt (unmarked_doc s.doc) edit
+      ≡ gives (drill_doc (with_around (codes "p") front k back)) =
+      ap (λ x. edit_outcome tt x edit) h.is_doc ∙ made_around (codes "p")
+      (is_name-IsName (codes "p") p_named) in
       let opened = ap (λ (t : PlainSession). t.opened) is in
       let past = ap (λ (t : PlainSession). t.past) is in
       record {
@@ -167,7 +176,9 @@ module _ (none : NoneImpossible Unit) (front back : List Section) (k i : ℕ) (p
   p_made after answer (refused refusal.NoMemory none told is) = let z : None ≡ Some answer = told in absurd cc
 
 -- The edit that was made last is undone.
-pub undone_at : (ts now : List (Tree Unit)) (edit : Edit) (s w after : PlainSession) (answer made : PlainAnswer) → length (changed_lists (undoes edit)) ≡ 1 → At ts s → Made now edit s w made → IsUndoStep w answer after →
+pub undone_at : (ts now : List (Tree Unit)) (edit : Edit) (s w after : PlainSession)
+    (answer made : PlainAnswer) → length (changed_lists (undoes edit)) ≡ 1 → At ts s →
+    Made now edit s w made → IsUndoStep w answer after →
     At ts after × ((left : ℕ) × (bad : ℕ) × (answer ≡ is_done 1 left bad))
 undone_at ts now edit s w after answer made one h m (undone other past doc left bad e replays same is has also ans) =
     let last = same_from_push past s.past other edit (sym e ∙ m.past) in

@@ -15,7 +15,9 @@ use Rattle.pv_drill.specs.Drill.{DRILL_DTD}
 use Rattle.law_missing.specs.Dtds.{sections_dtd}
 
 -- names in ASCII
-pub name_of : (first : ℕ) (others : List ℕ) → is_name_start first ≡ true → list_all is_name_char others ≡ true → first ∷ others ≡ encode first ++ others → others ≡ encodes others → IsName (first ∷ others)
+pub name_of : (first : ℕ) (others : List ℕ) → is_name_start first ≡ true →
+    list_all is_name_char others ≡ true → first ∷ others ≡ encode first ++ others →
+    others ≡ encodes others → IsName (first ∷ others)
 name_of first others start chars whole spelled =
     record { first = first; others = others; is_start = start; are_name_chars = record { codes = others; pass = chars; spelled = spelled }; whole = whole }
 
@@ -127,7 +129,30 @@ sec_spelled = (
 )
 
 list_spelled : SpellsModel list_named_model (codes "(item, item+)")
-list_spelled = (tt, ([], codes "item", codes ", item+", [], refl, (item_named, refl), ([], codes " ", codes "item+", [], refl, refl, (codes "item", tt, (item_named, refl), refl), refl, refl), refl, refl))
+list_spelled = (
+  tt,
+  (
+    [],
+    codes "item",
+    codes ", item+",
+    [],
+    refl,
+    (item_named, refl),
+    (
+      [],
+      codes " ",
+      codes "item+",
+      [],
+      refl,
+      refl,
+      (codes "item", tt, (item_named, refl), refl),
+      refl,
+      refl,
+    ),
+    refl,
+    refl,
+  ),
+)
 
 item_spelled : SpellsModel item_named_model (codes "(p+)")
 item_spelled = (tt, ([], codes "p+", [], [], refl, (codes "p", tt, (p_named, refl), refl), refl, refl, refl))
@@ -136,7 +161,24 @@ data_spelled : SpellsModel (mixed []) (codes "(#PCDATA)")
 data_spelled = inr (refl, record { before = []; listed = []; after = []; space_before = refl; names_listed = refl; space_after = refl; whole = refl })
 
 p_spelled : SpellsModel (mixed (codes "em" ∷ codes "br" ∷ [])) (codes "(#PCDATA|em|br)*")
-p_spelled = inl (record { before = []; listed = codes "|em|br"; after = []; space_before = refl; names_listed = ([], [], codes "|br", refl, refl, em_named, ([], [], [], refl, refl, br_named, refl, refl), refl); space_after = refl; whole = refl })
+p_spelled = inl (record {
+  before = [];
+  listed = codes "|em|br";
+  after = [];
+  space_before = refl;
+  names_listed = (
+    [],
+    [],
+    codes "|br",
+    refl,
+    refl,
+    em_named,
+    ([], [], [], refl, refl, br_named, refl, refl),
+    refl,
+  );
+  space_after = refl;
+  whole = refl;
+})
 
 em_spelled : SpellsModel (mixed (codes "em" ∷ [])) (codes "(#PCDATA|em)*")
 em_spelled = inl (record { before = []; listed = codes "|em"; after = []; space_before = refl; names_listed = ([], [], [], refl, refl, em_named, refl, refl); space_after = refl; whole = refl })

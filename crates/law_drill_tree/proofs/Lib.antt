@@ -1,7 +1,7 @@
 -- for other crates:
 pub mod Sections
 pub mod Verdicts
-pub mod Wrapping
+pub mod WrappedSections
 pub mod DtdText
 -- of this crate:
 pub mod DocumentText

@@ -184,7 +184,9 @@ br_dead path k l =
     let m : model_of sections_dtd l.number ≡ Some empty = rw e refl in
     let z = l.no_kids m in cc
 
-br_among : (path : List ℕ) (i : ℕ) (front : List Section) (k : ℕ) (back : List Section) → AllByRecursion (IsLive sections_dtd (codes "doc")) (lists_from path i (forest_of (with_around (codes "br") front k back))) → ⊥
+br_among : (path : List ℕ) (i : ℕ) (front : List Section) (k : ℕ) (back : List Section) →
+    AllByRecursion (IsLive sections_dtd (codes "doc")) (lists_from path i
+    (forest_of (with_around (codes "br") front k back))) → ⊥
 br_among path i [] k back all = br_dead ((path ++ i ∷ []) ++ 0 ∷ []) k all.1.0
 br_among path i (bare j ∷ front) k back all = br_among path (suc i) front k back all.1
 br_among path i (wrapped j ∷ front) k back all = br_among path (suc i) front k back all.1.1

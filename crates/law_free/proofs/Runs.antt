@@ -6,7 +6,8 @@ use Rattle.pv_model.specs.Plain.{PlainPart, PlainParts, PlainToken, children, em
 use Rattle.pv_dtd.specs.Plain.{PlainDtd, model_of, parts_in}
 use Rattle.pv_rules.specs.Derivations.{by_rule}
 use Rattle.pv_rules.specs.Numbering.{first_part, part_at, rest_at}
-use Rattle.pv_rules.specs.Rules.{any_name, any_none, any_text, children_part, empty_none, missing, mixed_name, mixed_none, mixed_text, opt_one, part_choice, part_name, part_seq, plus_more, plus_one, rest_last, rest_then, star_more, star_none}
+use Rattle.pv_rules.specs.Rules.{any_name, any_none, any_text, children_part, empty_none, missing, mixed_name, mixed_none, mixed_text, opt_one}
+use Rattle.pv_rules.specs.Rules.{part_choice, part_name, part_seq, plus_more, plus_one, rest_last, rest_then, star_more, star_none}
 use Rattle.pv_rules.specs.Sites.{PlainSite, content_site, name_site, part_site, rest_site}
 use Rattle.pv_rules.proofs.Spans.{over_spans}
 use Rattle.pv_rules.specs.Deriving.{DerivesAt}
@@ -14,8 +15,10 @@ use Rattle.law_free.specs.Free.{IsFree, free_any, free_children, free_choice, fr
 use Rattle.law_free.specs.Laws.{FreeDerivesTaken, FreeFurthest}
 use Rattle.law_free.specs.Live.{AreLive}
 use Rattle.law_free.specs.Runs.{IsFirstNotTaken, IsFurthestEnd}
-use Rattle.law_free.specs.Takes.{Takes, TakesAll, TakesEach, takes_any_name, takes_any_text, takes_children, takes_choice, takes_first, takes_kept, takes_last, takes_later, takes_missing, takes_mixed_name, takes_mixed_text, takes_opt, takes_part, takes_plus, takes_seq, takes_star}
-use Rattle.law_free.proofs.Deriving.{live_derives, none, one, takes_derives, two}
+use Rattle.law_free.specs.Takes.{Takes, TakesAll, TakesEach, takes_any_name, takes_any_text, takes_children, takes_choice, takes_first, takes_kept}
+use Rattle.law_free.specs.Takes.{takes_last, takes_later, takes_missing, takes_mixed_name, takes_mixed_text, takes_opt, takes_part, takes_plus}
+use Rattle.law_free.specs.Takes.{takes_seq, takes_star}
+use Rattle.law_free.proofs.ShortDerivations.{live_derives, none, one, takes_derives, two}
 use Rattle.law_free.proofs.Taken.{derived_are_taken}
 
 -- the token at a place within the word

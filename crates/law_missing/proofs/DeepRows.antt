@@ -148,7 +148,28 @@ letter_misses_p_law = needs sections_dtd (codes "doc") proper_sections letter (v
     )
   where
     letter_units : HasUnits letter
-    letter_units = ((λ e. absurd cc), (((λ e. absurd cc), tt), ((λ e. absurd cc), (((λ e. absurd cc), (tt, ((λ e. absurd cc), ((((λ e. absurd cc), tt)), ((λ e. absurd cc), (tt, ((λ e. absurd cc), tt))))))), ((λ e. absurd cc), (tt, ((λ e. absurd cc), tt)))))))
+    letter_units = (
+      (λ e. absurd cc),
+      (
+        ((λ e. absurd cc), tt),
+        (
+          (λ e. absurd cc),
+          (
+            (
+              (λ e. absurd cc),
+              (
+                tt,
+                (
+                  (λ e. absurd cc),
+                  ((((λ e. absurd cc), tt)), ((λ e. absurd cc), (tt, ((λ e. absurd cc), tt)))),
+                ),
+              ),
+            ),
+            ((λ e. absurd cc), (tt, ((λ e. absurd cc), tt))),
+          ),
+        ),
+      ),
+    )
 
     letter_allowed : Allows 9 (mixed (5 ∷ 6 ∷ [])) (text ∷ text ∷ text ∷ named 5 ∷ text ∷ named 6 ∷ [])
     letter_allowed = (tt, (tt, (tt, ((0, omega arith, refl), (tt, ((1, omega arith, refl), tt))))))
@@ -177,7 +198,15 @@ completed_letter_law = needs sections_dtd (codes "doc") proper_sections complete
             0,
             refl,
             valid_row sections_dtd (codes "doc") _
-                (record { number = 2; is_owner = refl; model = sec_model; is_model = refl; no_kids = λ z. absurd cc; allowed = sec_title_paragraphs }) sec_name (title_name, (p_name, (p_name, (tt, tt)))),
+                (record {
+                  number = 2;
+                  is_owner = refl;
+                  model = sec_model;
+                  is_model = refl;
+                  no_kids = λ z. absurd cc;
+                  allowed = sec_title_paragraphs;
+                }) sec_name
+                (title_name, (p_name, (p_name, (tt, tt)))),
             (
               0,
               0,
@@ -215,4 +244,22 @@ completed_letter_law = needs sections_dtd (codes "doc") proper_sections complete
     )
   where
     completed_units : HasUnits completed_letter
-    completed_units = ((λ e. absurd cc), (((λ e. absurd cc), tt), ((λ e. absurd cc), ((((λ e. absurd cc), tt), (((λ e. absurd cc), (tt, ((λ e. absurd cc), tt))), ((((λ e. absurd cc), tt), ((λ e. absurd cc), (tt, tt))), ((λ e. absurd cc), tt)))), ((λ e. absurd cc), (tt, ((λ e. absurd cc), tt)))))))
+    completed_units = (
+      (λ e. absurd cc),
+      (
+        ((λ e. absurd cc), tt),
+        (
+          (λ e. absurd cc),
+          (
+            (
+              ((λ e. absurd cc), tt),
+              (
+                ((λ e. absurd cc), (tt, ((λ e. absurd cc), tt))),
+                ((((λ e. absurd cc), tt), ((λ e. absurd cc), (tt, tt))), ((λ e. absurd cc), tt)),
+              ),
+            ),
+            ((λ e. absurd cc), (tt, ((λ e. absurd cc), tt))),
+          ),
+        ),
+      ),
+    )

@@ -15,7 +15,7 @@ use Rattle.law_missing.specs.Dtds.{endless_dtd, nested_dtd}
 use Rattle.law_missing.specs.Rows.{EndlessRow, NestedRow}
 use Rattle.law_missing.proofs.Bounds.{gained, opened, worth}
 use Rattle.pv_missing.proofs.DocLists.{live_misses_by}
-use Rattle.pv_missing.proofs.Growing.{empty_join}
+use Rattle.pv_missing.proofs.CoversToInsertions.{empty_join}
 use Rattle.pv_missing.proofs.OneList.{covered_by_productive}
 use Rattle.pv_dtd.proofs.Proper.{proper_dtd}
 use Rattle.law_missing.proofs.RowTools.{ListRow, alone_productive, impossible_at, needs, new_before, possible_row, possible_with, valid_row}

@@ -7,9 +7,9 @@ use Rattle.pv_dtd.specs.Plain.{model_of}
 use Rattle.pv_missing.specs.Covering.{Covers, IsPossibleRootWith, IsPossibleWith}
 use Rattle.law_missing.specs.Dtds.{doc_model, item_model, list_model, sec_model, sections_dtd}
 use Rattle.law_missing.proofs.Bounds.{AreTexts, IsModelOf, IsTokenOf, NameCase, Opened, covered_of, gained, is_kept, is_new, mixed_texts, name_case, no_worth, opened, texts_same, worth, zero_same}
-use Rattle.pv_missing.proofs.Growing.{covers-none, empty_join}
+use Rattle.pv_missing.proofs.CoversToInsertions.{covers-none, empty_join}
 use Rattle.law_missing.proofs.Sections.{IsParagraphOrList, SecWords, doc_words, no_title, sec_words, with_title}
-use Rattle.pv_missing.proofs.Spanned.{all_at}
+use Rattle.pv_missing.proofs.SpanDerivations.{all_at}
 
 -- a missing head holds texts alone, and so nothing of a word that begins with a name
 head_texts : (a : ℕ) (m : PlainModel) (v w1 : List PlainToken) → model_of sections_dtd 1 ≡ Some m → Allows 9 m v → Covers sections_dtd a v w1 → AreTexts w1
@@ -145,7 +145,9 @@ all_secs (y ∷ b) a = (omega (arith, a.0), all_secs b a.1)
 
 pub no_late_head : (n : ℕ) → IsPossibleWith sections_dtd 0 n (named 2 ∷ named 1 ∷ []) → ⊥
 no_late_head n p =
-    let l = doc_bound n 2 (named 1 ∷ []) (λ e. omega (arith, e)) p n (λ b a j c. absurd (let q = covered_of (λ x. 2 ≤ x) sections_dtd after_head j (map named b) (named 2 ∷ named 1 ∷ []) c (all_secs b a) in
+    let l = doc_bound n 2 (named 1 ∷ []) (λ e. omega (arith, e)) p n (λ b a j c. absurd
+    (let q = covered_of (λ x. 2 ≤ x) sections_dtd after_head j (map named b)
+    (named 2 ∷ named 1 ∷ []) c (all_secs b a) in
     let z = q.1.0 in omega (arith, z))) in
     omega (arith, l)
 

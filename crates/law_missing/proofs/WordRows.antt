@@ -5,7 +5,7 @@ use Rattle.pv_missing.specs.Covering.{IsPossibleWith, cover_none}
 use Rattle.law_missing.specs.Dtds.{any_dtd, endless_dtd, nested_dtd, sections_dtd}
 use Rattle.law_missing.specs.Rows.{NumbersRow, OtherWords, SectionWords}
 use Rattle.law_missing.proofs.Bounds.{opened}
-use Rattle.pv_missing.proofs.Growing.{covers-none}
+use Rattle.pv_missing.proofs.CoversToInsertions.{covers-none}
 use Rattle.law_missing.proofs.AnyRows.{other_never}
 use Rattle.pv_missing.proofs.PossibleWords.{depths}
 use Rattle.law_missing.proofs.NestedRows.{endless_word, three_word}

@@ -1,12 +1,12 @@
 -- for other crates:
 pub mod OneDrill
 -- of this crate:
-pub mod Accepting
+pub mod VerifiedPacks
 pub mod AnnotationCauses
 pub mod Causes
 pub mod CertificateCauses
 pub mod DenialCauses
-pub mod Denying
+pub mod JudgedDenials
 pub mod Faults
 pub mod OneAnnotation
 pub mod OneCheck

@@ -1,6 +1,6 @@
-pub mod Bounding
-pub mod Closed
-pub mod Cutting
+pub mod ListBounds
+pub mod ClosedFronts
+pub mod LevelCuts
 pub mod Leasts
 pub mod Stretches
 pub mod Told

@@ -38,7 +38,7 @@ fn kept_holds(claim: &Claim<'_>, column: u32, id: NameId, place: u32) -> bool
         || claim.fronts.cost(column, place, place + 1) == 0
 }
 
-// Whether some columns cost nothing where their elements are there.
+// Whether a column costs no more at a place than each of some columns.
 fn members_hold(claim: &Claim<'_>, column: u32, members: &[u32], place: u32) -> bool
     ensures { IsTrue result → (d : ℕ) → IsOneOf d members.now →
         CostsNoMore (map plain_token claim.now.word.now)

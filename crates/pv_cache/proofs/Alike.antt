@@ -18,8 +18,8 @@ use Rattle.pv_edit.specs.declared.edits.Edit.TheVariants.{AddText, DelText, Inse
 use Rattle.pv_edit.specs.declared.edits.Edit.TheVariants.{SetText, Split, Unwrap, Wrap}
 use Rattle.pv_edit.specs.declared.inverses.Inverse.{Inverse}
 use Rattle.pv_edit.specs.declared.reasons.Reason.{Reason}
-use Rattle.pv_edit.proofs.Remarked.{back-as, change_as, forest-as, node-as, root-as, spot-as}
-use Rattle.pv_edit.proofs.Remarked.{spot_as, trees-as, units-as}
+use Rattle.pv_edit.proofs.RemarkedChanges.{back-as, change_as, forest-as, node-as, root-as, spot-as}
+use Rattle.pv_edit.proofs.RemarkedChanges.{spot_as, trees-as, units-as}
 use Rattle.pv_edit.proofs.RemarkedReasons.{reason-as}
 use Rattle.pv_edit.specs.Inverses.{name_on}
 use Rattle.pv_missing.specs.Verdicts.{HaveCount, IsLiveBy, is_impossible}

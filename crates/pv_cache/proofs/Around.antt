@@ -2,7 +2,7 @@
 use Rattle.std.proofs.Common.{◌≡◌, ap, sym, refl, ℕ, zero, suc, ◌+◌, List, [], ◌∷◌, arith}
 use Rattle.pv_dtd.specs.Plain.{PlainDtd}
 use Rattle.pv_edit.specs.Changes.{change_kid, change_below}
-use Rattle.pv_edit.proofs.Standing.{KidAt, first, later, NodeAt, here, down}
+use Rattle.pv_edit.proofs.NodePlaces.{KidAt, first, later, NodeAt, here, down}
 use Rattle.pv_missing.proofs.VerdictHeads.{same_word, verdict_by_heads}
 use Rattle.pv_tree.specs.Heads.{head_of, heads_of}
 use Rattle.pv_tree.specs.Lists.{Owner, an_element}
@@ -11,7 +11,7 @@ use Rattle.pv_tree.specs.declared.nodes.Mark.{Mark}
 use Rattle.pv_cache.specs.WellMarked.{EachList, EachListIn, TellsList, told_left, told_left_in}
 use Rattle.pv_cache.specs.WellMarked.{told_nodes, told_nodes_in}
 use Rattle.pv_cache.specs.Mending.{count_again, mend_below}
-use Rattle.pv_cache.proofs.Marking.{kid-has}
+use Rattle.pv_cache.proofs.NodeLists.{kid-has}
 
 -- two trees that look alike in a list, and tell the same numbers
 pub record ShowsSame (t u : Tree Mark) : Type 0 where

@@ -10,9 +10,9 @@ use Rattle.pv_edit.specs.Changes.{Change, Filling, around, named, others, inner 
 use Rattle.pv_edit.specs.Changes.{change_below, first_tree, in_place_of, list_after, owner_after}
 use Rattle.pv_edit.specs.Changes.{root_after}
 use Rattle.pv_edit.specs.Inverses.{name_on}
-use Rattle.pv_edit.proofs.Cutting.{front-length}
-use Rattle.pv_edit.proofs.Standing.{first, NodeAt, down, at_node}
-use Rattle.pv_edit.proofs.Staying.{HaveNoKids}
+use Rattle.pv_edit.proofs.CutParts.{front-length}
+use Rattle.pv_edit.proofs.NodePlaces.{first, NodeAt, down, at_node}
+use Rattle.pv_edit.proofs.StayingLists.{HaveNoKids}
 use Rattle.pv_edit.proofs.Whole.{whole, Made, owner-kids, top-kids}
 use Rattle.pv_edit.proofs.KeptBack.{can-made}
 use Rattle.pv_edit.specs.Reasons.{kids_at}
@@ -30,9 +30,9 @@ use Rattle.pv_cache.specs.declared.mending.InnerVerdict.{InnerVerdict}
 use Rattle.pv_cache.specs.WellMarked.{EachListIn, IsWellMarked, TellsList}
 use Rattle.pv_cache.proofs.Around.{ShowsSame, ShowSame, below-shows, changed-around, around-node}
 use Rattle.pv_cache.proofs.Around.{below-head, mended-around, tells-again, tells-same}
-use Rattle.pv_cache.proofs.Marking.{node-has}
-use Rattle.pv_cache.proofs.Telling.{doc-bad, doc-left, doc-narrow, doc-nodes, doc-told}
-use Rattle.pv_cache.proofs.Owning.{fresh-tells, kids-heads, list-marked, owner-marked}
+use Rattle.pv_cache.proofs.NodeLists.{node-has}
+use Rattle.pv_cache.proofs.TreeMarks.{doc-bad, doc-left, doc-narrow, doc-nodes, doc-told}
+use Rattle.pv_cache.proofs.ChangedOwner.{fresh-tells, kids-heads, list-marked, owner-marked}
 
 pub in-root : {M : Type 0} {m : M} {path : List ℕ} {root u : Tree M} →
     NodeAt (zero ∷ path) (whole m root) u → NodeAt path root u

@@ -8,7 +8,7 @@ use Rattle.pv_cache.specs.Rows.{TellVerdicts}
 use Rattle.pv_cache.specs.Stamps.{stamp_of, stamped_doc_of}
 use Rattle.pv_cache.specs.WellMarked.{EachList, EachListIn, IsWellMarked, TellsList, verdicts_told}
 use Rattle.pv_cache.proofs.ListMarks.{have_to}
-use Rattle.pv_cache.proofs.Telling.{doc-told}
+use Rattle.pv_cache.proofs.TreeMarks.{doc-told}
 use Rattle.pv_dtd.specs.Plain.{PlainDtd}
 use Rattle.pv_missing.specs.Verdicts.{HaveVerdicts, IsFirstImpossible, IsLive, IsVerdict}
 use Rattle.pv_missing.specs.Verdicts.{PlainVerdicts}

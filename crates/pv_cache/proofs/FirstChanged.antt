@@ -16,7 +16,7 @@ use Rattle.pv_edit.specs.Changes.{owner_after, root_after}
 use Rattle.pv_edit.specs.Inverses.{name_on}
 use Rattle.pv_edit.proofs.KeptBack.{can-made}
 use Rattle.pv_edit.proofs.Levels.{forest-trees}
-use Rattle.pv_edit.proofs.Standing.{at_node}
+use Rattle.pv_edit.proofs.NodePlaces.{at_node}
 use Rattle.pv_edit.proofs.Whole.{Made}
 use Rattle.pv_missing.specs.Verdicts.{IsLiveBy}
 use Rattle.pv_missing.proofs.VerdictLists.{live_of}

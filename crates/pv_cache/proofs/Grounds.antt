@@ -32,13 +32,13 @@ use Rattle.pv_cache.specs.Mending.{mend_doc}
 use Rattle.pv_cache.specs.Moves.{HasGround}
 use Rattle.pv_cache.specs.WellMarked.{IsWellMarked, told_bad, verdicts_told}
 use Rattle.pv_cache.specs.declared.mending.InnerVerdict.{InnerVerdict}
-use Rattle.pv_cache.proofs.Counting.{mended-counted}
+use Rattle.pv_cache.proofs.ImpossibleCounts.{mended-counted}
 use Rattle.pv_cache.proofs.Docs.{mended-marked}
 use Rattle.pv_cache.proofs.FirstChanged.{first-is-first}
 use Rattle.pv_cache.proofs.Limits.{narrow_paths, paths_narrow}
 use Rattle.pv_cache.proofs.Tasks.{judged-narrow}
-use Rattle.pv_cache.proofs.Telling.{doc-bad, doc-left, doc-narrow, doc-told}
-use Rattle.pv_cache.proofs.Unmarked.{doc-as}
+use Rattle.pv_cache.proofs.TreeMarks.{doc-bad, doc-left, doc-narrow, doc-told}
+use Rattle.pv_cache.proofs.MarksAlone.{doc-as}
 
 module _ (g : PlainDtd) (root : List ℕ) where
   -- ---- a well marked document

@@ -7,7 +7,7 @@ use Rattle.pv_edit.specs.Changes.{Change, doc_after, list_after}
 use Rattle.pv_edit.specs.Fitting.{CanChange}
 use Rattle.pv_edit.specs.Reasons.{is_top, items_of, kids_at}
 use Rattle.pv_edit.proofs.KeptBack.{can-made}
-use Rattle.pv_edit.proofs.Remarked.{forest-as}
+use Rattle.pv_edit.proofs.RemarkedChanges.{forest-as}
 use Rattle.pv_edit.proofs.Whole.{owner-kids}
 use Rattle.pv_missing.proofs.VerdictHeads.{same_word}
 use Rattle.pv_missing.specs.WordVerdicts.{has_no_trees}
@@ -26,7 +26,7 @@ use Rattle.pv_cache.specs.declared.words.ListTokens.{ListTokens}
 use Rattle.pv_cache.proofs.Alike.{list_at_as}
 use Rattle.pv_cache.proofs.Limits.{list_stands}
 use Rattle.pv_cache.proofs.OtherMarks.{heads_as}
-use Rattle.pv_cache.proofs.Unmarked.{doc-as}
+use Rattle.pv_cache.proofs.MarksAlone.{doc-as}
 
 same-bare : (a b : Forest Mark) → heads_of a ≡ heads_of b → has_no_trees a ≡ has_no_trees b
 same-bare no_trees no_trees e = refl

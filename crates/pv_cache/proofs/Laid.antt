@@ -21,8 +21,8 @@ use Rattle.pv_cache.specs.Stamps.{doc_as, stamps_of}
 use Rattle.pv_cache.specs.WellMarked.{EachList, EachListIn, IsWellMarked, TellsList}
 use Rattle.pv_cache.specs.Accepting.{MAX_EDITED_NODES}
 use Rattle.pv_cache.proofs.OtherMarks.{nodes_unmarked}
-use Rattle.pv_cache.proofs.Owning.{fresh-tells}
-use Rattle.pv_cache.proofs.Unmarked.{all_without_marks}
+use Rattle.pv_cache.proofs.ChangedOwner.{fresh-tells}
+use Rattle.pv_cache.proofs.MarksAlone.{all_without_marks}
 
 laid_head : (vs : List Verdict) (at : ℕ) (t : Tree Mark) → head_of (lay_node vs at t) ≡ head_of t
 laid_head vs at (element x a e ks m) = refl

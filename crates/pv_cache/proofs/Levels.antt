@@ -8,7 +8,7 @@ use Rattle.std.proofs.lemmas.Option.{slice_get-map, slice_get_within, get_or_fro
 use Rattle.pv_edit.specs.Changes.{change_below, change_kid}
 use Rattle.pv_edit.specs.Fitting.{with_kids}
 use Rattle.pv_edit.proofs.Levels.{first_changed, path-split, put_back}
-use Rattle.pv_edit.proofs.Standing.{KidAt, first, later, kid_at}
+use Rattle.pv_edit.proofs.NodePlaces.{KidAt, first, later, kid_at}
 use Rattle.pv_tree.specs.Places.{kids_of}
 use Rattle.pv_tree.specs.Plain.{Forest, Tree, cdata_node, element, is_element, misc_node, text_node}
 use Rattle.pv_tree.specs.Plain.{trees_of}

@@ -10,9 +10,9 @@ use Rattle.pv_edit.specs.Changes.{in_place_of, inner, list_after, named, others,
 use Rattle.pv_edit.specs.Changes.{root_after, with_name}
 use Rattle.pv_edit.specs.Fitting.{CanFill}
 use Rattle.pv_edit.specs.Reasons.{is_one_element, items_of, kids_at}
-use Rattle.pv_edit.proofs.Cutting.{front-length}
-use Rattle.pv_edit.proofs.Listing.{spot-kid}
-use Rattle.pv_edit.proofs.Standing.{KidAt, NodeAt, at_node, down, first, here, later}
+use Rattle.pv_edit.proofs.CutParts.{front-length}
+use Rattle.pv_edit.proofs.ListPlaces.{spot-kid}
+use Rattle.pv_edit.proofs.NodePlaces.{KidAt, NodeAt, at_node, down, first, here, later}
 use Rattle.pv_edit.proofs.Whole.{Made, owner-kids, top-kids}
 use Rattle.pv_missing.specs.Widths.{FitsVerdict}
 use Rattle.pv_tree.specs.Places.{list_at, list_of, node_below, spot_at}

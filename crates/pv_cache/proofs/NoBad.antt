@@ -13,7 +13,7 @@ use Rattle.pv_cache.specs.Laying.{lay_doc}
 use Rattle.pv_cache.specs.WellMarked.{IsWellMarked, own_bad, told_bad}
 use Rattle.pv_cache.proofs.Grounds.{bad_of}
 use Rattle.pv_cache.proofs.Laid.{laid_same}
-use Rattle.pv_cache.proofs.Telling.{bad-first}
+use Rattle.pv_cache.proofs.TreeMarks.{bad-first}
 
 live-own : (v : Verdict) (live own : Type 0) → Judges v live own → live → own_bad v ≡ 0
 live-own verdict.Valid live own j l = omega arith

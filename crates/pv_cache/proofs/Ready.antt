@@ -16,9 +16,9 @@ use Rattle.pv_edit.specs.Changes.{root_after}
 use Rattle.pv_edit.specs.Fitting.{CanChange}
 use Rattle.pv_edit.specs.Inverses.{IsKept}
 use Rattle.pv_edit.specs.Reasons.{is_top, kids_at}
-use Rattle.pv_edit.proofs.Cutting.{front-length}
+use Rattle.pv_edit.proofs.CutParts.{front-length}
 use Rattle.pv_edit.proofs.KeptBack.{can-made}
-use Rattle.pv_edit.proofs.Standing.{at_kid, at_node}
+use Rattle.pv_edit.proofs.NodePlaces.{at_kid, at_node}
 use Rattle.pv_edit.proofs.Whole.{Made, owner-kids}
 use Rattle.pv_tree.specs.Legal.{MAX_NODES}
 use Rattle.pv_tree.specs.Places.{kids_of}
@@ -37,10 +37,10 @@ use Rattle.pv_cache.specs.declared.mending.InnerVerdict.{InnerVerdict}
 use Rattle.pv_cache.proofs.Around.{Around, below-shows, beside-kid, changed-around, further}
 use Rattle.pv_cache.proofs.Around.{right-here}
 use Rattle.pv_cache.proofs.Docs.{in-root, mended-marked, owner-shows}
-use Rattle.pv_cache.proofs.Exchanging.{owner-tells}
-use Rattle.pv_cache.proofs.Marking.{node-has}
-use Rattle.pv_cache.proofs.Telling.{doc-nodes, left-within, nodes-told, own-small}
-use Rattle.pv_cache.proofs.Unmarked.{doc-as, still-kept}
+use Rattle.pv_cache.proofs.ExchangedKids.{owner-tells}
+use Rattle.pv_cache.proofs.NodeLists.{node-has}
+use Rattle.pv_cache.proofs.TreeMarks.{doc-nodes, left-within, nodes-told, own-small}
+use Rattle.pv_cache.proofs.MarksAlone.{doc-as, still-kept}
 
 -- that a document can be mended is a proposition
 no-prop : IsProp ⊥

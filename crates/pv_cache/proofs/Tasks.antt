@@ -11,7 +11,7 @@ use Rattle.pv_edit.specs.Fitting.{CanChange, SuitsChange}
 use Rattle.pv_edit.specs.Reasons.{is_given, is_top, kids_at, lacks_list}
 use Rattle.pv_edit.proofs.KeptBack.{can-made}
 use Rattle.pv_edit.proofs.Levels.{forest-trees}
-use Rattle.pv_edit.proofs.Standing.{KidAt, NodeAt, at_node, down, first, here, later}
+use Rattle.pv_edit.proofs.NodePlaces.{KidAt, NodeAt, at_node, down, first, here, later}
 use Rattle.pv_edit.proofs.Whole.{Made, list-whole, owner-kids}
 use Rattle.pv_edit.specs.declared.answers.EditAnswer.TheVariants.{Impossible}
 use Rattle.pv_missing.specs.Weighing.{site_of}

@@ -8,8 +8,8 @@ use Rattle.pv_dtd.specs.Plain.{PlainDtd}
 use Rattle.pv_edit.specs.Inverses.{name_on}
 use Rattle.pv_edit.specs.declared.answers.VerdictRow.{VerdictRow}
 use Rattle.pv_edit.proofs.Levels.{forest-trees}
-use Rattle.pv_edit.proofs.Remarked.{forest-as, node-as}
-use Rattle.pv_edit.proofs.Standing.{NodeAt, at_node, node_at}
+use Rattle.pv_edit.proofs.RemarkedChanges.{forest-as, node-as}
+use Rattle.pv_edit.proofs.NodePlaces.{NodeAt, at_node, node_at}
 use Rattle.pv_missing.specs.Verdicts.{AreVerdicts, IsVerdict}
 use Rattle.pv_missing.proofs.VerdictHeads.{verdict_by_heads}
 use Rattle.pv_tree.specs.Lists.{Owner, an_element, lists_at, lists_from, lists_of, the_document}
@@ -29,9 +29,9 @@ use Rattle.pv_cache.specs.WellMarked.{told_verdicts_in, verdicts_told}
 use Rattle.pv_cache.proofs.Alike.{list_at_as}
 use Rattle.pv_cache.proofs.Limits.{spot_list}
 use Rattle.pv_cache.proofs.ListMarks.{verdicts_to}
-use Rattle.pv_cache.proofs.Marking.{node-has}
+use Rattle.pv_cache.proofs.NodeLists.{node-has}
 use Rattle.pv_cache.proofs.OtherMarks.{heads_as}
-use Rattle.pv_cache.proofs.Telling.{doc-told}
+use Rattle.pv_cache.proofs.TreeMarks.{doc-told}
 
 module _ (g : PlainDtd) (root : List ℕ) (doc : PlainDoc Mark)
     (w : ∥ IsWellMarked g root doc ∥₁) where

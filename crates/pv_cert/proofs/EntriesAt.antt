@@ -27,14 +27,18 @@ no-to bytes n behind before none from to value rest s =
     let same = one-number-before bytes n from behind (decimal to ++ (32 ∷ (decimal value ++ (10 ∷ rest)))) before (from-before bytes from to value rest s) in
     none to (decimal value ++ (10 ∷ rest)) record { within = s.is_to; whole = same.rests }
 
-pub no-value : (bytes : List ℕ) (n : ℕ) (behind : List ℕ) (m : ℕ) (more : List ℕ) → IsNumberBefore bytes n behind → IsNumberBefore behind m more → ((v : ℕ) (rest : List ℕ) → IsNumberThen 10 more v rest → ⊥) →
+pub no-value : (bytes : List ℕ) (n : ℕ) (behind : List ℕ) (m : ℕ) (more : List ℕ) →
+    IsNumberBefore bytes n behind → IsNumberBefore behind m more → ((v : ℕ) (rest : List ℕ) →
+    IsNumberThen 10 more v rest → ⊥) →
     (from to value : ℕ) (rest : List ℕ) → IsSpanThen bytes from to value rest → ⊥
 no-value bytes n behind m more before next none from to value rest s =
     let same = one-number-before bytes n from behind (decimal to ++ (32 ∷ (decimal value ++ (10 ∷ rest)))) before (from-before bytes from to value rest s) in
     let later = one-number-before behind m to more (decimal value ++ (10 ∷ rest)) next record { within = s.is_to; whole = same.rests } in
     none value rest record { within = s.is_value; whole = later.rests }
 
-pub span-then : (bytes : List ℕ) (n : ℕ) (behind : List ℕ) (m : ℕ) (more : List ℕ) (v : ℕ) (rest : List ℕ) → IsNumberBefore bytes n behind → IsNumberBefore behind m more → IsNumberThen 10 more v rest → IsSpanThen bytes n m v rest
+pub span-then : (bytes : List ℕ) (n : ℕ) (behind : List ℕ) (m : ℕ) (more : List ℕ) (v : ℕ)
+    (rest : List ℕ) → IsNumberBefore bytes n behind → IsNumberBefore behind m more →
+    IsNumberThen 10 more v rest → IsSpanThen bytes n m v rest
 span-then bytes n behind m more v rest before next last = record {
   is_from = before.within;
   is_to = next.within;
@@ -45,7 +49,10 @@ span-then bytes n behind m more v rest before next last = record {
 one-value : (bytes : List ℕ) (from to value : ℕ) (rest : List ℕ) (i j v : ℕ) (more : List ℕ) → IsSpanThen bytes from to value rest → IsSpanThen bytes i j v more → value ≡ v
 one-value bytes from to value rest i j v more one other =
     let first = one-number-before bytes from i _ _ (from-before bytes from to value rest one) (from-before bytes i j v more other) in
-    let second = one-number-before (decimal to ++ (32 ∷ (decimal value ++ (10 ∷ rest)))) to j (decimal value ++ (10 ∷ rest)) (decimal v ++ (10 ∷ more)) record { within = one.is_to; whole = refl } record { within = other.is_to; whole = first.rests } in
+    let second = one-number-before (decimal to ++ (32 ∷ (decimal value ++ (10 ∷ rest)))) to j
+    (decimal value ++ (10 ∷ rest)) (decimal v
+    ++ (10 ∷ more)) record { within = one.is_to; whole = refl }
+    record { within = other.is_to; whole = first.rests } in
     one-number-then 10 (decimal value ++ (10 ∷ rest)) value v rest more (λ digit. omega arith) record { within = one.is_value; whole = refl } record { within = other.is_value; whole = second.rests }
 
 -- ---- a whole entry
@@ -89,7 +96,9 @@ parts-at letter behind e rest b =
       value = r.value;
     }
 
-pub entry-stands : (letter : ℕ) (behind : List ℕ) (e : Entry) (more rest : List ℕ) → IsKind letter e.site → IsNumberBefore behind (site_number (plain_site e.site)) more → IsSpanThen more e.from e.to e.value rest → e.value ≤ most_missing →
+pub entry-stands : (letter : ℕ) (behind : List ℕ) (e : Entry) (more rest : List ℕ) →
+    IsKind letter e.site → IsNumberBefore behind (site_number (plain_site e.site)) more →
+    IsSpanThen more e.from e.to e.value rest → e.value ≤ most_missing →
     Begins (letter ∷ 32 ∷ behind) (entry_line e) rest
 entry-stands letter behind e more rest kind number span small = record {
   in_range = record { number = number.within; from = span.is_from; to = span.is_to; value = small };

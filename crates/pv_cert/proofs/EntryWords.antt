@@ -24,7 +24,9 @@ pub record SameSpanAndValue (from to value i j v : ℕ) : Type 0 where
 pub one-span-and-value : (bytes : List ℕ) (from to value i j v : ℕ) → AreSpanAndValue bytes from to value → AreSpanAndValue bytes i j v → SameSpanAndValue from to value i j v
 one-span-and-value bytes from to value i j v one other =
     let first = one-number-before bytes from i _ _ (from-before bytes from to value one) (from-before bytes i j v other) in
-    let second = one-number-before (decimal to ++ (32 ∷ decimal value)) to j (decimal value) (decimal v) record { within = one.is_to; whole = refl } record { within = other.is_to; whole = first.rests } in
+    let second = one-number-before (decimal to ++ (32 ∷ decimal value)) to j (decimal value)
+    (decimal v) record { within = one.is_to; whole = refl }
+    record { within = other.is_to; whole = first.rests } in
     record { froms = first.numbers; tos = second.numbers; values = same-decimal value v one.is_value other.is_value second.rests }
 
 -- what stands after the number of an entry

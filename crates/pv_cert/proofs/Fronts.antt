@@ -17,7 +17,9 @@ pub by-match : {X : Type 0} (r : Option X) (P Q : Type 0) (F G : X → Type 0) �
 by-match None P Q F G m none some = none m
 by-match (Some x) P Q F G m none some = some x m
 
-pub one-number-line : (word : List ℕ) (most : ℕ) (bytes : List ℕ) (n m : ℕ) (x y : List ℕ) → has_no_feed word ≡ true → most ≤ MAX_NUMBER → IsNumberLine word most bytes n x → IsNumberLine word most bytes m y →
+pub one-number-line : (word : List ℕ) (most : ℕ) (bytes : List ℕ) (n m : ℕ) (x y : List ℕ) →
+    has_no_feed word ≡ true → most ≤ MAX_NUMBER → IsNumberLine word most bytes n x →
+    IsNumberLine word most bytes m y →
     SameNumber n m x y
 one-number-line word most bytes n m x y test small one other =
     let same = one-line-of word bytes (decimal n) x (decimal m) y test (number-is-line word most bytes n x small one) (number-is-line word most bytes m y small other) in
@@ -42,12 +44,16 @@ short-body bytes n behind few line short b rest begins =
     let same = one-number-line (codes "body ") MAX_NUMBER bytes n (length b) behind (b ++ (10 ∷ rest)) refl (omega arith) line (body-front bytes b rest few begins) in
     omega (arith, same.numbers, ap length same.rests, length-append b (10 ∷ rest), short)
 
-pub open-body : (bytes : List ℕ) (n : ℕ) (behind : List ℕ) → length bytes ≤ MAX_PACK_BYTES → IsNumberLine (codes "body ") MAX_NUMBER bytes n behind → ((r : List ℕ) → drop n behind ≢ codes "\n" ++ r) → BeginsNone body_line bytes
+pub open-body : (bytes : List ℕ) (n : ℕ) (behind : List ℕ) → length bytes ≤ MAX_PACK_BYTES →
+    IsNumberLine (codes "body ") MAX_NUMBER bytes n behind →
+    ((r : List ℕ) → drop n behind ≢ codes "\n" ++ r) → BeginsNone body_line bytes
 open-body bytes n behind few line none b rest begins =
     let same = one-number-line (codes "body ") MAX_NUMBER bytes n (length b) behind (b ++ (10 ∷ rest)) refl (omega arith) line (body-front bytes b rest few begins) in
     none rest (ap (λ k. drop k behind) same.numbers ∙ ap (λ l. drop (length b) l) same.rests ∙ drop-append_seam b (10 ∷ rest))
 
-pub begins-body : (bytes : List ℕ) (n : ℕ) (behind after : List ℕ) → IsNumberLine (codes "body ") MAX_NUMBER bytes n behind → n ≤ length behind → drop n behind ≡ codes "\n" ++ after → Begins bytes (body_line (take n behind)) after
+pub begins-body : (bytes : List ℕ) (n : ℕ) (behind after : List ℕ) →
+    IsNumberLine (codes "body ") MAX_NUMBER bytes n behind → n ≤ length behind →
+    drop n behind ≡ codes "\n" ++ after → Begins bytes (body_line (take n behind)) after
 begins-body bytes n behind after line long is =
     let b = take n behind in
     let size : length b ≡ n = omega (arith, length-take n behind, long) in

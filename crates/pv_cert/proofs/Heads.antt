@@ -1,5 +1,6 @@
 -- The lines of a pack up to its body, and a whole pack.
-use Rattle.std.proofs.Common.{◌≡◌, ◌≤◌, ℕ, ◌+◌, List, [], ◌∷◌, ◌++◌, ◌-◌, codes, decimal, drop, map, length, take, refl, sym, ap, subst, ◌∙◌, append_assoc, append-nil, arith, Option, Some, None, inr, Ok, Err, Result, IfOk, IfErr}
+use Rattle.std.proofs.Common.{◌≡◌, ◌≤◌, ℕ, ◌+◌, List, [], ◌∷◌, ◌++◌, ◌-◌, codes, decimal, drop, map, length, take, refl, sym, ap, subst, ◌∙◌}
+use Rattle.std.proofs.Common.{append_assoc, append-nil, arith, Option, Some, None, inr, Ok, Err, Result, IfOk, IfErr}
 use Rattle.std.proofs.lemmas.List.{drop_at, length-append, length-map, take_at}
 use Rattle.pv_words.specs.Words.{with_feed, words}
 use Rattle.pv_tables.specs.declared.tables.Table.{Table}
@@ -46,10 +47,14 @@ last-mark : (before : Option PackLine) (ms : List ℕ) → (before ≡ Some end_
 last-mark before [] n is = n is
 last-mark before (m ∷ ms) n is = last-mark (Some (mark_line m)) ms (λ e. cc) is
 
-marks-stand : (bytes rest : List ℕ) (k : ℕ) (ms more : List ℕ) → Stand None bytes (version_line ∷ total_line k ∷ []) rest → TakesMarks rest ms more → Stand None bytes (version_line ∷ total_line k ∷ map mark_line ms) more
+marks-stand : (bytes rest : List ℕ) (k : ℕ) (ms more : List ℕ) →
+    Stand None bytes (version_line ∷ total_line k ∷ []) rest → TakesMarks rest ms more →
+    Stand None bytes (version_line ∷ total_line k ∷ map mark_line ms) more
 marks-stand bytes rest k ms more s t = stand-append None bytes (version_line ∷ total_line k ∷ []) rest (map mark_line ms) more s (t.stand k)
 
-pub fault-at-body : (bytes rest : List ℕ) (k : ℕ) (ms more : List ℕ) → Stand None bytes (version_line ∷ total_line k ∷ []) rest → TakesMarks rest ms more → BeginsNone body_line more → IsFaulty bytes (2 + length ms)
+pub fault-at-body : (bytes rest : List ℕ) (k : ℕ) (ms more : List ℕ) →
+    Stand None bytes (version_line ∷ total_line k ∷ []) rest → TakesMarks rest ms more →
+    BeginsNone body_line more → IsFaulty bytes (2 + length ms)
 fault-at-body bytes rest k ms more s t none = record {
   lines = version_line ∷ total_line k ∷ map mark_line ms;
   rest = more;
@@ -76,7 +81,9 @@ head-entries k ms b = omega (arith, entries-append (map mark_line ms) (body_line
 head-number : (k : ℕ) (ms b : List ℕ) → length (head_lines k ms b) ≡ 3 + length ms
 head-number k ms b = omega (arith, length-append (map mark_line ms) (body_line b ∷ []), length-map ms mark_line)
 
-behind-head : (bytes : List ℕ) (k : ℕ) (ms b rest : List ℕ) (ls : List PackLine) (more : List ℕ) → Stand None bytes (head_lines k ms b) rest → Stand (Some (body_line b)) rest ls more → Stand None bytes (head_lines k ms b ++ ls) more
+behind-head : (bytes : List ℕ) (k : ℕ) (ms b rest : List ℕ) (ls : List PackLine) (more : List ℕ) →
+    Stand None bytes (head_lines k ms b) rest → Stand (Some (body_line b)) rest ls more →
+    Stand None bytes (head_lines k ms b ++ ls) more
 behind-head bytes k ms b rest ls more s t = stand-append None bytes (head_lines k ms b) rest ls more s (rw (head-last k ms b) t)
 
 pub pack-read : (bytes : List ℕ) (k : ℕ) (ms b rest : List ℕ) (ts : List Table) (pack : Pack) → length bytes ≤ MAX_PACK_BYTES → Stand None bytes (head_lines k ms b) rest → EndsWithTables rest ts →
@@ -115,7 +122,9 @@ between bytes front b rest start end is at to =
       body = ap (λ l. take (end - start) (drop start l)) is ∙ ap (take (end - start)) (drop_at front (b ++ (10 ∷ rest)) start (sym at)) ∙ take_at b (10 ∷ rest) (end - start) (sym cut);
     }
 
-pub body-between : (bytes : List ℕ) (k : ℕ) (ms b rest : List ℕ) (start end : ℕ) → Stand None bytes (head_lines k ms b) rest → end ≡ length bytes - length rest - 1 → start ≡ end - length b → StandsBetween bytes b start end
+pub body-between : (bytes : List ℕ) (k : ℕ) (ms b rest : List ℕ) (start end : ℕ) →
+    Stand None bytes (head_lines k ms b) rest → end ≡ length bytes - length rest - 1 →
+    start ≡ end - length b → StandsBetween bytes b start end
 body-between bytes k ms b rest start end s to at =
     let front = lines_text (version_line ∷ total_line k ∷ map mark_line ms) ++ with_feed (words (codes "body" ∷ decimal (length b) ∷ [])) in
     let is = body-front bytes k ms b rest s in
@@ -134,7 +143,9 @@ parts-read bytes k ms b rest ts start end few s t at =
 
 fault-behind : (bytes : List ℕ) (k : ℕ) (ms b rest : List ℕ) (j : ℕ) → Stand None bytes (head_lines k ms b) rest → IsFaultyBehind (Some (body_line b)) (3 + length ms) rest j → IsFaulty bytes j
 fault-behind bytes k ms b rest j s f =
-    let last : last_line None (head_lines k ms b ++ f.lines) ≡ last_line (Some (body_line b)) f.lines = last-append None (head_lines k ms b) f.lines ∙ ap (λ l. last_line l f.lines) (head-last k ms b) in
+    let last : last_line None (head_lines k ms b ++ f.lines) ≡ last_line (Some (body_line b))
+    f.lines = last-append None (head_lines k ms b) f.lines ∙ ap (λ l. last_line l f.lines)
+    (head-last k ms b) in
     record {
       lines = head_lines k ms b ++ f.lines;
       rest = f.rest;
@@ -154,7 +165,9 @@ too-many-behind bytes k ms b rest s m = record {
   full = omega (arith, m.full, entries-append (head_lines k ms b) m.lines, head-entries k ms b);
 }
 
-pub tables-refused : (bytes : List ℕ) (k : ℕ) (ms b rest : List ℕ) (error : PackError) → length bytes ≤ MAX_PACK_BYTES → Stand None bytes (head_lines k ms b) rest → RefusesTables (3 + length ms) rest error → Refuses bytes error
+pub tables-refused : (bytes : List ℕ) (k : ℕ) (ms b rest : List ℕ) (error : PackError) →
+    length bytes ≤ MAX_PACK_BYTES → Stand None bytes (head_lines k ms b) rest →
+    RefusesTables (3 + length ms) rest error → Refuses bytes error
 tables-refused bytes k ms b rest (Syntax j) few s r = (few, fault-behind bytes k ms b rest j s (r b))
 tables-refused bytes k ms b rest Limit few s r = inr (few, too-many-behind bytes k ms b rest s (r b))
 tables-refused bytes k ms b rest NoMemory few s r = tt

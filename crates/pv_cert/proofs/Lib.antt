@@ -1,6 +1,6 @@
 -- for other crates:
 pub mod EntryWords
-pub mod Determined
+pub mod OneLine
 -- of this crate:
 pub mod EntriesAt
 pub mod Fronts

@@ -9,7 +9,7 @@ use Rattle.pv_cert.specs.Lines.{PackLine, line_text, total_line, mark_line, body
 use Rattle.pv_cert.specs.Meaning.{HasTooMany, IsFaulty, MAX_PACK_BYTES, Stand, StandsNone, entries_among, is_pack, is_fault, is_past_limit}
 use Rattle.pv_cert.specs.Packs.{IsPackText, last_line, lines_of_pack, lines_text, table_lines}
 use Rattle.pv_cert.specs.declared.packs.Pack.{Pack}
-use Rattle.pv_cert.proofs.Determined.{same-line}
+use Rattle.pv_cert.proofs.OneLine.{same-line}
 use Rattle.pv_cert.proofs.Stands.{entries-append, entries-of-marks, last-append}
 use Rattle.pv_cert.proofs.TableLines.{entries-in-lines}
 
@@ -72,7 +72,13 @@ last-of-pack pack =
 entries-of-pack : (pack : Pack) → entries_among (lines_of_pack pack) ≡ entries_in pack.tables
 entries-of-pack pack =
     let tail = table_lines pack.tables ++ end_line ∷ [] in
-    omega (arith, entries-append (map mark_line pack.marks) (body_line pack.body ∷ tail), entries-of-marks pack.marks, entries-append (table_lines pack.tables) (end_line ∷ []), entries-in-lines pack.tables)
+    omega (
+      arith,
+      entries-append (map mark_line pack.marks) (body_line pack.body ∷ tail),
+      entries-of-marks pack.marks,
+      entries-append (table_lines pack.tables) (end_line ∷ []),
+      entries-in-lines pack.tables,
+    )
 
 pack-run : (bytes : List ℕ) (pack : Pack) → IsPackText bytes pack → entries_in pack.tables ≤ most_entries → IsRun bytes (lines_of_pack pack) []
 pack-run bytes pack t few = record {

@@ -64,12 +64,16 @@ pub record HaveRead (bytes : List ℕ) (es : List Entry) (last : Option Entry) (
 pub none-read : (bytes : List ℕ) → HaveRead bytes [] None bytes
 none-read bytes = record { stand = λ path. stand-none (Some (list_line path)) bytes; is_last = λ path. refl }
 
-more-stand : (bytes : List ℕ) (es : List Entry) (last : Option Entry) (rest : List ℕ) (e : Entry) (more : List ℕ) → HaveRead bytes es last rest → ((path : List ℕ) → Stands (line_before path last) rest (entry_line e) more) →
+more-stand : (bytes : List ℕ) (es : List Entry) (last : Option Entry) (rest : List ℕ) (e : Entry)
+    (more : List ℕ) → HaveRead bytes es last rest → ((path : List ℕ) →
+    Stands (line_before path last) rest (entry_line e) more) →
     (path : List ℕ) → Stand (Some (list_line path)) bytes (map entry_line es ++ entry_line e ∷ []) more
 more-stand bytes es last rest e more h s path =
     stand-more (Some (list_line path)) bytes (map entry_line es) rest (entry_line e) more (h.stand path) (rw (h.is_last path) (s path))
 
-pub entry-read : (bytes : List ℕ) (es : List Entry) (last : Option Entry) (rest : List ℕ) (e : Entry) (more : List ℕ) → HaveRead bytes es last rest → ((path : List ℕ) → Stands (line_before path last) rest (entry_line e) more) →
+pub entry-read : (bytes : List ℕ) (es : List Entry) (last : Option Entry) (rest : List ℕ)
+    (e : Entry) (more : List ℕ) → HaveRead bytes es last rest → ((path : List ℕ) →
+    Stands (line_before path last) rest (entry_line e) more) →
     HaveRead bytes (es ++ e ∷ []) (Some e) more
 entry-read bytes es last rest e more h s = record {
   stand = λ path. rw (map-append entry_line es (e ∷ [])) (more-stand bytes es last rest e more h s path);
@@ -80,7 +84,9 @@ pub entries-full : (bytes : List ℕ) (es : List Entry) (last : Option Entry) (r
     ((path : List ℕ) → Stands (line_before path last) rest (entry_line e) more) → length es ≡ most → HasEntryBeyond bytes most
 entries-full bytes es last rest e more most h s full = record { es = es; e = e; rest = more; stand = more-stand bytes es last rest e more h s; full = full }
 
-pub entries-taken : (bytes : List ℕ) (es : List Entry) (last : Option Entry) (rest : List ℕ) → HaveRead bytes es last rest → ((path : List ℕ) → StandsNoEntry (line_before path last) rest) → TakesEntries bytes es rest
+pub entries-taken : (bytes : List ℕ) (es : List Entry) (last : Option Entry) (rest : List ℕ) →
+    HaveRead bytes es last rest → ((path : List ℕ) → StandsNoEntry (line_before path last) rest) →
+    TakesEntries bytes es rest
 entries-taken bytes es last rest h none = record { stand = h.stand; none = λ path. rw (h.is_last path) (none path) }
 
 -- the tables read so far after a body
@@ -120,20 +126,26 @@ head-last : (b : List ℕ) (ts : List Table) (path : List ℕ) → last_line (So
 head-last b ts path = last-append (Some (body_line b)) (table_lines ts) (list_line path ∷ [])
 
 -- lines that stand after the head of a table stand after the body with it
-behind-head : (b : List ℕ) (bytes : List ℕ) (ts : List Table) (rest : List ℕ) (path : List ℕ) (after : List ℕ) (ls : List PackLine) (more : List ℕ) → TablesRead bytes ts rest → Begins rest (list_line path) after →
+behind-head : (b : List ℕ) (bytes : List ℕ) (ts : List Table) (rest : List ℕ) (path : List ℕ)
+    (after : List ℕ) (ls : List PackLine) (more : List ℕ) → TablesRead bytes ts rest →
+    Begins rest (list_line path) after →
     Stand (Some (list_line path)) after ls more → Stand (Some (body_line b)) bytes (table_lines ts ++ list_line path ∷ ls) more
 behind-head b bytes ts rest path after ls more h l s =
     rw (sym (append_assoc (table_lines ts) (list_line path ∷ []) ls))
     (stand-append (Some (body_line b)) bytes (table_lines ts ++ list_line path ∷ []) after ls more (head-stands b bytes ts rest path after h l) (rw (head-last b ts path) s))
 
-pub table-read : (bytes : List ℕ) (ts : List Table) (rest : List ℕ) (after : List ℕ) (t : Table) (more : List ℕ) → TablesRead bytes ts rest → Begins rest (list_line t.path) after → TakesEntries after t.entries more →
+pub table-read : (bytes : List ℕ) (ts : List Table) (rest : List ℕ) (after : List ℕ) (t : Table)
+    (more : List ℕ) → TablesRead bytes ts rest → Begins rest (list_line t.path) after →
+    TakesEntries after t.entries more →
     TablesRead bytes (ts ++ t ∷ []) more
 table-read bytes ts rest after t more h l e = record {
   stand = λ b. rw (lines-more ts t) (behind-head b bytes ts rest t.path after (map entry_line t.entries) more h l (e.stand t.path));
   none = λ b. rw (lines-more ts t, last-append (Some (body_line b)) (table_lines ts) (lines_of_table t)) (e.none t.path);
 }
 
-pub too-many : (bytes : List ℕ) (ts : List Table) (rest : List ℕ) (path : List ℕ) (after : List ℕ) (most : ℕ) → TablesRead bytes ts rest → Begins rest (list_line path) after → HasEntryBeyond after most → most + entries_in ts ≡ most_entries →
+pub too-many : (bytes : List ℕ) (ts : List Table) (rest : List ℕ) (path : List ℕ) (after : List ℕ)
+    (most : ℕ) → TablesRead bytes ts rest → Begins rest (list_line path) after →
+    HasEntryBeyond after most → most + entries_in ts ≡ most_entries →
     (b : List ℕ) → HasTooManyBehind (Some (body_line b)) bytes
 too-many bytes ts rest path after most h l m all b = record {
   lines = table_lines ts ++ list_line path ∷ map entry_line m.es;
@@ -145,14 +157,18 @@ too-many bytes ts rest path after most h l m all b = record {
 }
 
 -- at the end
-end-stands : (b : List ℕ) (bytes : List ℕ) (ts : List Table) (rest after : List ℕ) → TablesRead bytes ts rest → Begins rest end_line after → Stand (Some (body_line b)) bytes (table_lines ts ++ end_line ∷ []) after
+end-stands : (b : List ℕ) (bytes : List ℕ) (ts : List Table) (rest after : List ℕ) →
+    TablesRead bytes ts rest → Begins rest end_line after →
+    Stand (Some (body_line b)) bytes (table_lines ts ++ end_line ∷ []) after
 end-stands b bytes ts rest after h e =
     stand-more (Some (body_line b)) bytes (table_lines ts) rest end_line after (h.stand b) record { may_follow = (behind-tables b ts).ends; begins = e }
 
 pub tables-end : (bytes : List ℕ) (ts : List Table) (rest : List ℕ) → TablesRead bytes ts rest → Begins rest end_line [] → entries_in ts ≤ most_entries → EndsWithTables bytes ts
 tables-end bytes ts rest h e few = record { stand = λ b. end-stands b bytes ts rest [] h e; few = few }
 
-pub more-behind-end : (first : ℕ) (bytes : List ℕ) (ts : List Table) (rest after : List ℕ) (k : ℕ) → TablesRead bytes ts rest → Begins rest end_line after → (after ≡ [] → ⊥) → entries_in ts ≤ most_entries → k ≡ first + length (table_lines ts) →
+pub more-behind-end : (first : ℕ) (bytes : List ℕ) (ts : List Table) (rest after : List ℕ) (k : ℕ) →
+    TablesRead bytes ts rest → Begins rest end_line after → (after ≡ [] → ⊥) →
+    entries_in ts ≤ most_entries → k ≡ first + length (table_lines ts) →
     (b : List ℕ) → IsFaultyBehind (Some (body_line b)) first bytes (k + 1)
 more-behind-end first bytes ts rest after k h e some few is b =
     let last = last-append (Some (body_line b)) (table_lines ts) (end_line ∷ []) in
@@ -166,7 +182,9 @@ more-behind-end first bytes ts rest after k h e some few is b =
       cut = λ w. some w.1;
     }
 
-pub no-end : (first : ℕ) (bytes : List ℕ) (ts : List Table) (rest : List ℕ) (k : ℕ) → TablesRead bytes ts rest → BeginsNone list_line rest → BeginsNot end_line rest → entries_in ts ≤ most_entries → k ≡ first + length (table_lines ts) →
+pub no-end : (first : ℕ) (bytes : List ℕ) (ts : List Table) (rest : List ℕ) (k : ℕ) →
+    TablesRead bytes ts rest → BeginsNone list_line rest → BeginsNot end_line rest →
+    entries_in ts ≤ most_entries → k ≡ first + length (table_lines ts) →
     (b : List ℕ) → IsFaultyBehind (Some (body_line b)) first bytes k
 no-end first bytes ts rest k h l e few is b = record {
   lines = table_lines ts;
@@ -185,7 +203,9 @@ no-end first bytes ts rest k h l e few is b = record {
     ended-by : (ts : List Table) (before : Option PackLine) → (before ≡ Some end_line → ⊥) → last_line before (table_lines ts) ≡ Some end_line → ⊥
     ended-by [] before n is = n is
     ended-by (t ∷ ts) before n is =
-        ended-by ts (last_line (Some (list_line t.path)) (map entry_line t.entries)) (λ x. ended-entries t.entries (Some (list_line t.path)) [] (λ y. cc) x) (sym (last-append (Some (list_line t.path)) (map entry_line t.entries) (table_lines ts)) ∙ is)
+        ended-by ts (last_line (Some (list_line t.path)) (map entry_line t.entries))
+        (λ x. ended-entries t.entries (Some (list_line t.path)) [] (λ y. cc) x)
+        (sym (last-append (Some (list_line t.path)) (map entry_line t.entries) (table_lines ts)) ∙ is)
 
     not-ended : (b : List ℕ) (ts : List Table) → last_line (Some (body_line b)) (table_lines ts) ≡ Some end_line → ⊥
     not-ended b ts is = ended-by ts (Some (body_line b)) (λ y. cc) is
@@ -194,7 +214,9 @@ pub table-number : (ts : List Table) (t : Table) → length (table_lines (ts ++ 
 table-number ts t = omega (arith, ap length (lines-more ts t), length-append (table_lines ts) (lines_of_table t), length-map t.entries entry_line)
 
 -- the entries after the head of a table are refused, and so what stands after the body
-pub entries-refused : (first : ℕ) (bytes : List ℕ) (ts : List Table) (rest : List ℕ) (path : List ℕ) (after : List ℕ) (most : ℕ) (error : PackError) → TablesRead bytes ts rest → Begins rest (list_line path) after →
+pub entries-refused : (first : ℕ) (bytes : List ℕ) (ts : List Table) (rest : List ℕ) (path : List ℕ)
+    (after : List ℕ) (most : ℕ) (error : PackError) → TablesRead bytes ts rest →
+    Begins rest (list_line path) after →
     most + entries_in ts ≡ most_entries → RefusesEntries after most error → RefusesTables first bytes error
 entries-refused first bytes ts rest path after most (Syntax k) h l all r = absurd r
 entries-refused first bytes ts rest path after most Limit h l all r = too-many bytes ts rest path after most h l r all
@@ -204,7 +226,9 @@ none-short : (xs : List ℕ) → length xs < 1 → xs ≡ []
 none-short [] s = refl
 none-short (x ∷ xs) s = absurd (omega arith)
 
-pub pack-ends : (bytes : List ℕ) (ts : List Table) (rest after : List ℕ) → TablesRead bytes ts rest → Begins rest end_line after → length after < 1 → entries_in ts ≤ most_entries → EndsWithTables bytes ts
+pub pack-ends : (bytes : List ℕ) (ts : List Table) (rest after : List ℕ) →
+    TablesRead bytes ts rest → Begins rest end_line after → length after < 1 →
+    entries_in ts ≤ most_entries → EndsWithTables bytes ts
 pack-ends bytes ts rest after h e short few = tables-end bytes ts rest h (rw (← none-short after short) e) few
 
 -- nothing of the kind was found

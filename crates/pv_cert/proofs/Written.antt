@@ -23,15 +23,21 @@ table-written ts i t old new all low is wrote so =
 regroup : (v t m b s e : List ℕ) → ((((v ++ t) ++ m) ++ b) ++ s) ++ e ≡ v ++ (t ++ (m ++ (b ++ (s ++ e))))
 regroup v t m b s e = simp append_assoc
 
-spelled : (pack : Pack) → lines_text (lines_of_pack pack) ≡ codes "pvpack 1\n" ++ (with_feed (codes "total " ++ decimal pack.total) ++ (lines_text (map mark_line pack.marks) ++ (line_text (body_line pack.body) ++ (lines_text (table_lines pack.tables) ++ codes "end\n"))))
+spelled : (pack : Pack) → lines_text (lines_of_pack pack) ≡ codes "pvpack 1\n"
+    ++ (with_feed (codes "total " ++ decimal pack.total) ++ (lines_text (map mark_line pack.marks)
+    ++ (line_text (body_line pack.body) ++ (lines_text (table_lines pack.tables) ++ codes "end\n"))))
 spelled pack =
     let tail = table_lines pack.tables ++ end_line ∷ [] in
     let behind : lines_text tail ≡ lines_text (table_lines pack.tables) ++ codes "end\n" = text-append (table_lines pack.tables) (end_line ∷ []) in
-    let whole : lines_text (map mark_line pack.marks ++ (body_line pack.body ∷ tail)) ≡ lines_text (map mark_line pack.marks) ++ (line_text (body_line pack.body) ++ (lines_text (table_lines pack.tables) ++ codes "end\n")) =
+    let whole : lines_text (map mark_line pack.marks ++ (body_line pack.body ∷ tail)) ≡ lines_text
+    (map mark_line pack.marks) ++ (line_text (body_line pack.body)
+    ++ (lines_text (table_lines pack.tables) ++ codes "end\n")) =
     text-append (map mark_line pack.marks) (body_line pack.body ∷ tail) ∙ ap (λ l. lines_text (map mark_line pack.marks) ++ (line_text (body_line pack.body) ++ l)) behind in
     ap (λ l. codes "pvpack 1\n" ++ (with_feed (codes "total " ++ decimal pack.total) ++ l)) whole
 
-pub pack-written : (pack : Pack) (t1 t2 t3 t4 t5 t6 : List ℕ) → t1 ≡ codes "pvpack 1\n" → t2 ≡ t1 ++ with_feed (codes "total " ++ decimal pack.total) → t3 ≡ t2 ++ lines_text (map mark_line pack.marks) →
+pub pack-written : (pack : Pack) (t1 t2 t3 t4 t5 t6 : List ℕ) → t1 ≡ codes "pvpack 1\n" →
+    t2 ≡ t1 ++ with_feed (codes "total " ++ decimal pack.total) →
+    t3 ≡ t2 ++ lines_text (map mark_line pack.marks) →
     t4 ≡ t3 ++ line_text (body_line pack.body) → t5 ≡ t4 ++ lines_text (table_lines pack.tables) → t6 ≡ t5 ++ codes "end\n" → t6 ≡ lines_text (lines_of_pack pack)
 pack-written pack t1 t2 t3 t4 t5 t6 e1 e2 e3 e4 e5 e6 =
     let t = with_feed (codes "total " ++ decimal pack.total) in

@@ -3,8 +3,8 @@
 //! A pack text is lines, each of which may stand after the one before it (`specs/Lines.antt`,
 //! `specs/Packs.antt`). `write_pack` writes the text of a pack. `take_pack` gives the pack that
 //! bytes are the text of, or the first line at fault, or tells that a limit is passed: what bytes
-//! mean (`PackMeans`, `specs/Meaning.antt`), which is one thing only, as `laws` says. What its
-//! lines have in common with those of a denial is given away piece by piece.
+//! mean (`PackMeans`, `specs/Meaning.antt`), which is one thing only, as `laws` says. The
+//! lines that denials have too are exported one by one, for pv_denial_text.
 #![tactic(auto)]
 
 mod entries;

@@ -4,7 +4,7 @@ use Rattle.std.proofs.lemmas.Bool.Decides.{Decides-eqb}
 use Rattle.std.specs.List.{list_all}
 use Rattle.std.proofs.lemmas.Bool.{and_parts}
 use Rattle.pv_chars.specs.Spaces.{is_space, IsSpace, IsOptionalSpace}
-use Rattle.pv_chars.proofs.Scanning.{begins}
+use Rattle.pv_chars.proofs.TextScans.{begins}
 
 -- none of the four white characters is one of these
 pub record HasNoSpace (p : ℕ → Bool) : Type 0 where
@@ -13,7 +13,9 @@ pub record HasNoSpace (p : ℕ → Bool) : Type 0 where
   pub return : p 13 ≡ false
   pub feed : p 10 ≡ false
 
-no_space_by : (p : ℕ → Bool) → HasNoSpace p → (b : ℕ) (space tab return feed : Bool) → (b == 32) ≡ space → (b == 9) ≡ tab → (b == 13) ≡ return → (b == 10) ≡ feed → (space || tab || return || feed) ≡ true → p b ≡ false
+no_space_by : (p : ℕ → Bool) → HasNoSpace p → (b : ℕ) (space tab return feed : Bool) →
+    (b == 32) ≡ space → (b == 9) ≡ tab → (b == 13) ≡ return → (b == 10) ≡ feed →
+    (space || tab || return || feed) ≡ true → p b ≡ false
 no_space_by p none b true tab return feed e f g h white = subst (λ c. p c ≡ false) (sym ((Decides-eqb b 32).0 e)) none.space
 no_space_by p none b false true return feed e f g h white = subst (λ c. p c ≡ false) (sym ((Decides-eqb b 9).0 f)) none.tab
 no_space_by p none b false false true feed e f g h white = subst (λ c. p c ≡ false) (sym ((Decides-eqb b 13).0 g)) none.return

@@ -2,7 +2,7 @@
 use Rattle.std.proofs.Common.{◌≡◌, ℕ, List, [], Option, Some, None, refl, sym, ap, ◌∙◌}
 use Rattle.pv_chars.specs.Scan.{after_bytes}
 use Rattle.pv_chars.specs.ByteOrderMark.{BYTE_ORDER_MARK, TakesByteOrderMark, marked, unmarked, IsBehindByteOrderMark}
-use Rattle.pv_chars.proofs.Scanning.{after_bytes_takes, after_bytes-append}
+use Rattle.pv_chars.proofs.TextScans.{after_bytes_takes, after_bytes-append}
 
 pub same_byte_order_mark : (bytes mark rest other more : List ℕ) → TakesByteOrderMark bytes mark rest →
     TakesByteOrderMark bytes other more → (mark ≡ other) × (rest ≡ more)

@@ -1,5 +1,6 @@
 -- Characters, comments and processing instructions: what is read is one, and what is one is read.
-use Rattle.std.proofs.Common.{◌≡◌, ◌≢◌, ◌≤◌, ◌<◌, ℕ, List, [], ◌∷◌, ◌++◌, codes, length, map, Bool, true, false, ◌&&◌, not, cond, inl, inr, Option, Some, None, refl, sym, ap, ◌∙◌, subst, append-nil, length-append, arith}
+use Rattle.std.proofs.Common.{◌≡◌, ◌≢◌, ◌≤◌, ◌<◌, ℕ, List, [], ◌∷◌, ◌++◌, codes, length, map, Bool, true, false, ◌&&◌, not, cond, inl, inr, Option}
+use Rattle.std.proofs.Common.{Some, None, refl, sym, ap, ◌∙◌, subst, append-nil, length-append, arith}
 use Rattle.std.specs.Option.{MatchOption, IfSome}
 use Rattle.std.specs.Char.{to_ascii_lowercase}
 use Rattle.std.proofs.lemmas.Bool.{and_parts}
@@ -10,12 +11,13 @@ use Rattle.pv_chars.specs.Names.{TakesName}
 use Rattle.pv_chars.specs.Fronts.{Begins, BeginsNone, ContainsBytes, EndsAt}
 use Rattle.pv_chars.specs.Markup.{IsComment, IsInstruction, IsBehindTarget}
 use Rattle.pv_chars.specs.Scan.{◌>>=◌, after_bytes}
-use Rattle.pv_chars.proofs.Scanning.{after_bytes_takes, after_bytes-append}
+use Rattle.pv_chars.proofs.TextScans.{after_bytes_takes, after_bytes-append}
 use Rattle.pv_chars.proofs.CharacterLemmas.{PassScalars, AreAll-append, same_all, nothing_begins}
 use Rattle.pv_chars.proofs.Ranges.{char_is_scalar}
 use Rattle.pv_chars.proofs.SpaceLemmas.{space_are_chars}
 use Rattle.pv_chars.proofs.MarkupLemmas.{comment_by, no_comment_start, no_comment_end, no_comment_text, no_comment_close, one_comment}
-use Rattle.pv_chars.proofs.InstructionLemmas.{spaced_by, behind_target_is, instruction_by, no_instruction_start, no_instruction_name, no_instruction_target, no_instruction_end, no_instruction_text, one_instruction}
+use Rattle.pv_chars.proofs.InstructionLemmas.{spaced_by, behind_target_is, instruction_by, no_instruction_start, no_instruction_name}
+use Rattle.pv_chars.proofs.InstructionLemmas.{no_instruction_target, no_instruction_end, no_instruction_text, one_instruction}
 use Rattle.pv_chars.specs.CharReading.{behind_all, is_nothing, is_chars, name_at, up_to_by, up_to, comment_at, may_follow_target, is_xml, instruction_at}
 use Rattle.pv_chars.proofs.OneFront.{found, begun_is_read}
 use Rattle.pv_chars.proofs.NameBytes.{behind_all_takes, name_at_takes, no_name}
@@ -70,7 +72,9 @@ holds_later delimiter b bs none below holds = by holds.before holds.whole
 abbrev pub Finds : List ℕ → List ℕ → Option (List ℕ × List ℕ) → Type 0
 Finds delimiter bytes o = MatchOption o (ContainsBytes bytes delimiter → ⊥) (λ r. EndsAt delimiter bytes r.0 r.1)
 
-finds_by : (delimiter : List ℕ) (b : ℕ) (bs : List ℕ) (later : Option (List ℕ × List ℕ)) (here : Option (List ℕ)) → after_bytes delimiter (b ∷ bs) ≡ here → Finds delimiter bs later → Finds delimiter (b ∷ bs) (up_to_by b later here)
+finds_by : (delimiter : List ℕ) (b : ℕ) (bs : List ℕ) (later : Option (List ℕ × List ℕ))
+    (here : Option (List ℕ)) → after_bytes delimiter (b ∷ bs) ≡ here → Finds delimiter bs later →
+    Finds delimiter (b ∷ bs) (up_to_by b later here)
 finds_by delimiter b bs later (Some rest) is below = ends_here delimiter (b ∷ bs) rest is
 finds_by delimiter b bs None None is below = holds_later delimiter b bs is below
 finds_by delimiter b bs (Some r) None is below = ends_later delimiter b bs r.0 r.1 is below
@@ -87,7 +91,9 @@ no_start front bytes e rest w = not_here front bytes rest e w
 abbrev pub TellsComment : List ℕ → Option (List ℕ) → Type 0
 TellsComment bytes o = MatchOption o (BeginsNone IsComment bytes) (Begins IsComment bytes)
 
-closes_comment : (bytes inside text end : List ℕ) → bytes ≡ codes "<!--" ++ inside → EndsAt (codes "--") inside text end → (chars : Bool) → is_chars text ≡ chars → (o : Option (List ℕ)) → after_bytes (codes ">") end ≡ o → TellsComment bytes (cond chars o None)
+closes_comment : (bytes inside text end : List ℕ) → bytes ≡ codes "<!--" ++ inside →
+    EndsAt (codes "--") inside text end → (chars : Bool) → is_chars text ≡ chars →
+    (o : Option (List ℕ)) → after_bytes (codes ">") end ≡ o → TellsComment bytes (cond chars o None)
 closes_comment bytes inside text end e ends false c o is = no_comment_text bytes inside text end e ends (no_chars text c)
 closes_comment bytes inside text end e ends true c None is = no_comment_close bytes inside text end e ends (no_start (codes ">") end is)
 closes_comment bytes inside text end e ends true c (Some rest) is = comment_by bytes inside text end rest e ends (chars_are text c) (after_bytes_takes (codes ">") end rest is)
@@ -96,11 +102,15 @@ pub tells_comment : (bytes : List ℕ) → TellsComment bytes (comment_at bytes)
 unfolding comment_at
 tells_comment bytes = unit_opens (after_bytes (codes "<!--") bytes) refl
   where
-    ends_by : (inside : List ℕ) → bytes ≡ codes "<!--" ++ inside → (o : Option (List ℕ × List ℕ)) → Finds (codes "--") inside o → TellsComment bytes (o >>= λ ends. cond (is_chars ends.0) (after_bytes (codes ">") ends.1) None)
+    ends_by : (inside : List ℕ) → bytes ≡ codes "<!--" ++ inside → (o : Option (List ℕ × List ℕ)) →
+        Finds (codes "--") inside o → TellsComment bytes (o >>= λ ends. cond (is_chars ends.0)
+        (after_bytes (codes ">") ends.1) None)
     ends_by inside e None f = no_comment_end bytes inside e f
     ends_by inside e (Some r) f = closes_comment bytes inside r.0 r.1 e f (is_chars r.0) refl (after_bytes (codes ">") r.1) refl
 
-    unit_opens : (o : Option (List ℕ)) → after_bytes (codes "<!--") bytes ≡ o → TellsComment bytes (o >>= λ inside. up_to (codes "--") inside >>= λ ends. cond (is_chars ends.0) (after_bytes (codes ">") ends.1) None)
+    unit_opens : (o : Option (List ℕ)) → after_bytes (codes "<!--") bytes ≡ o →
+        TellsComment bytes (o >>= λ inside. up_to (codes "--") inside >>= λ ends. cond
+        (is_chars ends.0) (after_bytes (codes ">") ends.1) None)
     unit_opens None is = no_comment_start bytes (no_start (codes "<!--") bytes is)
     unit_opens (Some inside) is = ends_by inside (after_bytes_takes (codes "<!--") bytes inside is) (up_to (codes "--") inside) (finds 45 (45 ∷ []) inside)
 
@@ -116,11 +126,23 @@ must_follow : (text : List ℕ) → IsBehindTarget text → may_follow_target te
 must_follow [] is = refl
 must_follow (b ∷ bs) is = let two = behind_target_is b bs is in rw (two.0, are_chars bs two.1) refl
 
-closes_instruction : (bytes start target after text rest : List ℕ) → bytes ≡ codes "<?" ++ start → TakesName start target after → EndsAt (codes "?>") after text rest → (xml may : Bool) → is_xml target ≡ xml → may_follow_target text ≡ may → TellsInstruction bytes (cond (not xml && may) (Some rest) None)
-closes_instruction bytes start target after text rest e named ends true may x m = no_instruction_target bytes start target after e named ((bytes_eq-Decides (map to_ascii_lowercase target) (codes "xml")).0 x)
+closes_instruction : (bytes start target after text rest : List ℕ) → bytes ≡ codes "<?" ++ start →
+    TakesName start target after → EndsAt (codes "?>") after text rest → (xml may : Bool) →
+    is_xml target ≡ xml → may_follow_target text ≡ may →
+    TellsInstruction bytes (cond (not xml && may) (Some rest) None)
+closes_instruction bytes start target after text rest e named ends true may x m =
+    no_instruction_target bytes start target after e named
+    ((bytes_eq-Decides (map to_ascii_lowercase target) (codes "xml")).0 x)
 closes_instruction bytes start target after text rest e named ends false false x m = no_instruction_text bytes start target after text rest e named ends (λ is. let some = must_follow text is in cc)
 closes_instruction bytes start target after text rest e named ends false true x m =
-    instruction_by bytes start target after text rest e record { named = named; not_xml = λ xml. let some = (bytes_eq-Decides (map to_ascii_lowercase target) (codes "xml")).1 xml in cc; ends = ends; is_behind = follows text m }
+    instruction_by bytes start target after text rest e
+    record {
+      named = named;
+      not_xml = λ xml. let some = (bytes_eq-Decides
+          (map to_ascii_lowercase target) (codes "xml")).1 xml in cc;
+      ends = ends;
+      is_behind = follows text m;
+    }
 
 abbrev closed : List ℕ → List ℕ × List ℕ → Option (List ℕ)
 closed target ends = cond (not (is_xml target) && may_follow_target ends.0) (Some ends.1) None
@@ -129,11 +151,15 @@ pub tells_instruction : (bytes : List ℕ) → TellsInstruction bytes (instructi
 unfolding instruction_at
 tells_instruction bytes = unit_opens (after_bytes (codes "<?") bytes) refl
   where
-    ends_by : (start target after : List ℕ) → bytes ≡ codes "<?" ++ start → TakesName start target after → (o : Option (List ℕ × List ℕ)) → Finds (codes "?>") after o → TellsInstruction bytes (o >>= closed target)
+    ends_by : (start target after : List ℕ) → bytes ≡ codes "<?" ++ start →
+        TakesName start target after → (o : Option (List ℕ × List ℕ)) → Finds (codes "?>") after o →
+        TellsInstruction bytes (o >>= closed target)
     ends_by start target after e named None f = no_instruction_end bytes start target after e named f
     ends_by start target after e named (Some r) f = closes_instruction bytes start target after r.0 r.1 e named f (is_xml target) (may_follow_target r.0) refl refl
 
-    named_by : (start : List ℕ) → bytes ≡ codes "<?" ++ start → (o : Option (List ℕ × List ℕ)) → name_at start ≡ o → TellsInstruction bytes (o >>= λ target. up_to (codes "?>") target.1 >>= closed target.0)
+    named_by : (start : List ℕ) → bytes ≡ codes "<?" ++ start → (o : Option (List ℕ × List ℕ)) →
+        name_at start ≡ o → TellsInstruction bytes (o >>= λ target. up_to (codes "?>") target.1 >>=
+        closed target.0)
     named_by start e None is = no_instruction_name bytes start e (no_name start is)
     named_by start e (Some t) is = ends_by start t.0 t.1 e (name_at_takes start t.0 t.1 is) (up_to (codes "?>") t.1) (finds 63 (62 ∷ []) t.1)
 
@@ -160,6 +186,16 @@ pub instruction_opens : (text : List ℕ) → IsInstruction text → (inside : L
 instruction_opens text is = (is.target ++ (is.behind ++ codes "?>"), is.whole)
 
 -- an item that opens with some bytes takes some
-pub item_shorter : {A : Type 0} (IsItem : List ℕ → Type 0) (b : ℕ) (front : List ℕ) → ((text : List ℕ) → IsItem text → (inside : List ℕ) × (text ≡ (b ∷ front) ++ inside)) → (f : A → List ℕ) (bytes : List ℕ) (o : Option A) → MatchOption o (BeginsNone IsItem bytes) (λ r. Begins IsItem bytes (f r)) → IfSome o (λ r. length (f r) < length bytes)
+pub item_shorter : {A : Type 0} (IsItem : List ℕ → Type 0) (b : ℕ) (front : List ℕ) →
+    ((text : List ℕ) → IsItem text → (inside : List ℕ) × (text ≡ (b ∷ front) ++ inside)) →
+    (f : A → List ℕ) (bytes : List ℕ) (o : Option A) → MatchOption o (BeginsNone IsItem bytes)
+    (λ r. Begins IsItem bytes (f r)) → IfSome o (λ r. length (f r) < length bytes)
 item_shorter IsItem b front unit_opens f bytes None m = tt
-item_shorter IsItem b front unit_opens f bytes (Some r) m = let is = unit_opens m.item m.is_item in omega (arith, ap length m.whole, length-append m.item (f r), ap length is.1, length-append (b ∷ front) is.0)
+item_shorter IsItem b front unit_opens f bytes (Some r) m = let is = unit_opens m.item m.is_item in
+    omega (
+      arith,
+      ap length m.whole,
+      length-append m.item (f r),
+      ap length is.1,
+      length-append (b ∷ front) is.0,
+    )

@@ -14,7 +14,14 @@ pub none_in_nothing : (test : ℕ → Bool) → AreAll test []
 none_in_nothing test = record { codes = []; pass = refl; spelled = refl }
 
 pub AreAll-append : (test : ℕ → Bool) (xs ys : List ℕ) → AreAll test xs → AreAll test ys → AreAll test (xs ++ ys)
-AreAll-append test xs ys a b = record { codes = a.codes ++ b.codes; pass = list_all-append test a.codes b.codes ∙ and_from (list_all test a.codes) (list_all test b.codes) a.pass b.pass; spelled = rw (a.spelled, b.spelled) (sym (encodes-append a.codes b.codes)) }
+AreAll-append test xs ys a b =
+    record {
+      codes = a.codes ++ b.codes;
+      pass = list_all-append test a.codes b.codes
+          ∙ and_from (list_all test a.codes) (list_all test b.codes) a.pass b.pass;
+      spelled =
+          rw (a.spelled, b.spelled) (sym (encodes-append a.codes b.codes));
+    }
 
 pub AreAll-one : (test : ℕ → Bool) (c : ℕ) → test c ≡ true → AreAll test (encode c)
 AreAll-one test c e = record { codes = c ∷ []; pass = and_from (test c) true e refl; spelled = sym (append-nil (encode c)) }
@@ -35,8 +42,15 @@ module _ (p test : ℕ → Bool) (tells : (b : ℕ) → p b ≡ true → (test b
   AreAll-ascii bytes e = record { codes = bytes; pass = bytes_pass bytes e; spelled = bytes_spell bytes e }
 
 -- one more character is taken
-pub one_more : (test : ℕ → Bool) (bytes front rest more : List ℕ) (c : ℕ) → AreAll test front → bytes ≡ front ++ rest → BeginsWith rest c more → test c ≡ true → (longer : List ℕ) × AreAll test longer × (bytes ≡ longer ++ more)
-one_more test bytes front rest more c all whole begins e = (front ++ encode c, AreAll-append test front (encode c) all (AreAll-one test c e), whole ∙ ap (λ l. front ++ l) begins.whole ∙ sym (append_assoc front (encode c) more))
+pub one_more : (test : ℕ → Bool) (bytes front rest more : List ℕ) (c : ℕ) → AreAll test front →
+    bytes ≡ front ++ rest → BeginsWith rest c more → test c ≡ true → (longer : List ℕ)
+    × AreAll test longer × (bytes ≡ longer ++ more)
+one_more test bytes front rest more c all whole begins e = (
+  front ++ encode c,
+  AreAll-append test front (encode c) all (AreAll-one test c e),
+  whole
+      ∙ ap (λ l. front ++ l) begins.whole ∙ sym (append_assoc front (encode c) more),
+)
 
 -- a test that only code points pass
 abbrev pub PassScalars : (ℕ → Bool) → Type 0
@@ -74,11 +88,16 @@ cut_at bytes front rest whole =
     (rw (count, whole) (take_at front rest (length front) refl), rw (count, whole) (drop_at front rest (length front) refl))
 
 -- As many as pass stand at the front and this after them: all pass exactly where this is empty.
-pub all_where_empty : (test : ℕ → Bool) (bytes rest : List ℕ) (empty : Bool) → TakesChars test bytes rest → empty ≡ (length rest == 0) → (IsTrue empty → AreAll test bytes) × (AreAll test bytes → IsTrue empty)
+pub all_where_empty : (test : ℕ → Bool) (bytes rest : List ℕ) (empty : Bool) →
+    TakesChars test bytes rest → empty ≡ (length rest == 0) → (IsTrue empty → AreAll test bytes)
+    × (AreAll test bytes → IsTrue empty)
 all_where_empty test bytes [] empty taken e = ((λ t. rw (taken.whole, append-nil taken.front) taken.are_all), (λ all. e))
 all_where_empty test bytes (b ∷ bs) empty taken e =
-    let full : (length (b ∷ bs) == 0) ≡ false = ne_eqb (length (b ∷ bs)) 0 (λ none. omega arith) in
-    ((λ t. let no_more : empty ≡ true = t in cc), (λ all. let same = (same_all test taken.front bytes (b ∷ bs) [] taken.are_all all taken.ends (nothing_begins test) (sym taken.whole ∙ sym (append-nil bytes))).1 in cc))
+    let full : (length (b ∷ bs) == 0) ≡ false = ne_eqb (length (b ∷ bs)) 0 (λ none. omega arith) in (
+      (λ t. let no_more : empty ≡ true = t in cc),
+      (λ all. let same = (same_all test taken.front bytes (b ∷ bs) [] taken.are_all all taken.ends
+          (nothing_begins test) (sym taken.whole ∙ sym (append-nil bytes))).1 in cc),
+    )
 
 -- Chars of ASCII are Chars
 pub where_ascii_chars : (bytes : List ℕ) (all : Bool) → all ≡ list_all is_ascii_char bytes → all ≡ true → AreAll is_char bytes

@@ -63,7 +63,9 @@ digits_no_bracket : (base : ℕ) (digits : List ℕ) → base ≤ 36 → list_al
 digits_no_bracket base [] known all = refl
 digits_no_bracket base (d ∷ ds) known all =
     let parts = and_parts (is_digit d base) (list_all (λ k. is_digit k base) ds) all in
-    no_bracket_in d (ds ++ codes ";") (λ same. let low : digit_value 93 < base = ltb-true (digit_value 93) base (let P : ℕ → Type 0 = λ k. is_digit k base ≡ true in subst P same parts.0) in omega arith)
+    no_bracket_in d (ds ++ codes ";")
+    (λ same. let low : digit_value 93 < base = ltb-true (digit_value 93) base
+    (let P : ℕ → Type 0 = λ k. is_digit k base ≡ true in subst P same parts.0) in omega arith)
     (digits_no_bracket base ds known parts.1)
 
 reference_bytes : (u others : List ℕ) → u ≡ 38 ∷ others → has_no_bracket others ≡ true → UnitBytes u
@@ -155,7 +157,9 @@ begins_bytes (a ∷ b ∷ c ∷ units) e =
     (joined units, rw ((bytes_eq-Decides a (codes "]")).0 inner.0, (bytes_eq-Decides b (codes "]")).0 inner.1, (bytes_eq-Decides c (codes ">")).0 outer.1) refl)
 
 -- units that hold it do so at the front, or after the first
-held_from : (u : List ℕ) (us : List (List ℕ)) (begins : Bool) → begins_close_mark (u ∷ us) ≡ begins → (begins || holds_close_mark us) ≡ true → (holds_close_mark us ≡ true → ContainsBytes (joined us) (codes "]]>")) → ContainsBytes (u ++ joined us) (codes "]]>")
+held_from : (u : List ℕ) (us : List (List ℕ)) (begins : Bool) → begins_close_mark (u ∷ us)
+    ≡ begins → (begins || holds_close_mark us) ≡ true → (holds_close_mark us ≡ true →
+    ContainsBytes (joined us) (codes "]]>")) → ContainsBytes (u ++ joined us) (codes "]]>")
 held_from u us true is e below = let found = begins_bytes (u ∷ us) is in record { before = []; after = found.0; whole = found.1 }
 held_from u us false is e below =
     let h = below e in

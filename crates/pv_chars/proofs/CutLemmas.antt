@@ -58,20 +58,32 @@ literal_cut c rest is = by (cases_lt c 128) (cases_lt c 2048) (cases_lt c 65536)
         rw (two_bytes c l h) (high_lead a (next c ∷ rest) (omega arith) ∙ ap (unit_opens a) (stays_open (next c) rest (next_continues c)))
     by (inr _) (inr l) (inl h) =
         let a = 224 + c / 4096 in
-        rw (three_bytes c l h) (high_lead a (next (c / 64) ∷ next c ∷ rest) (omega arith) ∙ ap (unit_opens a) (stays_open (next (c / 64)) (next c ∷ rest) (next_continues (c / 64)) ∙ ap (goes_on (next (c / 64))) (stays_open (next c) rest (next_continues c))))
+        rw (three_bytes c l h) (high_lead a (next (c / 64) ∷ next c ∷ rest) (omega arith)
+        ∙ ap (unit_opens a) (stays_open (next (c / 64)) (next c ∷ rest)
+        (next_continues (c / 64)) ∙ ap (goes_on (next (c / 64))) (stays_open (next c) rest
+        (next_continues c))))
     by (inr _) (inr _) (inr l) =
         let a = 240 + c / 262144 in
-        rw (four_bytes c l) (high_lead a (next (c / 4096) ∷ next (c / 64) ∷ next c ∷ rest) (omega arith) ∙ ap (unit_opens a) (stays_open (next (c / 4096)) (next (c / 64) ∷ next c ∷ rest) (next_continues (c / 4096)) ∙ ap (goes_on (next (c / 4096))) (stays_open (next (c / 64)) (next c ∷ rest) (next_continues (c / 64)) ∙ ap (goes_on (next (c / 64))) (stays_open (next c) rest (next_continues c)))))
+        rw (four_bytes c l) (high_lead a (next (c / 4096) ∷ next (c / 64) ∷ next c ∷ rest)
+        (omega arith) ∙ ap (unit_opens a) (stays_open (next (c / 4096))
+        (next (c / 64) ∷ next c ∷ rest) (next_continues (c / 4096))
+        ∙ ap (goes_on (next (c / 4096))) (stays_open (next (c / 64)) (next c ∷ rest)
+        (next_continues (c / 64)) ∙ ap (goes_on (next (c / 64))) (stays_open (next c) rest
+        (next_continues c)))))
 
 -- ---- a reference
-pub reference_cut : (inner rest : List ℕ) → no_semicolon inner ≡ true → cut_units false (38 ∷ (inner ++ (59 ∷ rest))) ≡ ([], (38 ∷ (inner ++ (59 ∷ (cut_units false rest).0))) ∷ (cut_units false rest).1)
+pub reference_cut : (inner rest : List ℕ) → no_semicolon inner ≡ true →
+    cut_units false (38 ∷ (inner ++ (59 ∷ rest)))
+    ≡ ([], (38 ∷ (inner ++ (59 ∷ (cut_units false rest).0))) ∷ (cut_units false rest).1)
 reference_cut inner rest e = ap (unit_opens 38) (cut_reference inner rest e)
 
 digits_hold_none : (base : ℕ) (digits : List ℕ) → base ≤ 36 → list_all (λ d. is_digit d base) digits ≡ true → no_semicolon digits ≡ true
 digits_hold_none base [] known all = refl
 digits_hold_none base (d ∷ ds) known all =
     let parts = and_parts (is_digit d base) (list_all (λ k. is_digit k base) ds) all in
-    let apart : (d == 59) ≡ false = ne_eqb d 59 (λ same. let low : digit_value 59 < base = ltb-true (digit_value 59) base (let P : ℕ → Type 0 = λ k. is_digit k base ≡ true in subst P same parts.0) in omega arith) in
+    let apart : (d == 59) ≡ false =
+    ne_eqb d 59 (λ same. let low : digit_value 59 < base = ltb-true (digit_value 59) base
+    (let P : ℕ → Type 0 = λ k. is_digit k base ≡ true in subst P same parts.0) in omega arith) in
     and_from (not (d == 59)) (no_semicolon ds) (rw apart refl) (digits_hold_none base ds known parts.1)
 
 names_hold_none : (name : List ℕ) → IsPredefined name → no_semicolon name ≡ true
@@ -85,7 +97,9 @@ names_hold_none name (inr (inr (inr (inr e)))) = rw e refl
 by_inner : (u inner rest : List ℕ) → u ≡ 38 ∷ (inner ++ codes ";") → no_semicolon inner ≡ true → cut_units false (u ++ rest) ≡ ([], (u ++ (cut_units false rest).0) ∷ (cut_units false rest).1)
 by_inner u inner rest e none =
     let spread : u ++ rest ≡ 38 ∷ (inner ++ (59 ∷ rest)) = ap (λ l. l ++ rest) e ∙ ap (λ l. 38 ∷ l) (append_assoc inner (codes ";") rest) in
-    let back : 38 ∷ (inner ++ (59 ∷ (cut_units false rest).0)) ≡ u ++ (cut_units false rest).0 = sym (ap (λ l. l ++ (cut_units false rest).0) e ∙ ap (λ l. 38 ∷ l) (append_assoc inner (codes ";") (cut_units false rest).0)) in
+    let back : 38 ∷ (inner ++ (59 ∷ (cut_units false rest).0)) ≡ u ++ (cut_units false rest).0 =
+    sym (ap (λ l. l ++ (cut_units false rest).0) e
+    ∙ ap (λ l. 38 ∷ l) (append_assoc inner (codes ";") (cut_units false rest).0)) in
     ap (cut_units false) spread ∙ reference_cut inner rest none ∙ packed back
   where
     packed : {a b : List ℕ} → a ≡ b → ◌≡◌ {A = List ℕ × List (List ℕ)} ([], a ∷ (cut_units false rest).1) ([], b ∷ (cut_units false rest).1)

@@ -1,12 +1,13 @@
 -- XML declarations and text declarations, read from the front.
-use Rattle.std.proofs.Common.{◌≡◌, ◌≢◌, ℕ, ◌<◌, ◌≤◌, ◌⊎◌, inl, inr, ⊎_elim, List, [], ◌∷◌, ◌++◌, Bool, true, false, cond, length, Bor, Option, Some, None, refl, sym, ap, subst, ◌∙◌, arith, append_assoc, length-append}
+use Rattle.std.proofs.Common.{◌≡◌, ◌≢◌, ℕ, ◌<◌, ◌≤◌, ◌⊎◌, inl, inr, ⊎_elim, List, [], ◌∷◌, ◌++◌, Bool, true, false, cond, length, Bor, Option, Some}
+use Rattle.std.proofs.Common.{None, refl, sym, ap, subst, ◌∙◌, arith, append_assoc, length-append}
 use Rattle.std.specs.Prelude.{codes, unwrap_or}
 use Rattle.std.specs.Option.{MatchOption}
 use Rattle.pv_chars.specs.Spaces.{is_space, IsOptionalSpace}
 use Rattle.pv_chars.specs.Scan.{after_space, after_blank}
 use Rattle.pv_chars.specs.Fronts.{Begins, BeginsNone}
 use Rattle.pv_chars.specs.Declarations.{IsPartOf, IsVersionNum, IsEncName, IsYesOrNo, IsVersionInfo, IsEncodingDecl, IsStandaloneDecl, IsOptional, IsTextDecl, IsXmlDecl}
-use Rattle.pv_chars.proofs.Scanning.{after_space_takes, after_space-append}
+use Rattle.pv_chars.proofs.TextScans.{after_space_takes, after_space-append}
 use Rattle.pv_chars.proofs.MarkupLemmas.{behind}
 use Rattle.pv_chars.proofs.PartLemmas.{same_part_of, part_of_starts}
 
@@ -14,7 +15,9 @@ use Rattle.pv_chars.proofs.PartLemmas.{same_part_of, part_of_starts}
 abbrev pub Passes : (List ℕ → Type 0) → List ℕ → List ℕ → Type 0
 Passes IsItem bytes rest = Begins IsItem bytes rest ⊎ (BeginsNone IsItem bytes × (rest ≡ bytes))
 
-pub passes_by : (IsItem : List ℕ → Type 0) (bytes x : Bor (List ℕ)) (r : Option (Bor (List ℕ))) → MatchOption r (BeginsNone IsItem bytes.now) (λ r. Begins IsItem bytes.now r.now) → x ≡ unwrap_or r bytes → Passes IsItem bytes.now x.now
+pub passes_by : (IsItem : List ℕ → Type 0) (bytes x : Bor (List ℕ)) (r : Option (Bor (List ℕ))) →
+    MatchOption r (BeginsNone IsItem bytes.now) (λ r. Begins IsItem bytes.now r.now) →
+    x ≡ unwrap_or r bytes → Passes IsItem bytes.now x.now
 passes_by IsItem bytes x None none e = inr (none, ap (λ (b : Bor (List ℕ)). b.now) e)
 passes_by IsItem bytes x (Some r) found e = inl (rw e found)
 
@@ -73,7 +76,9 @@ optional_passes IsItem bytes item rest e (inl none) absent = let same : rest ≡
 optional_passes IsItem bytes item rest e (inr is) absent = inl record { item = item; is_item = is; whole = e }
 
 -- what comes next after one
-optional_next : (x : ℕ) (word bytes item rest : List ℕ) (IsValue : List ℕ → Type 0) → is_space x ≡ false → bytes ≡ item ++ rest → IsOptional (IsPartOf (x ∷ word) IsValue) item → (next bytes ≡ Some x) ⊎ (next bytes ≡ next rest)
+optional_next : (x : ℕ) (word bytes item rest : List ℕ) (IsValue : List ℕ → Type 0) →
+    is_space x ≡ false → bytes ≡ item ++ rest → IsOptional (IsPartOf (x ∷ word) IsValue) item →
+    (next bytes ≡ Some x) ⊎ (next bytes ≡ next rest)
 optional_next x word bytes item rest IsValue black e (inl none) = inr (ap next (e ∙ ap (λ l. l ++ rest) none))
 optional_next x word bytes item rest IsValue black e (inr is) = inl (part_next x word bytes rest IsValue black record { item = item; is_item = is; whole = e })
 
@@ -84,7 +89,12 @@ pub record EndsDecl (start version encoding end rest : List ℕ) : Type 0 where
   pub third : Passes IsStandaloneDecl encoding end
   pub closes : after_space end ≡ codes "?>" ++ rest
 
-tail_passes : (encoding standalone space rest : List ℕ) → IsOptional IsEncodingDecl encoding → IsOptional IsStandaloneDecl standalone → IsOptionalSpace space → (Passes IsEncodingDecl (encoding ++ (standalone ++ (space ++ (codes "?>" ++ rest)))) (standalone ++ (space ++ (codes "?>" ++ rest)))) × (Passes IsStandaloneDecl (standalone ++ (space ++ (codes "?>" ++ rest))) (space ++ (codes "?>" ++ rest))) × ((next (encoding ++ (standalone ++ (space ++ (codes "?>" ++ rest)))) ≡ Some 118) → ⊥)
+tail_passes : (encoding standalone space rest : List ℕ) → IsOptional IsEncodingDecl encoding →
+    IsOptional IsStandaloneDecl standalone → IsOptionalSpace space →
+    (Passes IsEncodingDecl (encoding ++ (standalone ++ (space ++ (codes "?>" ++ rest)))) (standalone
+    ++ (space ++ (codes "?>" ++ rest)))) × (Passes IsStandaloneDecl (standalone
+    ++ (space ++ (codes "?>" ++ rest))) (space ++ (codes "?>" ++ rest)))
+    × ((next (encoding ++ (standalone ++ (space ++ (codes "?>" ++ rest)))) ≡ Some 118) → ⊥)
 tail_passes encoding standalone space rest is_encoding is_standalone is_space =
     let c = space ++ (codes "?>" ++ rest) in
     let b = standalone ++ c in
@@ -110,7 +120,9 @@ shorter : (IsItem : List ℕ → Type 0) (bytes rest : List ℕ) → Passes IsIt
 shorter IsItem bytes rest (inl b) = omega (arith, ap length b.whole, length-append b.item rest)
 shorter IsItem bytes rest (inr none) = omega (arith, ap length none.1)
 
-pub same_decl : (start version encoding end rest other_version other_encoding other_end more : List ℕ) → EndsDecl start version encoding end rest → EndsDecl start other_version other_encoding other_end more → (end ≡ other_end) × (rest ≡ more)
+pub same_decl : (start version encoding end rest other_version other_encoding other_end more : List
+    ℕ) → EndsDecl start version encoding end rest →
+    EndsDecl start other_version other_encoding other_end more → (end ≡ other_end) × (rest ≡ more)
 same_decl start version encoding end rest v e d more a b =
     let first : version ≡ v = same_passed IsVersionInfo one_version start version v a.first b.first in
     let P : List ℕ → Type 0 = λ l. Passes IsEncodingDecl l e in
@@ -133,11 +145,15 @@ no_length : (l : List ℕ) → length l ≡ 0 → l ≡ []
 no_length [] e = refl
 no_length (b ∷ bs) e = absurd (omega arith)
 
-decl_whole : (front bytes start version encoding standalone space rest : List ℕ) → bytes ≡ front ++ start → start ≡ version ++ (encoding ++ (standalone ++ (space ++ (codes "?>" ++ rest)))) → bytes ≡ (front ++ (version ++ (encoding ++ (standalone ++ (space ++ codes "?>"))))) ++ rest
+decl_whole : (front bytes start version encoding standalone space rest : List ℕ) → bytes ≡ front
+    ++ start → start ≡ version ++ (encoding ++ (standalone ++ (space ++ (codes "?>" ++ rest)))) →
+    bytes ≡ (front ++ (version ++ (encoding ++ (standalone ++ (space ++ codes "?>"))))) ++ rest
 decl_whole front bytes start version encoding standalone space rest e s = e ∙ ap (λ l. front ++ l) s ∙ simp append_assoc
 
 -- a text declaration at the front
-pub text_decl_ends : (bytes start rest : List ℕ) → bytes ≡ codes "<?xml" ++ start → Begins IsTextDecl bytes rest → (version : List ℕ) × (encoding : List ℕ) × (end : List ℕ) × EndsDecl start version encoding end rest × (length end < length start)
+pub text_decl_ends : (bytes start rest : List ℕ) → bytes ≡ codes "<?xml" ++ start →
+    Begins IsTextDecl bytes rest → (version : List ℕ) × (encoding : List ℕ) × (end : List ℕ)
+    × EndsDecl start version encoding end rest × (length end < length start)
 text_decl_ends bytes start rest e d =
     let i = d.is_item in
     let c = i.space ++ (codes "?>" ++ rest) in
@@ -152,17 +168,30 @@ text_decl_ends bytes start rest e d =
       b,
       c,
       record { first = first; second = tail.0; third = tail.1; closes = after_space-append i.space (codes "?>" ++ rest) i.is_space refl },
-      omega (arith, some, ap length whole, length-append i.version a, length-append i.encoding b, length-append i.standalone c, length-append i.version (i.encoding ++ i.standalone), length-append i.encoding i.standalone),
+      omega (
+        arith,
+        some,
+        ap length whole,
+        length-append i.version a,
+        length-append i.encoding b,
+        length-append i.standalone c,
+        length-append i.version (i.encoding ++ i.standalone),
+        length-append i.encoding i.standalone,
+      ),
     )
 
-pub text_decl_by : (bytes start version encoding end rest : List ℕ) → bytes ≡ codes "<?xml" ++ start → EndsDecl start version encoding end rest → (length end ≡ length start → ⊥) → Begins IsTextDecl bytes rest
+pub text_decl_by : (bytes start version encoding end rest : List ℕ) → bytes ≡ codes "<?xml"
+    ++ start → EndsDecl start version encoding end rest → (length end ≡ length start → ⊥) →
+    Begins IsTextDecl bytes rest
 text_decl_by bytes start version encoding end rest e d some =
     let v = passed_over IsVersionInfo start version d.first in
     let n = passed_over IsEncodingDecl version encoding d.second in
     let s = passed_over IsStandaloneDecl encoding end d.third in
     let space = after_space_takes end in
     let closes : end ≡ space.space ++ (codes "?>" ++ rest) = space.whole ∙ ap (λ l. space.space ++ l) d.closes in
-    let whole : start ≡ v.item ++ (n.item ++ (s.item ++ (space.space ++ (codes "?>" ++ rest)))) = v.whole ∙ ap (λ l. v.item ++ l) (n.whole ∙ ap (λ l. n.item ++ l) (s.whole ∙ ap (λ l. s.item ++ l) closes)) in
+    let whole : start ≡ v.item ++ (n.item ++ (s.item ++ (space.space ++ (codes "?>" ++ rest)))) =
+    v.whole ∙ ap (λ l. v.item ++ l) (n.whole ∙ ap (λ l. n.item ++ l) (s.whole ∙ ap (λ l. s.item
+    ++ l) closes)) in
     record {
       item = codes "<?xml" ++ (v.item ++ (n.item ++ (s.item ++ (space.space ++ codes "?>"))));
       is_item = record {
@@ -173,7 +202,18 @@ text_decl_by bytes start version encoding end rest e d some =
         is_version = v.is_item;
         is_encoding = n.is_item;
         is_standalone = s.is_item;
-        some = λ none. some (omega (arith, ap length none, ap length v.whole, ap length n.whole, ap length s.whole, length-append v.item version, length-append n.item encoding, length-append s.item end, length-append v.item (n.item ++ s.item), length-append n.item s.item));
+        some = λ none. some (omega (
+          arith,
+          ap length none,
+          ap length v.whole,
+          ap length n.whole,
+          ap length s.whole,
+          length-append v.item version,
+          length-append n.item encoding,
+          length-append s.item end,
+          length-append v.item (n.item ++ s.item),
+          length-append n.item s.item,
+        ));
         is_space = space.optional;
         whole = refl;
       };
@@ -182,7 +222,9 @@ text_decl_by bytes start version encoding end rest e d some =
 
 -- where none begins
 pub no_text_decl_start : (bytes : List ℕ) → ((rest : List ℕ) → bytes ≢ codes "<?xml" ++ rest) → BeginsNone IsTextDecl bytes
-no_text_decl_start bytes none rest d = let i = d.is_item in none _ (d.whole ∙ ap (λ l. l ++ rest) i.whole ∙ append_assoc (codes "<?xml") (i.version ++ (i.encoding ++ (i.standalone ++ (i.space ++ codes "?>")))) rest)
+no_text_decl_start bytes none rest d = let i = d.is_item in
+    none _ (d.whole ∙ ap (λ l. l ++ rest) i.whole ∙ append_assoc (codes "<?xml") (i.version
+    ++ (i.encoding ++ (i.standalone ++ (i.space ++ codes "?>")))) rest)
 
 -- what three parts leave
 pub record PassesParts (start version encoding end : List ℕ) : Type 0 where
@@ -193,7 +235,9 @@ pub record PassesParts (start version encoding end : List ℕ) : Type 0 where
 parts_of : (start version encoding end rest : List ℕ) → EndsDecl start version encoding end rest → PassesParts start version encoding end
 parts_of start version encoding end rest d = record { first = d.first; second = d.second; third = d.third }
 
-same_parts : (start version encoding end other_version other_encoding other_end : List ℕ) → PassesParts start version encoding end → PassesParts start other_version other_encoding other_end → end ≡ other_end
+same_parts : (start version encoding end other_version other_encoding other_end : List ℕ) →
+    PassesParts start version encoding end → PassesParts start other_version other_encoding
+    other_end → end ≡ other_end
 same_parts start version encoding end v e d a b =
     let first : version ≡ v = same_passed IsVersionInfo one_version start version v a.first b.first in
     let P : List ℕ → Type 0 = λ l. Passes IsEncodingDecl l e in
@@ -207,7 +251,9 @@ no_text_decl_parts bytes start version encoding end e parts none rest d =
     let same = same_parts start version encoding end found.0 found.1 found.2 parts (parts_of start found.0 found.1 found.2 rest found.3) in
     omega (arith, found.4, ap length same)
 
-pub no_text_decl_end : (bytes start version encoding end : List ℕ) → bytes ≡ codes "<?xml" ++ start → PassesParts start version encoding end → ((rest : List ℕ) → after_space end ≢ codes "?>" ++ rest) → BeginsNone IsTextDecl bytes
+pub no_text_decl_end : (bytes start version encoding end : List ℕ) → bytes ≡ codes "<?xml"
+    ++ start → PassesParts start version encoding end → ((rest : List ℕ) →
+    after_space end ≢ codes "?>" ++ rest) → BeginsNone IsTextDecl bytes
 no_text_decl_end bytes start version encoding end e parts none rest d =
     let found = text_decl_ends bytes start rest e d in
     let same = same_parts start version encoding end found.0 found.1 found.2 parts (parts_of start found.0 found.1 found.2 rest found.3) in
@@ -223,7 +269,9 @@ one_text_decl bytes rest more a b =
     (same_decl start first.0 first.1 first.2 rest second.0 second.1 second.2 more first.3 second.3).1
 
 -- ---- XML declarations
-pub xml_decl_ends : (bytes start rest : List ℕ) → bytes ≡ codes "<?xml" ++ start → Begins IsXmlDecl bytes rest → (version : List ℕ) × (encoding : List ℕ) × (end : List ℕ) × EndsDecl start version encoding end rest × Begins IsVersionInfo start version
+pub xml_decl_ends : (bytes start rest : List ℕ) → bytes ≡ codes "<?xml" ++ start →
+    Begins IsXmlDecl bytes rest → (version : List ℕ) × (encoding : List ℕ) × (end : List ℕ)
+    × EndsDecl start version encoding end rest × Begins IsVersionInfo start version
 xml_decl_ends bytes start rest e d =
     let i = d.is_item in
     let c = i.space ++ (codes "?>" ++ rest) in
@@ -235,13 +283,17 @@ xml_decl_ends bytes start rest e d =
     let first : Begins IsVersionInfo start a = record { item = i.version; is_item = i.is_version; whole = whole } in
     (a, b, c, record { first = inl first; second = tail.0; third = tail.1; closes = after_space-append i.space (codes "?>" ++ rest) i.is_space refl }, first)
 
-pub xml_decl_by : (bytes start version encoding end rest : List ℕ) → bytes ≡ codes "<?xml" ++ start → Begins IsVersionInfo start version → Passes IsEncodingDecl version encoding → Passes IsStandaloneDecl encoding end → after_space end ≡ codes "?>" ++ rest → Begins IsXmlDecl bytes rest
+pub xml_decl_by : (bytes start version encoding end rest : List ℕ) → bytes ≡ codes "<?xml"
+    ++ start → Begins IsVersionInfo start version → Passes IsEncodingDecl version encoding →
+    Passes IsStandaloneDecl encoding end → after_space end ≡ codes "?>" ++ rest → Begins IsXmlDecl bytes rest
 xml_decl_by bytes start version encoding end rest e v second third ends =
     let n = passed_over IsEncodingDecl version encoding second in
     let s = passed_over IsStandaloneDecl encoding end third in
     let space = after_space_takes end in
     let closes : end ≡ space.space ++ (codes "?>" ++ rest) = space.whole ∙ ap (λ l. space.space ++ l) ends in
-    let whole : start ≡ v.item ++ (n.item ++ (s.item ++ (space.space ++ (codes "?>" ++ rest)))) = v.whole ∙ ap (λ l. v.item ++ l) (n.whole ∙ ap (λ l. n.item ++ l) (s.whole ∙ ap (λ l. s.item ++ l) closes)) in
+    let whole : start ≡ v.item ++ (n.item ++ (s.item ++ (space.space ++ (codes "?>" ++ rest)))) =
+    v.whole ∙ ap (λ l. v.item ++ l) (n.whole ∙ ap (λ l. n.item ++ l) (s.whole ∙ ap (λ l. s.item
+    ++ l) closes)) in
     record {
       item = codes "<?xml" ++ (v.item ++ (n.item ++ (s.item ++ (space.space ++ codes "?>"))));
       is_item = record {
@@ -259,12 +311,16 @@ xml_decl_by bytes start version encoding end rest e v second third ends =
     }
 
 pub no_xml_decl_start : (bytes : List ℕ) → ((rest : List ℕ) → bytes ≢ codes "<?xml" ++ rest) → BeginsNone IsXmlDecl bytes
-no_xml_decl_start bytes none rest d = let i = d.is_item in none _ (d.whole ∙ ap (λ l. l ++ rest) i.whole ∙ append_assoc (codes "<?xml") (i.version ++ (i.encoding ++ (i.standalone ++ (i.space ++ codes "?>")))) rest)
+no_xml_decl_start bytes none rest d = let i = d.is_item in
+    none _ (d.whole ∙ ap (λ l. l ++ rest) i.whole ∙ append_assoc (codes "<?xml") (i.version
+    ++ (i.encoding ++ (i.standalone ++ (i.space ++ codes "?>")))) rest)
 
 pub no_xml_decl_version : (bytes start : List ℕ) → bytes ≡ codes "<?xml" ++ start → BeginsNone IsVersionInfo start → BeginsNone IsXmlDecl bytes
 no_xml_decl_version bytes start e none rest d = let found = xml_decl_ends bytes start rest e d in none found.0 found.4
 
-pub no_xml_decl_end : (bytes start version encoding end : List ℕ) → bytes ≡ codes "<?xml" ++ start → PassesParts start version encoding end → ((rest : List ℕ) → after_space end ≢ codes "?>" ++ rest) → BeginsNone IsXmlDecl bytes
+pub no_xml_decl_end : (bytes start version encoding end : List ℕ) → bytes ≡ codes "<?xml" ++ start →
+    PassesParts start version encoding end → ((rest : List ℕ) → after_space end ≢ codes "?>"
+    ++ rest) → BeginsNone IsXmlDecl bytes
 no_xml_decl_end bytes start version encoding end e parts none rest d =
     let found = xml_decl_ends bytes start rest e d in
     let same = same_parts start version encoding end found.0 found.1 found.2 parts (parts_of start found.0 found.1 found.2 rest found.3) in

@@ -1,5 +1,5 @@
 -- for other crates:
-pub mod Scanning
+pub mod TextScans
 pub mod Beginnings
 pub mod Options
 pub mod ByteOrderMarkLemmas
@@ -7,8 +7,8 @@ pub mod Utf8Lemmas
 pub mod Ranges
 pub mod CharacterLemmas
 pub mod NameLemmas
-pub mod Delimited
-pub mod Delimiting
+pub mod DelimiterPlaces
+pub mod FirstDelimiters
 pub mod MarkupLemmas
 pub mod SpaceLemmas
 pub mod InstructionLemmas
@@ -21,7 +21,7 @@ pub mod CutLemmas
 pub mod MeansLemmas
 pub mod CloseMarks
 pub mod UnitPlaceLemmas
-pub mod Binding
+pub mod ReaderSteps
 pub mod OneFront
 pub mod NameBytes
 pub mod CharFacts

@@ -5,8 +5,8 @@ use Rattle.std.specs.Prelude.{codes}
 use Rattle.pv_chars.specs.Characters.{IsChars}
 use Rattle.pv_chars.specs.Fronts.{Begins, BeginsNone, ContainsBytes, EndsAt}
 use Rattle.pv_chars.specs.Markup.{IsComment, IsCdata}
-use Rattle.pv_chars.proofs.Delimited.{same_end}
-use Rattle.pv_chars.proofs.Delimiting.{Straddles, ends_behind, by_no_border, three_have_no_border}
+use Rattle.pv_chars.proofs.DelimiterPlaces.{same_end}
+use Rattle.pv_chars.proofs.FirstDelimiters.{Straddles, ends_behind, by_no_border, three_have_no_border}
 
 -- what stands after one front is one only
 pub behind : (front a b : List ℕ) → front ++ a ≡ front ++ b → a ≡ b
@@ -16,12 +16,16 @@ behind front a b e = sym (drop_at front a (length front) refl) ∙ ap (drop (len
 pub none_before_end : (delimiter bytes text after : List ℕ) → 0 < length delimiter → EndsAt delimiter bytes text after → ContainsBytes text delimiter → ⊥
 none_before_end delimiter bytes text after some ends holds =
     let whole : bytes ≡ holds.before ++ (delimiter ++ (holds.after ++ (delimiter ++ after))) =
-    ends.whole ∙ ap (λ l. l ++ (delimiter ++ after)) holds.whole ∙ append_assoc holds.before (delimiter ++ holds.after) (delimiter ++ after) ∙ ap (λ l. holds.before ++ l) (append_assoc delimiter holds.after (delimiter ++ after)) in
+    ends.whole ∙ ap (λ l. l ++ (delimiter ++ after)) holds.whole ∙ append_assoc holds.before
+    (delimiter ++ holds.after) (delimiter ++ after) ∙ ap (λ l. holds.before ++ l)
+    (append_assoc delimiter holds.after (delimiter ++ after)) in
     let least = ends.first holds.before (holds.after ++ (delimiter ++ after)) whole in
     omega (arith, ap length holds.whole, length-append holds.before (delimiter ++ holds.after), length-append delimiter holds.after)
 
 -- ---- comments
-no_dashes_by : (text before inside outside : List ℕ) → ((front : List ℕ) → text ≡ front ++ codes "-" → ⊥) → text ≡ before ++ inside → codes "--" ≡ inside ++ outside → 0 < length inside → 0 < length outside → ⊥
+no_dashes_by : (text before inside outside : List ℕ) → ((front : List ℕ) → text ≡ front
+    ++ codes "-" → ⊥) → text ≡ before ++ inside → codes "--" ≡ inside ++ outside →
+    0 < length inside → 0 < length outside → ⊥
 no_dashes_by text before [] outside no_dash e f some more = omega arith
 no_dashes_by text before (x ∷ []) outside no_dash e f some more = let dash : x ≡ 45 = cc in no_dash before (e ∙ ap (λ b. before ++ b ∷ []) dash)
 no_dashes_by text before (x ∷ y ∷ xs) outside no_dash e f some more = let long = ap length f in omega (arith, length-append (x ∷ y ∷ xs) outside)
@@ -38,7 +42,9 @@ pub comment_ends : (bytes inside rest : List ℕ) → bytes ≡ codes "<!--" ++ 
 comment_ends bytes inside rest e c =
     let i = c.is_item in
     let own : inside ≡ i.text ++ (codes "--" ++ (codes ">" ++ rest)) =
-    behind (codes "<!--") inside _ (sym e ∙ c.whole ∙ ap (λ l. l ++ rest) i.whole ∙ append_assoc (codes "<!--") (i.text ++ codes "-->") rest ∙ ap (λ l. codes "<!--" ++ l) (append_assoc i.text (codes "-->") rest)) in
+    behind (codes "<!--") inside _ (sym e ∙ c.whole ∙ ap (λ l. l ++ rest) i.whole
+    ∙ append_assoc (codes "<!--") (i.text ++ codes "-->") rest ∙ ap (λ l. codes "<!--" ++ l)
+    (append_assoc i.text (codes "-->") rest)) in
     (i.text, record { are_chars = i.are_chars; ends = rw own (ends_behind (codes "--") i.text (codes ">" ++ rest) i.no_dashes (no_dashes_behind i.text i.no_dash_at_end)) })
 
 pub comment_by : (bytes inside text end rest : List ℕ) → bytes ≡ codes "<!--" ++ inside → EndsAt (codes "--") inside text end → IsChars text → end ≡ codes ">" ++ rest → Begins IsComment bytes rest
@@ -53,7 +59,9 @@ comment_by bytes inside text end rest e ends chars closes = record {
         omega (arith, ap length last, length-append front (codes "-"));
     whole = refl;
   };
-  whole = e ∙ ap (λ l. codes "<!--" ++ l) (ends.whole ∙ ap (λ l. text ++ (codes "--" ++ l)) closes ∙ sym (append_assoc text (codes "-->") rest)) ∙ sym (append_assoc (codes "<!--") (text ++ codes "-->") rest);
+  whole = e ∙ ap (λ l. codes "<!--" ++ l) (ends.whole ∙ ap (λ l. text ++ (codes "--" ++ l)) closes
+      ∙ sym (append_assoc text (codes "-->") rest)) ∙ sym (append_assoc (codes "<!--") (text
+      ++ codes "-->") rest);
 }
 
 -- where no comment begins
@@ -69,7 +77,9 @@ no_comment_text bytes inside text end e ends none rest c =
     let same = same_end (codes "--") inside text end found.0 (codes ">" ++ rest) ends found.1.ends in
     none (let P : List ℕ → Type 0 = λ t. IsChars t in subst P (sym same.0) found.1.are_chars)
 
-pub no_comment_close : (bytes inside text end : List ℕ) → bytes ≡ codes "<!--" ++ inside → EndsAt (codes "--") inside text end → ((rest : List ℕ) → end ≢ codes ">" ++ rest) → BeginsNone IsComment bytes
+pub no_comment_close : (bytes inside text end : List ℕ) → bytes ≡ codes "<!--" ++ inside →
+    EndsAt (codes "--") inside text end → ((rest : List ℕ) → end ≢ codes ">" ++ rest) →
+    BeginsNone IsComment bytes
 no_comment_close bytes inside text end e ends none rest c =
     let found = comment_ends bytes inside rest e c in
     none rest (same_end (codes "--") inside text end found.0 (codes ">" ++ rest) ends found.1.ends).1
@@ -92,7 +102,9 @@ pub cdata_ends : (bytes inside rest : List ℕ) → bytes ≡ codes "<![CDATA[" 
 cdata_ends bytes inside rest e c =
     let i = c.is_item in
     let own : inside ≡ i.text ++ (codes "]]>" ++ rest) =
-    behind (codes "<![CDATA[") inside _ (sym e ∙ c.whole ∙ ap (λ l. l ++ rest) i.whole ∙ append_assoc (codes "<![CDATA[") (i.text ++ codes "]]>") rest ∙ ap (λ l. codes "<![CDATA[" ++ l) (append_assoc i.text (codes "]]>") rest)) in
+    behind (codes "<![CDATA[") inside _ (sym e ∙ c.whole ∙ ap (λ l. l ++ rest) i.whole
+    ∙ append_assoc (codes "<![CDATA[") (i.text ++ codes "]]>") rest ∙ ap (λ l. codes "<![CDATA["
+    ++ l) (append_assoc i.text (codes "]]>") rest)) in
     (i.text, record { are_chars = i.are_chars; ends = rw own (ends_behind (codes "]]>") i.text rest i.no_end (by_no_border (codes "]]>") i.text (three_have_no_border 93 62 (λ same. omega arith)))) })
 
 pub cdata_by : (bytes inside text rest : List ℕ) → bytes ≡ codes "<![CDATA[" ++ inside → EndsAt (codes "]]>") inside text rest → IsChars text → Begins IsCdata bytes rest

@@ -1,5 +1,6 @@
 -- What a text means: one thing only, and what a loop over units has found.
-use Rattle.std.proofs.Common.{◌≡◌, ◌≢◌, ℕ, zero, suc, ◌+◌, ◌<◌, ◌≤◌, ◌-◌, ◌⊎◌, inl, inr, List, [], ◌∷◌, ◌++◌, Bool, true, false, ◌&&◌, ◌==◌, not, length, take, drop, Result, Ok, Err, refl, sym, ap, subst, ◌∙◌, arith, append_assoc, length-append}
+use Rattle.std.proofs.Common.{◌≡◌, ◌≢◌, ℕ, zero, suc, ◌+◌, ◌<◌, ◌≤◌, ◌-◌, ◌⊎◌, inl, inr, List, [], ◌∷◌, ◌++◌, Bool, true, false, ◌&&◌, ◌==◌, not}
+use Rattle.std.proofs.Common.{length, take, drop, Result, Ok, Err, refl, sym, ap, subst, ◌∙◌, arith, append_assoc, length-append}
 use Rattle.std.proofs.lemmas.List.{append-nil, nil_from_length, take-append-drop, length-take, length-drop}
 use Rattle.std.proofs.lemmas.Bool.{and_parts, ltb-true, eqb-true, eqb-false, not-true}
 use Rattle.std.proofs.lemmas.Str.{encode_ascii}
@@ -17,7 +18,8 @@ use Rattle.pv_chars.specs.Texts.{is_data, has_data}
 use Rattle.pv_chars.specs.References.{IsPredefined}
 use Rattle.pv_chars.proofs.Utf8Lemmas.{one_byte, two_bytes, three_bytes, four_bytes}
 use Rattle.pv_chars.specs.Texts.{joined}
-use Rattle.pv_chars.specs.Units.{is_literal, is_simple, is_lone, IsUnit, AllUnits, BeginsCloseMark, BeginsUnit, HasTextFault, TextRestMeans, ends, unit, fault, TextMeans, MeansUnits, IsCut, units_in, HasUnitFault, BeginsAnyUnit, BeginsSomeUnit}
+use Rattle.pv_chars.specs.Units.{is_literal, is_simple, is_lone, IsUnit, AllUnits, BeginsCloseMark, BeginsUnit, HasTextFault, TextRestMeans, ends}
+use Rattle.pv_chars.specs.Units.{unit, fault, TextMeans, MeansUnits, IsCut, units_in, HasUnitFault, BeginsAnyUnit, BeginsSomeUnit}
 use Rattle.pv_chars.specs.declared.errors.TextError.{TextError}
 use Rattle.pv_chars.specs.declared.errors.TextError.TheVariants.{Empty, BadChar, BadReference, Entity, CloseMark, NoMemory}
 use Rattle.pv_chars.proofs.CharacterLemmas.{cut_at}
@@ -133,7 +135,9 @@ simple_no_mark : (bytes : List ℕ) → list_all is_simple bytes ≡ true → Be
 simple_no_mark bytes e mark =
     let P : List ℕ → Type 0 = λ l. list_all is_simple l ≡ true in
     let whole = subst P mark.1 e in
-    let third = (and_parts (is_simple 62) (list_all is_simple mark.0) (and_parts (is_simple 93) (is_simple 62 && list_all is_simple mark.0) (and_parts (is_simple 93) (is_simple 93 && (is_simple 62 && list_all is_simple mark.0)) whole).1).1).0 in cc
+    let third = (and_parts (is_simple 62) (list_all is_simple mark.0) (and_parts (is_simple 93)
+    (is_simple 62 && list_all is_simple mark.0) (and_parts (is_simple 93) (is_simple 93 &&
+    (is_simple 62 && list_all is_simple mark.0)) whole).1).1).0 in cc
 
 simple_means : (before : List (List ℕ)) (bytes : List ℕ) → list_all is_simple bytes ≡ true → TextRestMeans before bytes (Ok (before ++ singles bytes))
 unfolding singles
@@ -314,5 +318,12 @@ module _ (bytes rest : List ℕ) (all n : ℕ) (is : IsCut bytes all) (behind : 
 -- ---- a byte that is a unit whatever stands after it
 pub lone_unit : (bytes rest : List ℕ) (b : ℕ) → bytes ≡ b ∷ rest → is_lone b ≡ true → BeginsSomeUnit bytes rest
 lone_unit bytes rest b e is =
-    let parts = and_parts (is_simple b) (not (b == 93)) is in
-    (b ∷ [], record { is_unit = simple_unit b parts.0; whole = e; no_close_mark = λ mark. let first = mark.1 in let same : b ≡ 93 = cc in let apart = eqb-false b 93 (not-true (b == 93) parts.1) in apart same })
+    let parts = and_parts (is_simple b) (not (b == 93)) is in (
+      b ∷ [],
+      record {
+        is_unit = simple_unit b parts.0;
+        whole = e;
+        no_close_mark = λ mark. let first = mark.1 in let same : b ≡ 93 = cc in let apart =
+            eqb-false b 93 (not-true (b == 93) parts.1) in apart same;
+      },
+    )

@@ -1,5 +1,6 @@
 -- Names at the front of a text, and the bytes that may stand in a name.
-use Rattle.std.proofs.Common.{◌≡◌, ◌≢◌, ◌≤◌, ◌<◌, ◌⊎◌, inl, inr, ℕ, zero, suc, ◌+◌, ◌/◌, List, [], ◌∷◌, ◌++◌, length, Bool, true, false, ◌==◌, ◌||◌, ◌&&◌, not, cond, subst, Option, Some, None, refl, sym, ap, ◌∙◌, append_assoc, length-append, arith}
+use Rattle.std.proofs.Common.{◌≡◌, ◌≢◌, ◌≤◌, ◌<◌, ◌⊎◌, inl, inr, ℕ, zero, suc, ◌+◌, ◌/◌, List, [], ◌∷◌, ◌++◌, length, Bool, true, false, ◌==◌, ◌||◌}
+use Rattle.std.proofs.Common.{◌&&◌, not, cond, subst, Option, Some, None, refl, sym, ap, ◌∙◌, append_assoc, length-append, arith}
 use Rattle.std.specs.Prelude.{nat_le}
 use Rattle.std.specs.List.{list_all, range_with_len}
 use Rattle.std.proofs.lemmas.Bool.{and_parts, and_from, cases_lt, lt-ltb, le-ltb, le-leb, or_right}
@@ -12,14 +13,14 @@ use Rattle.pv_chars.specs.Characters.{is_name_start, is_name_char, BeginsWith, B
 use Rattle.pv_chars.specs.Names.{IsName, TakesName, BeginsNoName}
 use Rattle.pv_chars.specs.Scan.{after_bytes}
 use Rattle.pv_chars.specs.Utf8.{char_at}
-use Rattle.pv_chars.proofs.Scanning.{begins, chosen}
+use Rattle.pv_chars.proofs.TextScans.{begins, chosen}
 use Rattle.pv_chars.proofs.Beginnings.{HasNoSpace, no_space}
 use Rattle.pv_chars.proofs.Utf8Lemmas.{char_at_takes, char_at-encode, begins_shorter}
 use Rattle.pv_chars.proofs.CharacterLemmas.{PassScalars, none_in_nothing, AreAll-append, AreAll-one, ends_at_other, ends_at_none, nothing_begins}
 use Rattle.pv_chars.proofs.NameLemmas.{name_chars_are_scalars, name_is_run, same_name}
 use Rattle.pv_chars.proofs.NameLemmas.{name_by as takes_by, no_name_by_start, no_name_by_none}
 use Rattle.pv_chars.specs.CharReading.{behind_char, behind_all, name_by, name_at}
-use Rattle.pv_chars.proofs.Binding.{same_some}
+use Rattle.pv_chars.proofs.ReaderSteps.{same_some}
 
 -- what may stand in a name in ASCII, and all bytes beyond
 abbrev pub is_name_byte : ℕ → Bool
@@ -126,8 +127,18 @@ no_name_char rest ends c more pass whole = by (encode c) refl (char_bytes c pass
         cc
 
 -- what stands after all characters that pass
-behind_by : (test : ℕ → Bool) → PassScalars test → (bytes : List ℕ) (more : List ℕ → List ℕ) (o : Option (ℕ × List ℕ)) → char_at bytes ≡ o → ((c : ℕ) (rest : List ℕ) → length rest < length bytes → TakesChars test rest (more rest)) → TakesChars test bytes (behind_char test more bytes o)
-behind_by test scalars bytes more None is below = record { front = []; are_all = none_in_nothing test; whole = refl; ends = ends_at_none test bytes scalars (λ c rest b. let some = char_at-encode c rest b.scalar in let at = ap char_at b.whole in cc) }
+behind_by : (test : ℕ → Bool) → PassScalars test → (bytes : List ℕ) (more : List ℕ →
+    List ℕ) (o : Option (ℕ × List ℕ)) → char_at bytes ≡ o → ((c : ℕ) (rest : List ℕ) →
+    length rest < length bytes → TakesChars test rest (more rest)) →
+    TakesChars test bytes (behind_char test more bytes o)
+behind_by test scalars bytes more None is below =
+    record {
+      front = [];
+      are_all = none_in_nothing test;
+      whole = refl;
+      ends = ends_at_none test bytes scalars
+          (λ c rest b. let some = char_at-encode c rest b.scalar in let at = ap char_at b.whole in cc);
+    }
 behind_by test scalars bytes more (Some x) is below = passes (test x.0) refl
   where
     begun : BeginsWith bytes x.0 x.1
@@ -155,7 +166,9 @@ found_by : (bytes : List ℕ) (o : Option (ℕ × List ℕ)) → char_at bytes �
 found_by bytes None is r e = cc
 found_by bytes (Some x) is r e =
     let start = chosen (is_name_start x.0) _ r e in
-    let takes = takes_by bytes x.1 (behind_all is_name_char (length x.1) x.1) x.0 (char_at_takes bytes x.0 x.1 is) start.0 (behind_all_takes is_name_char name_chars_are_scalars (length x.1) x.1 (omega arith)) in
+    let takes = takes_by bytes x.1 (behind_all is_name_char (length x.1) x.1) x.0
+    (char_at_takes bytes x.0 x.1 is) start.0 (behind_all_takes is_name_char
+    name_chars_are_scalars (length x.1) x.1 (omega arith)) in
     subst (λ (p : List ℕ × List ℕ). TakesName bytes p.0 p.1) (same_some _ _ start.1) takes
 
 pub name_at_takes : (bytes name rest : List ℕ) → name_at bytes ≡ Some (name, rest) → TakesName bytes name rest

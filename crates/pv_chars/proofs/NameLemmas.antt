@@ -18,7 +18,9 @@ pub name_chars_are_scalars : PassScalars is_name_char
 name_chars_are_scalars c e = char_is_scalar c (name_char_is_char c e)
 
 -- a Name is its first character and the others, and it ends where they end
-pub name_by : (bytes others rest : List ℕ) (c : ℕ) → BeginsWith bytes c others → is_name_start c ≡ true → TakesChars is_name_char others rest → TakesName bytes (take (length bytes - length rest) bytes) (drop (length bytes - length rest) bytes)
+pub name_by : (bytes others rest : List ℕ) (c : ℕ) → BeginsWith bytes c others →
+    is_name_start c ≡ true → TakesChars is_name_char others rest →
+    TakesName bytes (take (length bytes - length rest) bytes) (drop (length bytes - length rest) bytes)
 name_by bytes others rest c begins start taken =
     let name : IsName (encode c ++ taken.front) = record { first = c; others = taken.front; is_start = start; are_name_chars = taken.are_all; whole = refl } in
     let whole : bytes ≡ (encode c ++ taken.front) ++ rest = begins.whole ∙ ap (λ l. encode c ++ l) taken.whole ∙ sym (append_assoc (encode c) taken.front rest) in
@@ -32,7 +34,13 @@ no_name_by_start bytes others c begins other name rest is whole =
 
 pub no_name_by_none : (bytes : List ℕ) → BeginsWithNone bytes → BeginsNoName bytes
 no_name_by_none bytes none name rest is whole =
-    none is.first (is.others ++ rest) record { scalar = name_chars_are_scalars is.first (name_start_is_name_char is.first is.is_start); whole = whole ∙ ap (λ l. l ++ rest) is.whole ∙ append_assoc (encode is.first) is.others rest }
+    none is.first (is.others
+    ++ rest) record {
+      scalar = name_chars_are_scalars is.first (name_start_is_name_char is.first
+          is.is_start);
+      whole = whole ∙ ap (λ l. l ++ rest) is.whole
+          ∙ append_assoc (encode is.first) is.others rest;
+    }
 
 -- A Name as a run of NameChars.
 pub name_is_run : (name : List ℕ) → IsName name → AreAll is_name_char name
@@ -53,7 +61,10 @@ pub whole_is_name : (bytes name : List ℕ) → TakesName bytes name [] → IsNa
 whole_is_name bytes name taken = rw (taken.whole, append-nil name) taken.is_name
 
 -- where the bytes are cut as a slice is
-pub name_cut : (bytes others rest name more : List ℕ) (c : ℕ) → BeginsWith bytes c others → is_name_start c ≡ true → TakesChars is_name_char others rest → name ≡ take (length bytes - length rest) bytes → more ≡ drop (length bytes - length rest) bytes → TakesName bytes name more
+pub name_cut : (bytes others rest name more : List ℕ) (c : ℕ) → BeginsWith bytes c others →
+    is_name_start c ≡ true → TakesChars is_name_char others rest →
+    name ≡ take (length bytes - length rest) bytes →
+    more ≡ drop (length bytes - length rest) bytes → TakesName bytes name more
 name_cut bytes others rest name more c begins start taken front back = rw (front, back) (name_by bytes others rest c begins start taken)
 
 -- a Name stands at the front and this after it: the bytes are a Name exactly where this is empty
@@ -76,7 +87,9 @@ is_name-IsName bytes n =
     let spelled : bytes ≡ encodes codes = n.whole ∙ ap (λ l. encode n.first ++ l) n.are_name_chars.spelled in
     let utf8 : is_utf8 bytes ≡ true = is_utf8-from_IsUtf8 bytes (codes, (all, sym spelled)) in
     let read : chars bytes ≡ codes = ap chars spelled ∙ chars-encodes codes all in
-    and_from (is_utf8 bytes) (are_name_codes (chars bytes)) utf8 (ap are_name_codes read ∙ and_from (is_name_start n.first) (list_all is_name_char n.are_name_chars.codes) n.is_start n.are_name_chars.pass)
+    and_from (is_utf8 bytes) (are_name_codes (chars bytes)) utf8 (ap are_name_codes read
+    ∙ and_from (is_name_start n.first) (list_all is_name_char n.are_name_chars.codes) n.is_start
+    n.are_name_chars.pass)
 
 name_of_codes : (bytes cs : List ℕ) → bytes ≡ encodes cs → are_name_codes cs ≡ true → IsName bytes
 name_of_codes bytes [] e is = cc

@@ -9,7 +9,7 @@ use Rattle.pv_chars.specs.Spaces.{is_space}
 use Rattle.pv_chars.specs.Scan.{after_space, after_blank}
 use Rattle.pv_chars.specs.Fronts.{Begins, BeginsNone}
 use Rattle.pv_chars.specs.Declarations.{is_quote, IsQuoted, IsPart, BeginsNoQuoted, BeginsNoPart, IsPartOf, IsVersionNum}
-use Rattle.pv_chars.proofs.Scanning.{begins, after_space_takes, after_space-append, after_blank_takes, after_blank-append}
+use Rattle.pv_chars.proofs.TextScans.{begins, after_space_takes, after_space-append, after_blank_takes, after_blank-append}
 use Rattle.pv_chars.proofs.Beginnings.{HasNoSpace, no_space, unlike}
 use Rattle.pv_chars.proofs.MarkupLemmas.{behind}
 use Rattle.pv_chars.proofs.QuoteLemmas.{same_quoted}
@@ -45,8 +45,12 @@ part_steps word bytes value rest some black b =
     let end = i.quoted ++ rest in
     let valued = q.after ++ end in
     let named = q.before ++ (codes "=" ++ valued) in
-    let equals : (i.equals ++ i.quoted) ++ rest ≡ named = append_assoc i.equals i.quoted rest ∙ ap (λ l. l ++ end) q.whole ∙ append_assoc q.before (codes "=" ++ q.after) end ∙ ap (λ l. q.before ++ l) (append_assoc (codes "=") q.after end) in
-    let whole : bytes ≡ i.space ++ (word ++ named) = b.whole ∙ ap (λ l. l ++ rest) i.whole ∙ append_assoc i.space (word ++ (i.equals ++ i.quoted)) rest ∙ ap (λ l. i.space ++ l) (append_assoc word (i.equals ++ i.quoted) rest ∙ ap (λ l. word ++ l) equals) in
+    let equals : (i.equals ++ i.quoted) ++ rest ≡ named = append_assoc i.equals i.quoted rest
+    ∙ ap (λ l. l ++ end) q.whole ∙ append_assoc q.before (codes "=" ++ q.after) end
+    ∙ ap (λ l. q.before ++ l) (append_assoc (codes "=") q.after end) in
+    let whole : bytes ≡ i.space ++ (word ++ named) = b.whole ∙ ap (λ l. l ++ rest) i.whole
+    ∙ append_assoc i.space (word ++ (i.equals ++ i.quoted)) rest ∙ ap (λ l. i.space ++ l)
+    (append_assoc word (i.equals ++ i.quoted) rest ∙ ap (λ l. word ++ l) equals) in
     let quoted : Begins (IsQuoted value) end rest = record { item = i.quoted; is_item = i.is_quoted; whole = refl } in
     record {
       start = word ++ named;
@@ -67,11 +71,31 @@ part_by word bytes value rest s =
     let equals = before.space ++ (codes "=" ++ after.space) in
     let valued : s.valued ≡ after.space ++ (b.item ++ rest) = after.whole ∙ ap (λ l. after.space ++ l) b.whole in
     let named : s.named ≡ equals ++ (b.item ++ rest) =
-    before.whole ∙ ap (λ l. before.space ++ l) (s.is_eq ∙ ap (λ l. codes "=" ++ l) valued ∙ sym (append_assoc (codes "=") after.space (b.item ++ rest))) ∙ sym (append_assoc before.space (codes "=" ++ after.space) (b.item ++ rest)) in
+    before.whole ∙ ap (λ l. before.space ++ l) (s.is_eq ∙ ap (λ l. codes "=" ++ l) valued
+    ∙ sym (append_assoc (codes "=") after.space (b.item ++ rest)))
+    ∙ sym (append_assoc before.space (codes "=" ++ after.space) (b.item ++ rest)) in
     record {
       item = blank.space ++ (word ++ (equals ++ b.item));
-      is_item = record { space = blank.space; equals = equals; quoted = b.item; is_space = blank.some; is_eq = record { before = before.space; after = after.space; space_before = before.optional; space_after = after.optional; whole = refl }; is_quoted = b.is_item; whole = refl };
-      whole = blank.whole ∙ ap (λ l. blank.space ++ l) (s.is_word ∙ ap (λ l. word ++ l) (named ∙ sym (append_assoc equals b.item rest)) ∙ sym (append_assoc word (equals ++ b.item) rest)) ∙ sym (append_assoc blank.space (word ++ (equals ++ b.item)) rest);
+      is_item = record {
+        space = blank.space;
+        equals = equals;
+        quoted = b.item;
+        is_space = blank.some;
+        is_eq =
+            record {
+              before = before.space;
+              after = after.space;
+              space_before = before.optional;
+              space_after = after.optional;
+              whole = refl;
+            };
+        is_quoted = b.is_item;
+        whole = refl;
+      };
+      whole = blank.whole ∙ ap (λ l. blank.space ++ l) (s.is_word ∙ ap (λ l. word ++ l) (named
+          ∙ sym (append_assoc equals b.item rest))
+          ∙ sym (append_assoc word (equals ++ b.item) rest)) ∙ sym (append_assoc blank.space (word
+          ++ (equals ++ b.item)) rest);
     }
 
 -- the steps are determined
@@ -81,7 +105,9 @@ same_start word bytes value rest start e s = let blank = s.blank in cc
 pub same_named : (word bytes value rest start named : List ℕ) → after_blank bytes ≡ Some start → start ≡ word ++ named → (s : PartSteps word bytes value rest) → s.named ≡ named
 same_named word bytes value rest start named e w s = behind word s.named named (sym s.is_word ∙ same_start word bytes value rest start e s ∙ w)
 
-pub same_valued : (word bytes value rest start named valued : List ℕ) → after_blank bytes ≡ Some start → start ≡ word ++ named → after_space named ≡ codes "=" ++ valued → (s : PartSteps word bytes value rest) → s.valued ≡ valued
+pub same_valued : (word bytes value rest start named valued : List ℕ) →
+    after_blank bytes ≡ Some start → start ≡ word ++ named → after_space named ≡ codes "="
+    ++ valued → (s : PartSteps word bytes value rest) → s.valued ≡ valued
 same_valued word bytes value rest start named valued e w q s = behind (codes "=") s.valued valued (sym s.is_eq ∙ ap after_space (same_named word bytes value rest start named e w s) ∙ q)
 
 -- where no part begins
@@ -93,9 +119,12 @@ module _ (word bytes : List ℕ) (some : word ≢ []) (black : begins is_space w
   no_part_word start e none value rest b = let s = part_steps word bytes value rest some black b in none s.named (sym (same_start word bytes value rest start e s) ∙ s.is_word)
 
   pub no_part_eq : (start named : List ℕ) → after_blank bytes ≡ Some start → start ≡ word ++ named → ((valued : List ℕ) → after_space named ≢ codes "=" ++ valued) → BeginsNoPart word bytes
-  no_part_eq start named e w none value rest b = let s = part_steps word bytes value rest some black b in none s.valued (ap after_space (sym (same_named word bytes value rest start named e w s)) ∙ s.is_eq)
+  no_part_eq start named e w none value rest b = let s = part_steps word bytes value rest some black
+      b in none s.valued (ap after_space (sym (same_named word bytes value rest start named e w s)) ∙ s.is_eq)
 
-  pub no_part_quoted : (start named valued : List ℕ) → after_blank bytes ≡ Some start → start ≡ word ++ named → after_space named ≡ codes "=" ++ valued → BeginsNoQuoted (after_space valued) → BeginsNoPart word bytes
+  pub no_part_quoted : (start named valued : List ℕ) → after_blank bytes ≡ Some start → start ≡ word
+      ++ named → after_space named ≡ codes "=" ++ valued → BeginsNoQuoted (after_space valued) →
+      BeginsNoPart word bytes
   no_part_quoted start named valued e w q none value rest b =
       let s = part_steps word bytes value rest some black b in
       let P : List ℕ → Type 0 = λ l. Begins (IsQuoted value) (after_space l) rest in
@@ -133,7 +162,9 @@ module _ (word bytes : List ℕ) (IsValue : List ℕ → Type 0) (some : word �
   part_of_starts rest b = let s = part_steps word bytes b.is_item.0 rest some black (part_in word bytes rest IsValue b) in (s.named, s.blank ∙ ap Some s.is_word)
 
 -- ---- values
-pub version_where : (value digits : List ℕ) (empty : Bool) → value ≡ codes "1." ++ digits → empty ≡ (length digits == 0) → IsVersionNum value → (empty ≡ false) × (list_all is_ascii_digit digits ≡ true)
+pub version_where : (value digits : List ℕ) (empty : Bool) → value ≡ codes "1." ++ digits →
+    empty ≡ (length digits == 0) → IsVersionNum value → (empty ≡ false)
+    × (list_all is_ascii_digit digits ≡ true)
 version_where value digits empty e is v =
     let same : digits ≡ v.digits = behind (codes "1.") digits v.digits (sym e ∙ v.whole) in
     (is ∙ some_are_not_empty digits (λ none. v.some (sym same ∙ none)), rw same v.are_digits)

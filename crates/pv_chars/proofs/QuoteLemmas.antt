@@ -2,8 +2,8 @@
 use Rattle.std.proofs.Common.{◌≡◌, ℕ, List, [], ◌∷◌, ◌++◌, true, false, length, refl, sym, ap, ◌∙◌, arith, append_assoc, length-append}
 use Rattle.pv_chars.specs.Fronts.{Begins, ContainsBytes, EndsAt}
 use Rattle.pv_chars.specs.Declarations.{is_quote, IsQuoted, BeginsNoQuoted}
-use Rattle.pv_chars.proofs.Delimited.{same_end}
-use Rattle.pv_chars.proofs.Delimiting.{HasNoBorder, ends_behind, by_no_border}
+use Rattle.pv_chars.proofs.DelimiterPlaces.{same_end}
+use Rattle.pv_chars.proofs.FirstDelimiters.{HasNoBorder, ends_behind, by_no_border}
 use Rattle.pv_chars.proofs.MarkupLemmas.{none_before_end}
 
 one_has_no_border : (a : ℕ) → HasNoBorder (a ∷ [])

@@ -1,5 +1,6 @@
 -- References, read from the front.
-use Rattle.std.proofs.Common.{◌≡◌, ◌≢◌, ℕ, ◌+◌, ◌*◌, ◌<◌, ◌≤◌, min, ◌⊎◌, inl, inr, ⊎_elim, List, [], ◌∷◌, ◌++◌, Bool, true, false, length, refl, sym, ap, subst, ◌∙◌, arith, append_assoc, length-append}
+use Rattle.std.proofs.Common.{◌≡◌, ◌≢◌, ℕ, ◌+◌, ◌*◌, ◌<◌, ◌≤◌, min, ◌⊎◌, inl, inr, ⊎_elim, List, [], ◌∷◌, ◌++◌, Bool, true, false, length, refl, sym}
+use Rattle.std.proofs.Common.{ap, subst, ◌∙◌, arith, append_assoc, length-append}
 use Rattle.std.proofs.lemmas.Bool.{and_parts, and_from, cases_lt, ltb-true, lt-ltb}
 use Rattle.std.proofs.lemmas.Bool.Decides.{nat_tests}
 use Rattle.std.proofs.Math.Nat.{mul-le-mul_left}
@@ -33,7 +34,9 @@ module _ (base : ℕ) (some : 1 ≤ base) where
       by (inr a) (inr b) = let first = number_grows n ds in let second = number_grows m ds in omega arith
 
 pub no_char_past : (n : ℕ) → is_char (min n PAST_CHARS) ≡ is_char n
-no_char_past n = ⊎_elim (λ low. let same : min n PAST_CHARS ≡ n = omega arith in ap is_char same) (λ high. let same : min n PAST_CHARS ≡ PAST_CHARS = omega arith in ap is_char same ∙ sym (none_above n high)) (cases_lt n PAST_CHARS)
+no_char_past n = ⊎_elim (λ low. let same : min n PAST_CHARS ≡ n = omega arith in ap is_char same)
+    (λ high. let same : min n PAST_CHARS ≡ PAST_CHARS = omega arith in ap is_char same
+    ∙ sym (none_above n high)) (cases_lt n PAST_CHARS)
   where
     none_above : (k : ℕ) → PAST_CHARS ≤ k → is_char k ≡ is_char PAST_CHARS
     none_above k high = grind (arith, nat_tests)
@@ -70,7 +73,9 @@ all_push : (p : ℕ → Bool) (xs : List ℕ) (y : ℕ) → list_all p xs ≡ tr
 all_push p [] y all last = and_from (p y) true last refl
 all_push p (x ∷ xs) y all last = let parts = and_parts (p x) (list_all p xs) all in and_from (p x) (list_all p (xs ++ y ∷ [])) parts.0 (all_push p xs y parts.1 last)
 
-pub digit_more : (base : ℕ) (bytes rest more : List ℕ) (value digit d next : ℕ) → 1 ≤ base → HasDigits base bytes rest value → rest ≡ d ∷ more → is_digit d base ≡ true → digit ≡ digit_value d → next ≡ min (value * base + digit) PAST_CHARS → HasDigits base bytes more next
+pub digit_more : (base : ℕ) (bytes rest more : List ℕ) (value digit d next : ℕ) → 1 ≤ base →
+    HasDigits base bytes rest value → rest ≡ d ∷ more → is_digit d base ≡ true →
+    digit ≡ digit_value d → next ≡ min (value * base + digit) PAST_CHARS → HasDigits base bytes more next
 digit_more base bytes rest more value digit d next some h e is v n = record {
   digits = h.digits ++ d ∷ [];
   are_digits = all_push (λ x. is_digit x base) h.digits d h.are_digits is;
@@ -78,7 +83,8 @@ digit_more base bytes rest more value digit d next some h e is v n = record {
   value_is = n ∙ capped base (number base h.digits) value digit some h.value_is ∙ ap (λ k. min k PAST_CHARS) (ap (λ k. number base h.digits * base + k) v ∙ sym (number_push base 0 h.digits d));
 }
 
-pub digits_end : (base : ℕ) (bytes rest : List ℕ) (value : ℕ) → HasDigits base bytes rest value → ((d : ℕ) (more : List ℕ) → IsTrue (is_digit d base) → rest ≢ d ∷ more) → TakesDigits base bytes rest value
+pub digits_end : (base : ℕ) (bytes rest : List ℕ) (value : ℕ) → HasDigits base bytes rest value →
+    ((d : ℕ) (more : List ℕ) → IsTrue (is_digit d base) → rest ≢ d ∷ more) → TakesDigits base bytes rest value
 digits_end base bytes rest value h ends = record { digits = h.digits; are_digits = h.are_digits; whole = h.whole; ends = ends; value_is = h.value_is }
 
 pub no_digit_next : (base d : ℕ) (rest more : List ℕ) → rest ≡ d ∷ more → is_digit d base ≡ false → (x : ℕ) (xs : List ℕ) → IsTrue (is_digit x base) → rest ≢ x ∷ xs
@@ -88,7 +94,10 @@ pub no_digit_at_end : (base : ℕ) (rest : List ℕ) → rest ≡ [] → (x : �
 no_digit_at_end base rest e x xs is f = cc
 
 -- digits and rest are determined
-pub same_digits_by : (base : ℕ) (xs ys r t : List ℕ) → list_all (λ d. is_digit d base) xs ≡ true → list_all (λ d. is_digit d base) ys ≡ true → ((d : ℕ) (more : List ℕ) → IsTrue (is_digit d base) → r ≢ d ∷ more) → ((d : ℕ) (more : List ℕ) → IsTrue (is_digit d base) → t ≢ d ∷ more) → xs ++ r ≡ ys ++ t → (xs ≡ ys) × (r ≡ t)
+pub same_digits_by : (base : ℕ) (xs ys r t : List ℕ) → list_all (λ d. is_digit d base) xs ≡ true →
+    list_all (λ d. is_digit d base) ys ≡ true → ((d : ℕ) (more : List ℕ) →
+    IsTrue (is_digit d base) → r ≢ d ∷ more) → ((d : ℕ) (more : List ℕ) → IsTrue (is_digit d base) →
+    t ≢ d ∷ more) → xs ++ r ≡ ys ++ t → (xs ≡ ys) × (r ≡ t)
 same_digits_by base [] [] r t a b p q e = (refl, e)
 same_digits_by base [] (y ∷ ys) r t a b p q e = absurd (p y (ys ++ t) (and_parts (is_digit y base) (list_all (λ d. is_digit d base) ys) b).0 e)
 same_digits_by base (x ∷ xs) [] r t a b p q e = absurd (q x (xs ++ r) (and_parts (is_digit x base) (list_all (λ d. is_digit d base) xs) a).0 (sym e))
@@ -106,19 +115,30 @@ semicolon_ends base rest known d more is e =
 
 module _ (base : ℕ) (known : base ≤ 36) (front : List ℕ) where
   -- what the digits of a reference are, and that they end there
-  pub ref_ends : (bytes start rest end : List ℕ) (value : ℕ) → bytes ≡ front ++ start → TakesDigits base start end value → (b : Begins (IsCharRefIn base front) bytes rest) → (end ≡ codes ";" ++ rest) × (is_char value ≡ true) × (length end ≡ length start → ⊥)
+  pub ref_ends : (bytes start rest end : List ℕ) (value : ℕ) → bytes ≡ front ++ start →
+      TakesDigits base start end value → (b : Begins (IsCharRefIn base front) bytes rest) →
+      (end ≡ codes ";" ++ rest) × (is_char value ≡ true) × (length end ≡ length start → ⊥)
   ref_ends bytes start rest end value e taken b =
       let i = b.is_item in
-      let whole : start ≡ i.digits ++ (codes ";" ++ rest) = behind front start (i.digits ++ (codes ";" ++ rest)) (sym e ∙ b.whole ∙ ap (λ l. l ++ rest) i.whole ∙ append_assoc front (i.digits ++ codes ";") rest ∙ ap (λ l. front ++ l) (append_assoc i.digits (codes ";") rest)) in
+      let whole : start ≡ i.digits ++ (codes ";" ++ rest) = behind front start (i.digits
+      ++ (codes ";" ++ rest)) (sym e ∙ b.whole ∙ ap (λ l. l ++ rest) i.whole
+      ∙ append_assoc front (i.digits ++ codes ";") rest ∙ ap (λ l. front ++ l)
+      (append_assoc i.digits (codes ";") rest)) in
       let same = same_digits_by base taken.digits i.digits end (codes ";" ++ rest) taken.are_digits i.are_digits taken.ends (semicolon_ends base rest known) (sym taken.whole ∙ whole) in
-      let number_is : value ≡ min (number base i.digits) PAST_CHARS = taken.value_is ∙ ap (λ l. min (number base l) PAST_CHARS) same.0 in
-      (same.1, ap is_char number_is ∙ no_char_past (number base i.digits) ∙ i.is_char, λ long. i.some (nothing i.digits (omega (arith, ap length whole, ap length same.1, length-append i.digits (codes ";" ++ rest)))))
+      let number_is : value ≡ min (number base i.digits) PAST_CHARS = taken.value_is ∙ ap (λ l. min (number base l) PAST_CHARS) same.0 in (
+        same.1,
+        ap is_char number_is ∙ no_char_past (number base i.digits) ∙ i.is_char,
+        λ long. i.some (nothing i.digits
+            (omega (arith, ap length whole, ap length same.1, length-append i.digits (codes ";" ++ rest)))),
+      )
     where
       nothing : (l : List ℕ) → length l ≡ 0 → l ≡ []
       nothing [] n = refl
       nothing (x ∷ xs) n = absurd (omega arith)
 
-  pub ref_by : (bytes start rest end : List ℕ) (value : ℕ) → bytes ≡ front ++ start → TakesDigits base start end value → is_char value ≡ true → (length end ≡ length start → ⊥) → end ≡ codes ";" ++ rest → Begins (IsCharRefIn base front) bytes rest
+  pub ref_by : (bytes start rest end : List ℕ) (value : ℕ) → bytes ≡ front ++ start →
+      TakesDigits base start end value → is_char value ≡ true → (length end ≡ length start → ⊥) →
+      end ≡ codes ";" ++ rest → Begins (IsCharRefIn base front) bytes rest
   ref_by bytes start rest end value e taken char some closes = record {
     item = front ++ (taken.digits ++ codes ";");
     is_item = record {
@@ -131,7 +151,9 @@ module _ (base : ℕ) (known : base ≤ 36) (front : List ℕ) where
     whole = e ∙ ap (λ l. front ++ l) (taken.whole ∙ ap (λ l. taken.digits ++ l) closes ∙ sym (append_assoc taken.digits (codes ";") rest)) ∙ sym (append_assoc front (taken.digits ++ codes ";") rest);
   }
 
-pub digit_read : (base : ℕ) (bytes rest more : List ℕ) (value digit d x next : ℕ) → 2 ≤ base → HasDigits base bytes rest value → rest ≡ d ∷ more → x ≡ d → digit_value x < base → digit ≡ digit_value x → next ≡ min (value * base + digit) PAST_CHARS → HasDigits base bytes more next
+pub digit_read : (base : ℕ) (bytes rest more : List ℕ) (value digit d x next : ℕ) → 2 ≤ base →
+    HasDigits base bytes rest value → rest ≡ d ∷ more → x ≡ d → digit_value x < base →
+    digit ≡ digit_value x → next ≡ min (value * base + digit) PAST_CHARS → HasDigits base bytes more next
 digit_read base bytes rest more value digit d x next some h e same low v n =
     let is : is_digit d base ≡ true = let P : ℕ → Type 0 = λ k. is_digit k base ≡ true in subst P same (lt-ltb (digit_value x) base low) in
     digit_more base bytes rest more value digit d next (omega arith) h e is (v ∙ ap digit_value same) n
@@ -141,13 +163,18 @@ pub begins_decimal : (bytes rest : List ℕ) → Begins (IsCharRefIn 10 (codes "
 begins_decimal bytes rest b = record { item = b.item; is_item = inl b.is_item; whole = b.whole }
 
 pub begins_neither : (bytes : List ℕ) → BeginsNone (IsCharRefIn 16 (codes "&#x")) bytes → BeginsNone (IsCharRefIn 10 (codes "&#")) bytes → BeginsNone IsCharRef bytes
-begins_neither bytes none_hex none_decimal rest b = ⊎_elim (λ is. none_decimal rest record { item = b.item; is_item = is; whole = b.whole }) (λ is. none_hex rest record { item = b.item; is_item = is; whole = b.whole }) b.is_item
+begins_neither bytes none_hex none_decimal rest b =
+    ⊎_elim (λ is. none_decimal rest record { item = b.item; is_item = is; whole = b.whole })
+    (λ is. none_hex rest record { item = b.item; is_item = is; whole = b.whole }) b.is_item
 
 -- ---- references by name
 pub entity_ref_ends : (bytes start name rest : List ℕ) → bytes ≡ codes "&" ++ start → Begins (IsEntityRef name) bytes rest → TakesName start name (codes ";" ++ rest)
 entity_ref_ends bytes start name rest e b =
     let i = b.is_item in
-    let whole : start ≡ name ++ (codes ";" ++ rest) = behind (codes "&") start (name ++ (codes ";" ++ rest)) (sym e ∙ b.whole ∙ ap (λ l. l ++ rest) i.whole ∙ append_assoc (codes "&") (name ++ codes ";") rest ∙ ap (λ l. codes "&" ++ l) (append_assoc name (codes ";") rest)) in
+    let whole : start ≡ name ++ (codes ";" ++ rest) = behind (codes "&") start (name
+    ++ (codes ";" ++ rest)) (sym e ∙ b.whole ∙ ap (λ l. l ++ rest) i.whole
+    ∙ append_assoc (codes "&") (name ++ codes ";") rest ∙ ap (λ l. codes "&" ++ l)
+    (append_assoc name (codes ";") rest)) in
     record { is_name = i.is_name; whole = whole; ends = ascii_ends is_name_char 59 rest (omega arith) refl }
 
 pub no_entity_ref_end : (bytes start name end : List ℕ) → bytes ≡ codes "&" ++ start → TakesName start name end → ((rest : List ℕ) → end ≢ codes ";" ++ rest) → BeginsNoEntityRef bytes

@@ -1,5 +1,6 @@
 -- Where units begin: after a run without `&` as many as bytes of it continue no character, and after a reference one.
-use Rattle.std.proofs.Common.{◌≡◌, ◌≢◌, ℕ, zero, suc, ◌+◌, ◌-◌, ◌<◌, ◌≤◌, ◌⊎◌, inl, inr, List, [], ◌∷◌, ◌++◌, Bool, true, false, ◌==◌, not, length, take, drop, refl, sym, ap, ◌∙◌, arith, add-one, append_assoc, length-append}
+use Rattle.std.proofs.Common.{◌≡◌, ◌≢◌, ℕ, zero, suc, ◌+◌, ◌-◌, ◌<◌, ◌≤◌, ◌⊎◌, inl, inr, List, [], ◌∷◌, ◌++◌, Bool, true, false, ◌==◌, not, length}
+use Rattle.std.proofs.Common.{take, drop, refl, sym, ap, ◌∙◌, arith, add-one, append_assoc, length-append}
 use Rattle.std.proofs.lemmas.Bool.{and_parts, and_from, not-true, ne_eqb}
 use Rattle.std.proofs.lemmas.List.{append-nil, take-append-drop, drop-drop, length-take, length-drop}
 use Rattle.std.proofs.Math.Seq.{drop-append_seam, drop-nil, drop-length}
@@ -19,7 +20,10 @@ cut_whole true [] = refl
 cut_whole true (b ∷ bs) = ap (λ l. b ∷ l) (cut_whole (not (b == 59)) bs)
 cut_whole false (b ∷ bs) = by (continues b) refl (cut_whole false bs) (cut_whole (b == 38) bs)
   where
-    by : (t : Bool) → continues b ≡ t → bs ≡ (cut_units false bs).0 ++ joined (cut_units false bs).1 → bs ≡ (cut_units (b == 38) bs).0 ++ joined (cut_units (b == 38) bs).1 → b ∷ bs ≡ (cut_units false (b ∷ bs)).0 ++ joined (cut_units false (b ∷ bs)).1
+    by : (t : Bool) → continues b ≡ t → bs ≡ (cut_units false bs).0
+        ++ joined (cut_units false bs).1 → bs ≡ (cut_units (b == 38) bs).0
+        ++ joined (cut_units (b == 38) bs).1 → b ∷ bs ≡ (cut_units false (b ∷ bs)).0
+        ++ joined (cut_units false (b ∷ bs)).1
     by true e stays begins = ap (λ l. b ∷ l) stays ∙ sym (ap (λ (r : List ℕ × List (List ℕ)). r.0 ++ joined r.1) (stays_open b bs e))
     by false e stays begins = ap (λ l. b ∷ l) begins ∙ sym (ap (λ (r : List ℕ × List (List ℕ)). r.0 ++ joined r.1) (begins_anew b bs e))
 
@@ -30,7 +34,9 @@ continued bytes b bs e is = sym (ap (λ l. (cut_units false l).1) e ∙ ap (λ (
 
 pub begun_whole : (bytes : List ℕ) (b : ℕ) (bs : List ℕ) → bytes ≡ b ∷ bs → continues b ≡ false → bytes ≡ joined (units_in bytes)
 unfolding units_in
-begun_whole bytes b bs e is = cut_whole false bytes ∙ ap (λ l. l ++ joined (cut_units false bytes).1) (ap (λ l. (cut_units false l).0) e ∙ ap (λ (r : List ℕ × List (List ℕ)). r.0) (begins_anew b bs is))
+begun_whole bytes b bs e is = cut_whole false bytes
+    ∙ ap (λ l. l ++ joined (cut_units false bytes).1) (ap (λ l. (cut_units false l).0) e
+    ∙ ap (λ (r : List ℕ × List (List ℕ)). r.0) (begins_anew b bs is))
 
 pub none_whole : (bytes : List ℕ) → length bytes < 1 → bytes ≡ joined (units_in bytes)
 unfolding units_in
@@ -45,7 +51,9 @@ characters_passed (b ∷ bs) rest none =
     let parts = and_parts (not (b == 38)) (has_no_ampersand bs) none in
     by (continues b) refl (not-true (b == 38) parts.0) (characters_passed bs rest parts.1)
   where
-    by : (t : Bool) → continues b ≡ t → (b == 38) ≡ false → drop (openings bs) (cut_units false (bs ++ rest)).1 ≡ (cut_units false rest).1 → drop (openings (b ∷ bs)) (cut_units false (b ∷ (bs ++ rest))).1 ≡ (cut_units false rest).1
+    by : (t : Bool) → continues b ≡ t → (b == 38) ≡ false →
+        drop (openings bs) (cut_units false (bs ++ rest)).1 ≡ (cut_units false rest).1 →
+        drop (openings (b ∷ bs)) (cut_units false (b ∷ (bs ++ rest))).1 ≡ (cut_units false rest).1
     by true e other below = rw e below
     by false e other below = rw (e, other, add-one (openings bs)) below
 
@@ -96,7 +104,9 @@ pub others_fit : (bytes all : List ℕ) → length bytes ≤ length all → leng
 others_fit bytes all less = omega (arith, less, length-take (length bytes - 1) (drop 1 bytes), length-drop 1 bytes)
 
 -- ---- a run of some bytes
-pub run_passed : (bytes run front rest : List ℕ) (most : ℕ) → run ≡ take most bytes → EndsBeforeAmpersand run front → rest ≡ drop (length front) bytes → drop (openings front) (units_in bytes) ≡ units_in rest
+pub run_passed : (bytes run front rest : List ℕ) (most : ℕ) → run ≡ take most bytes →
+    EndsBeforeAmpersand run front → rest ≡ drop (length front) bytes →
+    drop (openings front) (units_in bytes) ≡ units_in rest
 run_passed bytes run front rest most taken is e =
     let behind = is.rest ++ drop most bytes in
     let whole : bytes ≡ front ++ behind = sym (take-append-drop most bytes) ∙ ap (λ l. l ++ drop most bytes) (sym taken ∙ is.whole) ∙ append_assoc front is.rest (drop most bytes) in

@@ -1,5 +1,6 @@
 -- Units, read from the front: at most one stands there, and none where a fault does.
-use Rattle.std.proofs.Common.{◌≡◌, ◌≢◌, ℕ, ◌<◌, ◌≤◌, ◌⊎◌, inl, inr, ⊎_elim, List, [], ◌∷◌, ◌++◌, true, false, ◌&&◌, ◌==◌, not, length, take, refl, sym, ap, subst, ◌∙◌, arith, append_assoc, length-append}
+use Rattle.std.proofs.Common.{◌≡◌, ◌≢◌, ℕ, ◌<◌, ◌≤◌, ◌⊎◌, inl, inr, ⊎_elim, List, [], ◌∷◌, ◌++◌, true, false, ◌&&◌, ◌==◌, not, length, take, refl}
+use Rattle.std.proofs.Common.{sym, ap, subst, ◌∙◌, arith, append_assoc, length-append}
 use Rattle.std.proofs.lemmas.Bool.{and_parts}
 use Rattle.std.proofs.lemmas.List.{take_at}
 use Rattle.std.proofs.lemmas.Str.{encode_same, encode_ascii}
@@ -18,7 +19,9 @@ use Rattle.pv_chars.proofs.MarkupLemmas.{behind}
 use Rattle.pv_chars.proofs.ReferenceLemmas.{same_digits_by, semicolon_ends, same_entity_ref}
 
 pub no_reference : (bytes : List ℕ) → BeginsNone IsCharRef bytes → BeginsNoEntityRef bytes → BeginsNone IsReference bytes
-no_reference bytes none_char none_entity rest b = ⊎_elim (λ is. none_char rest record { item = b.item; is_item = is; whole = b.whole }) (λ is. none_entity is.0 rest record { item = b.item; is_item = is.1; whole = b.whole }) b.is_item
+no_reference bytes none_char none_entity rest b =
+    ⊎_elim (λ is. none_char rest record { item = b.item; is_item = is; whole = b.whole })
+    (λ is. none_entity is.0 rest record { item = b.item; is_item = is.1; whole = b.whole }) b.is_item
 
 -- what stands before one end is one only
 pub before : (a b end : List ℕ) → a ++ end ≡ b ++ end → a ≡ b
@@ -57,7 +60,9 @@ entity_start bytes u more name is e = (_, e ∙ ap (λ l. l ++ more) is.whole)
 pub name_not_hash : (bytes u more name rest : List ℕ) → IsEntityRef name u → bytes ≡ u ++ more → bytes ≡ 38 ∷ 35 ∷ rest → ⊥
 name_not_hash bytes u more name rest is e f =
     let n = is.is_name in
-    let within : (name ++ codes ";") ++ more ≡ 35 ∷ rest = behind (codes "&") ((name ++ codes ";") ++ more) (35 ∷ rest) (sym (append_assoc (codes "&") (name ++ codes ";") more) ∙ ap (λ l. l ++ more) (sym is.whole) ∙ sym e ∙ f) in
+    let within : (name ++ codes ";") ++ more ≡ 35 ∷ rest = behind (codes "&") ((name ++ codes ";")
+    ++ more) (35 ∷ rest) (sym (append_assoc (codes "&") (name ++ codes ";") more)
+    ∙ ap (λ l. l ++ more) (sym is.whole) ∙ sym e ∙ f) in
     let start : 35 ∷ rest ≡ encode n.first ++ ((n.others ++ codes ";") ++ more) = sym within ∙ ap (λ l. (l ++ codes ";") ++ more) n.whole ∙ simp append_assoc in
     let same : n.first ≡ 35 = code_at_start n.first 35 ((n.others ++ codes ";") ++ more) (35 ∷ rest) rest (omega arith) start refl in
     let is_start : is_name_start 35 ≡ true = let P : ℕ → Type 0 = λ k. is_name_start k ≡ true in subst P same n.is_start in cc
@@ -85,7 +90,9 @@ decimal_not_hex : (bytes u v more rest : List ℕ) → IsCharRefIn 10 (codes "&#
 decimal_not_hex bytes u v more rest a b e f =
     let first : bytes ≡ codes "&#" ++ (a.digits ++ (codes ";" ++ more)) = e ∙ ap (λ l. l ++ more) a.whole ∙ simp append_assoc in
     let second : bytes ≡ codes "&#" ++ (120 ∷ (b.digits ++ (codes ";" ++ rest))) = f ∙ ap (λ l. l ++ rest) b.whole ∙ simp append_assoc in
-    digit_first a.digits (codes ";" ++ more) (b.digits ++ (codes ";" ++ rest)) 120 a.some a.are_digits refl (behind (codes "&#") (a.digits ++ (codes ";" ++ more)) (120 ∷ (b.digits ++ (codes ";" ++ rest))) (sym first ∙ second))
+    digit_first a.digits (codes ";" ++ more) (b.digits ++ (codes ";" ++ rest)) 120 a.some
+    a.are_digits refl (behind (codes "&#") (a.digits ++ (codes ";" ++ more)) (120 ∷ (b.digits
+    ++ (codes ";" ++ rest))) (sym first ∙ second))
 
 pub same_char_ref : (bytes u v more rest : List ℕ) → IsCharRef u → IsCharRef v → bytes ≡ u ++ more → bytes ≡ v ++ rest → more ≡ rest
 same_char_ref bytes u v more rest (inl a) (inl b) e f = same_ref_in 10 (codes "&#") bytes u v more rest (omega arith) a b e f
@@ -105,7 +112,10 @@ same_refers : (bytes u v more rest : List ℕ) → Refers u → Refers v → byt
 same_refers bytes u v more rest (inl a) (inl b) e f = same_char_ref bytes u v more rest a b e f
 same_refers bytes u v more rest (inl a) (inr b) e f = let hash = char_ref_hash bytes u more a e in absurd (name_not_hash bytes v rest b.name hash.0 b.is_reference f hash.1)
 same_refers bytes u v more rest (inr a) (inl b) e f = let hash = char_ref_hash bytes v rest b f in absurd (name_not_hash bytes u more a.name hash.0 a.is_reference e hash.1)
-same_refers bytes u v more rest (inr a) (inr b) e f = (same_entity_ref bytes a.name more b.name rest record { item = u; is_item = a.is_reference; whole = e } record { item = v; is_item = b.is_reference; whole = f }).1
+same_refers bytes u v more rest (inr a) (inr b) e f =
+    (same_entity_ref bytes a.name more b.name rest
+    record { item = u; is_item = a.is_reference; whole = e }
+    record { item = v; is_item = b.is_reference; whole = f }).1
 
 pub same_rest : (bytes u v more rest : List ℕ) → IsUnit u → IsUnit v → bytes ≡ u ++ more → bytes ≡ v ++ rest → more ≡ rest
 same_rest bytes u v more rest (inl a) (inl b) e f = (encode_same a.code b.code more rest (ap (λ l. l ++ more) (sym a.whole) ∙ sym e ∙ f ∙ ap (λ l. l ++ rest) b.whole)).1
@@ -125,7 +135,10 @@ ascii_char_begins b bytes low is s none = none b s.0 is (s.1 ∙ ap (λ l. l ++ 
 unit_not_bad_char : (bytes u rest : List ℕ) → IsUnit u → bytes ≡ u ++ rest → BeginsBadChar bytes → ⊥
 unit_not_bad_char bytes u rest (inl is) e (inl less) = literal_start bytes u rest 60 (omega arith) refl is e less
 unit_not_bad_char bytes u rest (inr is) e (inl less) = one_start 38 60 bytes (λ same. omega arith) (refers_start bytes u rest is e) less
-unit_not_bad_char bytes u rest (inl is) e (inr bad) = bad.1 is.code rest (and_parts (is_char is.code) (not (is.code == 60)) (and_parts (is_char is.code && not (is.code == 60)) (not (is.code == 38)) is.is_literal).0).0 (e ∙ ap (λ l. l ++ rest) is.whole)
+unit_not_bad_char bytes u rest (inl is) e (inr bad) =
+    bad.1 is.code rest (and_parts (is_char is.code) (not (is.code == 60))
+    (and_parts (is_char is.code && not (is.code == 60)) (not (is.code == 38)) is.is_literal).0).0 (e
+    ∙ ap (λ l. l ++ rest) is.whole)
 unit_not_bad_char bytes u rest (inr is) e (inr bad) = ascii_char_begins 38 bytes (omega arith) refl (refers_start bytes u rest is e) bad.1
 
 unit_not_bad_reference : (bytes u rest : List ℕ) → IsUnit u → bytes ≡ u ++ rest → BeginsBadReference bytes → ⊥
@@ -134,8 +147,12 @@ unit_not_bad_reference bytes u rest (inr (inl is)) e bad = bad.none rest record 
 unit_not_bad_reference bytes u rest (inr (inr is)) e bad = bad.none rest record { item = u; is_item = inr (is.name, is.is_reference); whole = e }
 
 unit_not_other_entity : (bytes u rest : List ℕ) → IsUnit u → bytes ≡ u ++ rest → BeginsOtherEntity bytes → ⊥
-unit_not_other_entity bytes u rest (inl is) e other = literal_start bytes u rest 38 (omega arith) refl is e (entity_start bytes other.begins.item other.rest other.name other.begins.is_item other.begins.whole)
-unit_not_other_entity bytes u rest (inr (inl is)) e other = let hash = char_ref_hash bytes u rest is e in name_not_hash bytes other.begins.item other.rest other.name hash.0 other.begins.is_item other.begins.whole hash.1
+unit_not_other_entity bytes u rest (inl is) e other = literal_start bytes u rest 38 (omega arith)
+    refl is e (entity_start bytes other.begins.item other.rest other.name other.begins.is_item
+    other.begins.whole)
+unit_not_other_entity bytes u rest (inr (inl is)) e other = let hash =
+    char_ref_hash bytes u rest is e in name_not_hash bytes other.begins.item other.rest other.name
+    hash.0 other.begins.is_item other.begins.whole hash.1
 unit_not_other_entity bytes u rest (inr (inr is)) e other =
     let same = (same_entity_ref bytes is.name rest other.name other.rest record { item = u; is_item = is.is_reference; whole = e } other.begins).0 in
     other.other (subst IsPredefined same is.is_predefined)

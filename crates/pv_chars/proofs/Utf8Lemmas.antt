@@ -112,7 +112,9 @@ led_by_four_takes : (a b c : ℕ) (more : List ℕ) (d : ℕ) (t : List ℕ) →
 led_by_four_takes a b c [] d t low e = cc
 led_by_four_takes a b c (x ∷ rest) d t low e = of_four_takes a b c x d rest t low e
 
-by_three : (a b c : ℕ) (rest : List ℕ) (d : ℕ) (t : List ℕ) (test : Bool) → nat_lt a 0xF0 ≡ test → 0xE0 ≤ a → cond test (of_three a b c rest) (led_by_four a b c rest) ≡ Some (d, t) → BeginsWith (a ∷ b ∷ c ∷ rest) d t
+by_three : (a b c : ℕ) (rest : List ℕ) (d : ℕ) (t : List ℕ) (test : Bool) → nat_lt a 0xF0 ≡ test →
+    0xE0 ≤ a → cond test (of_three a b c rest) (led_by_four a b c rest) ≡ Some (d, t) →
+    BeginsWith (a ∷ b ∷ c ∷ rest) d t
 by_three a b c rest d t true is low e = of_three_takes a b c d rest t low (ltb-true a 0xF0 is) e
 by_three a b c rest d t false is low e = led_by_four_takes a b c rest d t (ltb-false a 0xF0 is) e
 
@@ -156,16 +158,44 @@ char_at-encode c rest is = by (cases_lt c 128) (cases_lt c 2048) (cases_lt c 655
     by (inl h) _ _ _ = rw (one_byte c h, lt-ltb c 128 h) refl
     by (inr l) (inl h) _ _ =
         let code : (192 + c / 64 - 0xC0) * 64 + (next c - 0x80) ≡ c = omega arith in
-        rw (two_bytes c l h, le-ltb (192 + c / 64) 128 (omega arith), lt-ltb (192 + c / 64) 224 (omega arith), le-leb 0xC2 (192 + c / 64) (omega arith), is_continues (next c) record { low = omega arith; high = omega arith }, code) refl
+        rw (
+          two_bytes c l h,
+          le-ltb (192 + c / 64) 128 (omega arith),
+          lt-ltb (192 + c / 64) 224
+              (omega arith),
+          le-leb 0xC2 (192 + c / 64) (omega arith),
+          is_continues (next c) record { low = omega arith; high = omega arith },
+          code,
+        ) refl
     by (inr _) (inr l) (inl h) s =
         let a = 224 + c / 4096 in
         let code : code_of_three a (next (c / 64)) (next c) ≡ c = omega arith in
-        rw (three_bytes c l h, le-ltb a 128 (omega arith), le-ltb a 224 (omega arith), lt-ltb a 240 (omega arith), is_continues (next (c / 64)) record { low = omega arith; high = omega arith }, is_continues (next c) record { low = omega arith; high = omega arith }, code, is_scalar_of_three c l s) refl
+        rw (
+          three_bytes c l h,
+          le-ltb a 128 (omega arith),
+          le-ltb a 224 (omega arith),
+          lt-ltb a 240 (omega arith),
+          is_continues (next (c / 64)) record { low = omega arith; high = omega arith },
+          is_continues (next c) record { low = omega arith; high = omega arith },
+          code,
+          is_scalar_of_three c l s,
+        ) refl
     by (inr _) (inr _) (inr l) s =
         let a = 240 + c / 262144 in
         let top = below_top c s in
         let code : code_of_four a (next (c / 4096)) (next (c / 64)) (next c) ≡ c = omega arith in
-        rw (four_bytes c l, le-ltb a 128 (omega arith), le-ltb a 224 (omega arith), le-ltb a 240 (omega arith), is_continues (next (c / 4096)) record { low = omega arith; high = omega arith }, is_continues (next (c / 64)) record { low = omega arith; high = omega arith }, is_continues (next c) record { low = omega arith; high = omega arith }, code, le-leb 0x10000 c l, lt-ltb c 0x110000 top) refl
+        rw (
+          four_bytes c l,
+          le-ltb a 128 (omega arith),
+          le-ltb a 224 (omega arith),
+          le-ltb a 240 (omega arith),
+          is_continues (next (c / 4096)) record { low = omega arith; high = omega arith },
+          is_continues (next (c / 64)) record { low = omega arith; high = omega arith },
+          is_continues (next c) record { low = omega arith; high = omega arith },
+          code,
+          le-leb 0x10000 c l,
+          lt-ltb c 0x110000 top,
+        ) refl
 
 pub char_at_reads : (bytes : List ℕ) → MatchOption (char_at bytes) (BeginsWithNone bytes) (λ p. BeginsWith bytes p.0 p.1)
 char_at_reads bytes =

@@ -1,7 +1,7 @@
 -- of this crate:
-pub mod Counting
-pub mod Inserting
+pub mod PossibleCounts
+pub mod InsertedLists
 pub mod ByWord
-pub mod Ending
+pub mod EndedLists
 pub mod Refusals
 pub mod Whole

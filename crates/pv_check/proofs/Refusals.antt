@@ -19,7 +19,9 @@ pub list_refused : (P : Outcome Mark → Type 0) (cause : ListError) (e : TextEr
 list_refused P list_error.LongLists e is = rw is tt
 list_refused P list_error.NoMemory e is = rw is tt
 
-pub list_answered : (limits : TextLimits) (root bytes : List ℕ) (cause : ListError) (e : TextError) → e ≡ refusal_of cause → (o : Outcome Mark) → DocumentMeansWithin limits blank_mark root bytes o → AnswersText o e
+pub list_answered : (limits : TextLimits) (root bytes : List ℕ) (cause : ListError)
+    (e : TextError) → e ≡ refusal_of cause → (o : Outcome Mark) →
+    DocumentMeansWithin limits blank_mark root bytes o → AnswersText o e
 list_answered limits root bytes list_error.LongLists e is o means = rw is tt
 list_answered limits root bytes list_error.NoMemory e is o means = rw is (read_answered {E = ListError} limits root bytes (read_error.Document unread.NoMemory) tt o means)
 
@@ -28,7 +30,9 @@ pub read_refused : (P : Outcome Mark → Type 0) (cause : ReadError ListError) (
 read_refused P (read_error.Document error) e is h = rw is h
 read_refused P (read_error.Judge cause) e is h = list_refused P cause e is
 
-pub refused_answered : (limits : TextLimits) (root bytes : List ℕ) (cause : ReadError ListError) (e : TextError) → e ≡ read_refusal_of cause → RefusesLists (DocumentMeansWithin limits blank_mark root bytes) cause
+pub refused_answered : (limits : TextLimits) (root bytes : List ℕ) (cause : ReadError ListError)
+    (e : TextError) → e ≡ read_refusal_of cause →
+    RefusesLists (DocumentMeansWithin limits blank_mark root bytes) cause
     → (o : Outcome Mark) → DocumentMeansWithin limits blank_mark root bytes o → AnswersText o e
 refused_answered limits root bytes (read_error.Document error) e is h o means = rw is (read_answered {E = ListError} limits root bytes (read_error.Document error) h o means)
 refused_answered limits root bytes (read_error.Judge cause) e is h o means = list_answered limits root bytes cause e is o means

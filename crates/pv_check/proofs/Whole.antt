@@ -21,10 +21,12 @@ use Rattle.pv_check.specs.Judging.{IsNarrowAndLive}
 use Rattle.pv_check.specs.declared.checking.Told.{Told}
 use Rattle.pv_check.specs.declared.checking.Told.TheVariants as told
 use Rattle.pv_check.specs.declared.findings.Findings.{Findings}
-use Rattle.pv_check.proofs.Inserting.{live_all}
+use Rattle.pv_check.proofs.InsertedLists.{live_all}
 
 -- ---- what the findings of lists tell
-first_dead : (g : PlainDtd) (root : List ℕ) (lists : List (Listed Mark)) (path : List ℕ) → AllByRecursion (IsListForVerdict g) lists → IsFirstNot (IsNarrowAndLive g root) lists path → IsFirstImpossible g root lists path
+first_dead : (g : PlainDtd) (root : List ℕ) (lists : List (Listed Mark)) (path : List ℕ) →
+    AllByRecursion (IsListForVerdict g) lists → IsFirstNot (IsNarrowAndLive g root) lists path →
+    IsFirstImpossible g root lists path
 first_dead g root lists path narrow f =
     let own = all_right (IsListForVerdict g) f.before (f.list ∷ f.after) (subst (AllByRecursion (IsListForVerdict g)) f.is_split narrow) in
     record {
@@ -53,7 +55,9 @@ module _ (by_lists : IsPotentiallyValidByLists Mark) (g : PlainDtd) (root : List
   tells_document (told.Possible n) h = record { narrow = h.narrow; possible = (by_lists g root doc p q).1 h.live; count = h.count }
   tells_document (told.Impossible path) h = record {
     narrow = h.narrow;
-    impossible = λ v. h.first.is_not (all_right (IsLive g root) h.first.before (h.first.list ∷ h.first.after) (subst (AllByRecursion (IsLive g root)) h.first.is_split ((by_lists g root doc p q).0 v))).0;
+    impossible = λ v. h.first.is_not (all_right (IsLive g root) h.first.before
+        (h.first.list ∷ h.first.after) (subst (AllByRecursion (IsLive g root)) h.first.is_split
+        ((by_lists g root doc p q).0 v))).0;
     first = h.first;
   }
   tells_document (told.TooWide path) h = h

@@ -22,7 +22,8 @@ use Rattle.pv_opening.specs.Showing.{ReadsAll, TakesInput}
 use Rattle.pv_cli.specs.Program.{Runs}
 use Rattle.pv_opening.specs.Response.{PlainResponse}
 use Rattle.pv_conversation.specs.Script.{IsWithin}
-use Rattle.pv_conversation.specs.Session.{Converses, EndsSession, IsSessionCourse, Place, Replies, at_quit, ended_over, finished, guarding_stage, input_failed, output_failed, past_line, past_script, quitted, without_room}
+use Rattle.pv_conversation.specs.Session.{Converses, EndsSession, IsSessionCourse, Place, Replies, at_quit, ended_over, finished, guarding_stage}
+use Rattle.pv_conversation.specs.Session.{input_failed, output_failed, past_line, past_script, quitted, without_room}
 use Rattle.pv_opening.specs.declared.status.Status.{Status}
 use Rattle.pv_opening.specs.declared.status.Status.TheVariants.{Done}
 use Rattle.pv_cli.specs.declared.verb.Verb.TheVariants.{Session}

@@ -3,7 +3,7 @@ pub mod DrillStages
 -- of this crate:
 pub mod CommandLines
 pub mod Completeness
-pub mod Counting
-pub mod Drilling
+pub mod CommandCounts
+pub mod DrillReplies
 pub mod Headline
 pub mod Runs

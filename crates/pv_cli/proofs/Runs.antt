@@ -27,7 +27,7 @@ use Rattle.pv_cli.specs.Returns.{DoesRest, FindsResponse, session_stage}
 use Rattle.pv_opening.specs.Returns.{TakesCourse, ReturnsOver, StopsBy, ending_of, plain_fetched}
 use Rattle.pv_conversation.specs.Session.{guarding_stage}
 use Rattle.pv_opening.specs.Stage.{opened, refused, short_of_memory}
-use Rattle.pv_cli.proofs.Counting.{verb_counts, verb_stopped}
+use Rattle.pv_cli.proofs.CommandCounts.{verb_counts, verb_stopped}
 use Rattle.pv_opening.proofs.JudgedLists.{opened_goes}
 use Rattle.pv_opening.proofs.Stages.{behind_second, finds_goes, finds_stays, stays_from, stop_counts}
 use Rattle.pv_opening.proofs.Stages.{stop_ends, stopped_first}

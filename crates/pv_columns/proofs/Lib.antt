@@ -1,12 +1,12 @@
 -- for other crates:
-pub mod Marking
+pub mod ClosedMarks
 pub mod Spans
 -- of this crate:
 pub mod Bits
-pub mod Flowing
-pub mod Freeing
-pub mod Repeating
+pub mod EdgeJoins
+pub mod FreeColumns
+pub mod RepeatedColumns
 pub mod Runs
-pub mod Seeding
+pub mod EdgesAndSeeds
 pub mod SetsTaken
-pub mod Taking
+pub mod TakenTokens

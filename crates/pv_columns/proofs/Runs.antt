@@ -7,7 +7,7 @@ use Rattle.pv_columns.specs.Marks.{AreLiveMarks, IsMarked}
 use Rattle.pv_columns.specs.declared.rules.ColumnRule.{ColumnRule}
 use Rattle.pv_columns.specs.Takes.{IsFree, Repeats, Takes, TakesEach, free_leads, free_repeats, repeats_column, repeats_token}
 use Rattle.pv_columns.proofs.Spans.{between, join, token_at}
-use Rattle.pv_columns.proofs.Taking.{among_reached, by_columns, by_token, reaches_taken, takes_reaches}
+use Rattle.pv_columns.proofs.TakenTokens.{among_reached, by_columns, by_token, reaches_taken, takes_reaches}
 
 module _ (rules : List ColumnRule) (word : List Token) (live : List Bool) (marks : AreLiveMarks rules word live) where
   as_columns : (cs ds : List ℕ) (i j : ℕ) → cs ≡ ds → ReadThrough rules word ds i j → ReadThrough rules word cs i j

@@ -1,5 +1,6 @@
 -- A free column reaches over the spans of tokens of its set.
-use Rattle.std.proofs.Common.{Bool, IsTrue, List, None, Option, Some, [], arith, eq-eqb, eqb, eqb-true, get_or, inl, inr, length, refl, subst, sym, zero, suc, ℕ, ◌++◌, ◌/◌, ◌%◌, ◌<◌, ◌∷◌, ◌≡◌, ◌≤◌, ◌↔◌, ◌⊎◌}
+use Rattle.std.proofs.Common.{Bool, IsTrue, List, None, Option, Some, [], arith, eq-eqb, eqb, eqb-true, get_or, inl, inr, length, refl, subst, sym}
+use Rattle.std.proofs.Common.{zero, suc, ℕ, ◌++◌, ◌/◌, ◌%◌, ◌<◌, ◌∷◌, ◌≡◌, ◌≤◌, ◌↔◌, ◌⊎◌}
 use Rattle.std.proofs.lemmas.Bool.{cases_lt}
 use Rattle.std.proofs.lemmas.Grind.{common_steps}
 use Rattle.pv_model.specs.declared.models.Token.{Token}
@@ -14,15 +15,17 @@ use Rattle.pv_columns.specs.declared.free_sets.FreeSets.{FreeSets}
 use Rattle.pv_columns.specs.declared.free_sets.TokenSet.{TokenSet}
 use Rattle.pv_columns.specs.declared.rules.ColumnRule.{ColumnRule}
 use Rattle.pv_columns.specs.declared.sets.Layer.{Layer}
-use Rattle.pv_columns.proofs.Freeing.{layer_at, token_below}
-use Rattle.pv_columns.proofs.Marking.{live_marks}
+use Rattle.pv_columns.proofs.FreeColumns.{layer_at, token_below}
+use Rattle.pv_columns.proofs.ClosedMarks.{live_marks}
 use Rattle.pv_columns.proofs.Runs.{free_reaches_taken}
 use Rattle.pv_columns.proofs.Spans.{token_at}
 
 no_bit : (row : List ℕ) (m k : ℕ) → length row ≤ m → bit (get_or row m 0) k ≡ 1 → ⊥
 no_bit row m k l e = grind (arith, common_steps)
 
-module _ (rules : List ColumnRule) (live : List Bool) (layers : List Layer) (are : AreLayers rules live layers) (below : AreTokensBelow (length layers) rules) (c : ℕ) (row : List ℕ) (is : IsRowOf layers c row) where
+module _ (rules : List ColumnRule) (live : List Bool) (layers : List Layer)
+    (are : AreLayers rules live layers) (below : AreTokensBelow (length layers) rules) (c : ℕ)
+    (row : List ℕ) (is : IsRowOf layers c row) where
   in_set : (t : Token) → Takes rules live t c → IsInRow row t
   in_set t v =
       let m = token_number t / 64 in
@@ -59,7 +62,9 @@ run_all row word end r = (
   ]),
 )
 
-pub covers_all : (rules : List ColumnRule) (columns : List ℕ) (free : FreeSets) (place n : ℕ) (d : TokenSet) (word : List Token) (b : Bool) → AreFreeSets rules columns free → TokensMayBeMissing rules word →
+pub covers_all : (rules : List ColumnRule) (columns : List ℕ) (free : FreeSets) (place n : ℕ)
+    (d : TokenSet) (word : List Token) (b : Bool) → AreFreeSets rules columns free →
+    TokensMayBeMissing rules word →
     get_or free.numbers.items place None ≡ Some n → IsTrue b ↔ AreInRow (get_or free.sets.items n d).words.items word 0 (length word) →
     IsTrue b ↔ ReadThrough rules word (get_or columns place 0 ∷ []) 0 (length word)
 covers_all rules columns free place n d word b are missing e iff =

@@ -1,10 +1,10 @@
 -- of this crate:
 pub mod Annotations
 pub mod Certificates
-pub mod Counting
+pub mod CommandCounts
 pub mod DtdLines
-pub mod Listing
+pub mod DtdListings
 pub mod MadePacks
 pub mod PackLines
-pub mod Packing
+pub mod DocumentPacks
 pub mod Validities

@@ -1,4 +1,4 @@
-//! The commands that need no session, each after the command line: what it is given are the names
+//! The commands that need no session, each after the command line: it is given the names
 //! of its files, or a DTD and a document's bytes that were fetched. `valid`, `check`, `complete`
 //! and `why` read such a document and do what is defined for it (`specs/Valid.antt`, and so on);
 //! `dtd`, `verify`, `deny` and `standoff` open their files themselves. Each returns its response,

@@ -23,7 +23,9 @@ module _ (marks : List ℕ) (t all : Tree Mark) where
   to-events o =
       let r = runs o [] tt in
       let kept : kept_events 0 marks [] (shown (view all)) ≡ shown (view t) =
-      ap (λ ms. kept_events 0 ms [] (shown (view all))) (sym (append-nil marks)) ∙ ap (kept_events 0 (marks ++ []) []) (sym (append-nil (shown (view all)))) ∙ r.kept [] [] ∙ append-nil (shown (view t)) in
+      ap (λ ms. kept_events 0 ms [] (shown (view all))) (sym (append-nil marks))
+      ∙ ap (kept_events 0 (marks ++ []) []) (sym (append-nil (shown (view all)))) ∙ r.kept [] []
+      ∙ append-nil (shown (view t)) in
       let left : marks_left 0 marks (shown (view all)) ≡ [] =
       ap (λ ms. marks_left 0 ms (shown (view all))) (sym (append-nil marks)) ∙ ap (marks_left 0 (marks ++ [])) (sym (append-nil (shown (view all)))) ∙ r.left [] in
       record { none_left = left-is ∙ left; same = kept-is ∙ ap bytewise kept ∙ shown-tree t }

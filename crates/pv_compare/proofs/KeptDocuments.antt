@@ -16,7 +16,9 @@ use Rattle.pv_compare.proofs.UnitTexts.{body-texts}
 same-doc : DocumentsMeanOne → (root bytes : List ℕ) (a b : PlainDoc Mark) → IsBodyText root bytes a → IsBodyText root bytes b → a ≡ b
 same-doc one root bytes a b p q = let e : is_document a ≡ is_document b = one flat_limits root bytes (is_document a) (is_document b) p q in cc
 
-module _ (agree : GrammarsAgree) (one : DocumentsMeanOne) (leave : EventsLeaveOut) (root bytes body marks : List ℕ) (doc : PlainDoc Mark) (text : IsBodyText root bytes doc) (parts : EventParts) (found : Compared)
+module _ (agree : GrammarsAgree) (one : DocumentsMeanOne) (leave : EventsLeaveOut)
+    (root bytes body marks : List ℕ) (doc : PlainDoc Mark) (text : IsBodyText root bytes doc)
+    (parts : EventParts) (found : Compared)
     (p : AreEventsOf doc parts) (q : IsCompared root body marks (map plain_event parts.events.items) found) where
   first-whole : LeavesEvents marks (events_of q.doc.root) (events_of doc.root) → IsTrue found.leaves
   first-whole l = q.leaves.1 (subst (LeavesEvents marks (events_of q.doc.root)) p.is_events l)

@@ -23,7 +23,9 @@ shown (elem x t k h) = begin_element x t ∷ (shown k ++ end_element ∷ shown h
 pub shown-join : (a b : Hedge) → shown (join a b) ≡ shown a ++ shown b
 shown-join done b = refl
 shown-join (leaf l a) b = ap (λ es. leaf_event l ∷ es) (shown-join a b)
-shown-join (elem x t k a) b = ap (λ es. begin_element x t ∷ (shown k ++ end_element ∷ es)) (shown-join a b) ∙ ap (λ es. begin_element x t ∷ es) (sym (append_assoc (shown k) (end_element ∷ shown a) (shown b)))
+shown-join (elem x t k a) b = ap (λ es. begin_element x t ∷ (shown k ++ end_element ∷ es))
+    (shown-join a b) ∙ ap (λ es. begin_element x t ∷ es)
+    (sym (append_assoc (shown k) (end_element ∷ shown a) (shown b)))
 
 -- a leaf stays
 kept-leaf : (n : ℕ) (marks : List ℕ) (outs : List Bool) (l : Leaf) (es : List PlainEvent) → kept_events n marks outs (leaf_event l ∷ es) ≡ leaf_event l ∷ kept_events n marks outs es
@@ -57,27 +59,37 @@ behind-kids : (x t : List ℕ) (k' h' : Hedge) (es : List PlainEvent) → shown 
 behind-kids x t k' h' es = ap (λ fs. begin_element x t ∷ fs) (append_assoc (shown k') (end_element ∷ shown h') es)
 
 -- an element that isn't marked
-runs-kept : (n i e : ℕ) (marks between rest x t : List ℕ) (k k' h h' : Hedge) → is_marked n marks t ≡ false → Runs (suc n) i marks between k k' → Runs i e between rest h h' → Runs n e marks rest (elem x t k h) (elem x t k' h')
+runs-kept : (n i e : ℕ) (marks between rest x t : List ℕ) (k k' h h' : Hedge) →
+    is_marked n marks t ≡ false → Runs (suc n) i marks between k k' → Runs i e between rest h h' →
+    Runs n e marks rest (elem x t k h) (elem x t k' h')
 runs-kept n i e marks between rest x t k k' h h' unmarked a b = record {
   kept = λ outs es. ap (kept_events n marks outs) (behind-kids x t k' h' es) ∙ inside outs es;
   left = λ es. ap (marks_left n marks) (behind-kids x t k' h' es) ∙ left-inside es;
 }
   where
-    inside : (outs : List Bool) (es : List PlainEvent) → kept_events n marks outs (begin_element x t ∷ (shown k' ++ end_element ∷ (shown h' ++ es))) ≡ shown (elem x t k h) ++ kept_events e rest outs es
-    inside outs es = rw unmarked (ap (λ fs. begin_element x t ∷ fs) (a.kept (false ∷ outs) (end_element ∷ (shown h' ++ es)) ∙ ap (λ fs. shown k ++ end_element ∷ fs) (b.kept outs es) ∙ sym (append_assoc (shown k) (end_element ∷ shown h) (kept_events e rest outs es))))
+    inside : (outs : List Bool) (es : List PlainEvent) →
+        kept_events n marks outs (begin_element x t ∷ (shown k' ++ end_element ∷ (shown h' ++ es)))
+        ≡ shown (elem x t k h) ++ kept_events e rest outs es
+    inside outs es = rw unmarked (ap (λ fs. begin_element x t ∷ fs) (a.kept (false ∷ outs)
+        (end_element ∷ (shown h' ++ es)) ∙ ap (λ fs. shown k ++ end_element ∷ fs) (b.kept outs es)
+        ∙ sym (append_assoc (shown k) (end_element ∷ shown h) (kept_events e rest outs es))))
 
     left-inside : (es : List PlainEvent) → marks_left n marks (begin_element x t ∷ (shown k' ++ end_element ∷ (shown h' ++ es))) ≡ marks_left e rest es
     left-inside es = rw unmarked (a.left (end_element ∷ (shown h' ++ es)) ∙ b.left es)
 
 -- one that is
-runs-new : (n i e : ℕ) (marks between rest x t : List ℕ) (h1 h2 k' h' : Hedge) → is_marked n marks t ≡ true → Runs (suc n) i (behind_first marks) between h1 k' → Runs i e between rest h2 h' → Runs n e marks rest (join h1 h2) (elem x t k' h')
+runs-new : (n i e : ℕ) (marks between rest x t : List ℕ) (h1 h2 k' h' : Hedge) →
+    is_marked n marks t ≡ true → Runs (suc n) i (behind_first marks) between h1 k' →
+    Runs i e between rest h2 h' → Runs n e marks rest (join h1 h2) (elem x t k' h')
 runs-new n i e marks between rest x t h1 h2 k' h' marked a b = record {
   kept = λ outs es. ap (kept_events n marks outs) (behind-kids x t k' h' es) ∙ inside outs es;
   left = λ es. ap (marks_left n marks) (behind-kids x t k' h' es) ∙ left-inside es;
 }
   where
     inside : (outs : List Bool) (es : List PlainEvent) → kept_events n marks outs (begin_element x t ∷ (shown k' ++ end_element ∷ (shown h' ++ es))) ≡ shown (join h1 h2) ++ kept_events e rest outs es
-    inside outs es = rw marked (a.kept (true ∷ outs) (end_element ∷ (shown h' ++ es)) ∙ ap (λ fs. shown h1 ++ fs) (b.kept outs es) ∙ sym (append_assoc (shown h1) (shown h2) (kept_events e rest outs es)) ∙ ap (λ fs. fs ++ kept_events e rest outs es) (sym (shown-join h1 h2)))
+    inside outs es = rw marked (a.kept (true ∷ outs) (end_element ∷ (shown h' ++ es))
+        ∙ ap (λ fs. shown h1 ++ fs) (b.kept outs es) ∙ sym (append_assoc (shown h1) (shown h2)
+        (kept_events e rest outs es)) ∙ ap (λ fs. fs ++ kept_events e rest outs es) (sym (shown-join h1 h2)))
 
     left-inside : (es : List PlainEvent) → marks_left n marks (begin_element x t ∷ (shown k' ++ end_element ∷ (shown h' ++ es))) ≡ marks_left e rest es
     left-inside es = rw marked (a.left (end_element ∷ (shown h' ++ es)) ∙ b.left es)
@@ -102,7 +114,15 @@ leaves done n marks =
     record { hedge = done; used = []; rest = marks; split = refl; out = out_done n (n + 0) same; runs = subst (λ e. Runs n e marks marks done done) (sym same) (runs-done n marks) }
 leaves (leaf l h') n marks =
     let r = leaves h' n marks in
-    record { hedge = leaf l r.hedge; used = r.used; rest = r.rest; split = r.split; out = out_leaf n (n + elements h') r.used l r.hedge h' r.out; runs = runs-leaf n (n + elements h') marks r.rest l r.hedge h' r.runs }
+    record {
+      hedge = leaf l r.hedge;
+      used = r.used;
+      rest = r.rest;
+      split = r.split;
+      out = out_leaf n (n + elements h') r.used l r.hedge h' r.out;
+      runs =
+          runs-leaf n (n + elements h') marks r.rest l r.hedge h' r.runs;
+    }
 leaves (elem x t k' h') n marks = by (leaves k' (suc n)) (leaves h' (suc n + elements k')) (is_marked n marks t) refl
   where
     i : ℕ
@@ -120,8 +140,12 @@ leaves (elem x t k' h') n marks = by (leaves k' (suc n)) (leaves h' (suc n + ele
           used = a.used ++ b.used;
           rest = b.rest;
           split = a.split ∙ ap (λ l. a.used ++ l) b.split ∙ sym (append_assoc a.used b.used b.rest);
-          out = subst (λ e. LeavesOut n e (a.used ++ b.used) (elem x t a.hedge b.hedge) (elem x t k' h')) same (out_kept n i (i + elements h') (a.used ++ b.used) a.used b.used x t a.hedge k' b.hedge h' refl a.out b.out);
-          runs = subst (λ e. Runs n e marks b.rest (elem x t a.hedge b.hedge) (elem x t k' h')) same (runs-kept n i (i + elements h') marks a.rest b.rest x t a.hedge k' b.hedge h' unmarked a.runs b.runs);
+          out = subst (λ e. LeavesOut n e (a.used ++ b.used) (elem x t a.hedge b.hedge)
+              (elem x t k' h')) same (out_kept n i (i + elements h') (a.used ++ b.used) a.used
+              b.used x t a.hedge k' b.hedge h' refl a.out b.out);
+          runs = subst (λ e. Runs n e marks b.rest (elem x t a.hedge b.hedge) (elem x t k' h')) same
+              (runs-kept n i (i + elements h') marks a.rest b.rest x t a.hedge k' b.hedge h'
+              unmarked a.runs b.runs);
         }
     by kids behind true marked =
         let a = kids (behind_first marks) in
@@ -132,7 +156,10 @@ leaves (elem x t k' h') n marks = by (leaves k' (suc n)) (leaves h' (suc n + ele
           used = n ∷ (a.used ++ b.used);
           rest = b.rest;
           split = is.0 ∙ ap (λ l. n ∷ l) (a.split ∙ ap (λ l. a.used ++ l) b.split ∙ sym (append_assoc a.used b.used b.rest));
-          out = subst (λ u. LeavesOut n (n + suc (elements k' + elements h')) (n ∷ (a.used ++ b.used)) (join a.hedge b.hedge) (elem x u k' h')) (sym is.1) (subst (λ e. LeavesOut n e (n ∷ (a.used ++ b.used)) (join a.hedge b.hedge) (elem x [] k' h')) same
+          out = subst (λ u. LeavesOut n (n + suc (elements k' + elements h')) (n ∷ (a.used
+              ++ b.used)) (join a.hedge b.hedge) (elem x u k' h')) (sym is.1)
+              (subst (λ e. LeavesOut n e (n ∷ (a.used ++ b.used)) (join a.hedge b.hedge)
+              (elem x [] k' h')) same
               (out_new n i (i + elements h') (n ∷ (a.used ++ b.used)) a.used b.used x (join a.hedge b.hedge) a.hedge b.hedge k' h' refl refl a.out b.out));
           runs = subst (λ e. Runs n e marks b.rest (join a.hedge b.hedge) (elem x t k' h')) same (runs-new n i (i + elements h') marks a.rest b.rest x t a.hedge b.hedge k' h' marked a.runs b.runs);
         }

@@ -3,7 +3,7 @@ pub mod ComparedEvents
 pub mod EventsLeave
 pub mod KeptDocuments
 pub mod LeftOutHedges
-pub mod Marked
+pub mod AttributeMarks
 pub mod OneHedge
 pub mod PlainElements
 pub mod GivenEvents

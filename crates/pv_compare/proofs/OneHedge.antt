@@ -135,13 +135,17 @@ module _ (determined : UnitsAreDetermined) where
   same-units : (us vs : List (List ℕ)) → AllUnits us → AllUnits vs → joined us ≡ joined vs → us ≡ vs
   same-units us vs a b e = sym (determined us a) ∙ ap units_in e ∙ determined vs b
 
-  here-behind : (us vs : List (List ℕ)) (g : Hedge) (xs s : List PlainEvent) → AllUnits us → AllUnits vs → IsPlain g → HasUnitLeaves g → NoText xs → Ends s → texts (joined us) ++ xs ≡ texts (joined vs) ++ (bytewise (shown g) ++ s) → Behind us vs g xs s
+  here-behind : (us vs : List (List ℕ)) (g : Hedge) (xs s : List PlainEvent) → AllUnits us →
+      AllUnits vs → IsPlain g → HasUnitLeaves g → NoText xs → Ends s → texts (joined us)
+      ++ xs ≡ texts (joined vs) ++ (bytewise (shown g) ++ s) → Behind us vs g xs s
   here-behind us vs g xs s all also plain leaves none ends e =
       let r = split-texts (joined us) (joined vs) xs (bytewise (shown g) ++ s) none (plain-no-text g s plain ends) e in
       record { hedge = g; plain = plain; leaves = leaves; is_spread = ap (λ l. spread l g) (sym (same-units us vs all also r.0)); same = r.1 }
 
   abbrev FindsBehind : Hedge → Type 0
-  FindsBehind g = (us vs : List (List ℕ)) (xs s : List PlainEvent) → AllUnits us → AllUnits vs → HasUnitLeaves g → NoText xs → Ends s → texts (joined us) ++ xs ≡ texts (joined vs) ++ (bytewise (shown g) ++ s) → Behind us vs g xs s
+  FindsBehind g = (us vs : List (List ℕ)) (xs s : List PlainEvent) → AllUnits us → AllUnits vs →
+      HasUnitLeaves g → NoText xs → Ends s → texts (joined us) ++ xs ≡ texts (joined vs)
+      ++ (bytewise (shown g) ++ s) → Behind us vs g xs s
 
   unit-behind : (l : Leaf) (u : List ℕ) (g : Hedge) → leaf_event l ≡ text_here u → unit_leaf u ≡ l → IsUnit u → FindsBehind g → FindsBehind (leaf l g)
   unit-behind l u g event is unit below us vs xs s all also (here, leaves) none ends e =
@@ -199,7 +203,9 @@ module _ (determined : UnitsAreDetermined) where
   misc-plain c h below (elem x t k g) p a b r s ends stop e = absurd (cc)
 
   inside-is : (x t : List ℕ) (k h : Hedge) (r : List PlainEvent) → bytewise (shown (elem x t k h)) ++ r ≡ begin_element x t ∷ (bytewise (shown k) ++ (end_element ∷ (bytewise (shown h) ++ r)))
-  inside-is x t k h r = ap (λ l. begin_element x t ∷ (l ++ r)) (bytewise-append (shown k) (end_element ∷ shown h)) ∙ ap (λ l. begin_element x t ∷ l) (append_assoc (bytewise (shown k)) (end_element ∷ bytewise (shown h)) r)
+  inside-is x t k h r = ap (λ l. begin_element x t ∷ (l ++ r)) (bytewise-append (shown k)
+      (end_element ∷ shown h)) ∙ ap (λ l. begin_element x t ∷ l) (append_assoc (bytewise (shown k))
+      (end_element ∷ bytewise (shown h)) r)
 
   elem-plain : (x t : List ℕ) (k h : Hedge) → Same k → Same h → SamePlain (elem x t k h)
   elem-plain x t k h inner below done p a b r s ends stop e = absurd (subst Ends (sym e) stop)

@@ -82,7 +82,9 @@ left-bytewise n marks [] = refl
 left-bytewise n marks (begin_element x t ∷ es) = by (is_marked n marks t) (left-bytewise (suc n) (behind_first marks) es) (left-bytewise (suc n) marks es)
   where
     by : (b : Bool) → marks_left (suc n) (behind_first marks) es ≡ marks_left (suc n) (behind_first marks) (bytewise es) → marks_left (suc n) marks es ≡ marks_left (suc n) marks (bytewise es) →
-        (if b then marks_left (suc n) (behind_first marks) es else marks_left (suc n) marks es) ≡ (if b then marks_left (suc n) (behind_first marks) (bytewise es) else marks_left (suc n) marks (bytewise es))
+        (if b then marks_left (suc n) (behind_first marks) es else marks_left (suc n) marks es)
+        ≡ (if b then marks_left (suc n) (behind_first marks) (bytewise es) else marks_left
+        (suc n) marks (bytewise es))
     by true p q = p
     by false p q = q
 left-bytewise n marks (end_element ∷ es) = left-bytewise n marks es

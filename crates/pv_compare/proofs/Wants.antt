@@ -1,5 +1,6 @@
 -- What doesn't stand at the front of events that are wanted.
-use Rattle.std.proofs.Common.{List, [], ap, append-nil, append_assoc, arith, drop, drop-cons, get_or, suc, length, map, refl, slice_index_or, sym, take, ℕ, ◌++◌, ◌∙◌, ◌∷◌, ◌≡◌, ◌≢◌, ◌≤◌, ◌<◌, ◌==◌, true}
+use Rattle.std.proofs.Common.{List, [], ap, append-nil, append_assoc, arith, drop, drop-cons, get_or, suc, length, map, refl, slice_index_or, sym}
+use Rattle.std.proofs.Common.{take, ℕ, ◌++◌, ◌∙◌, ◌∷◌, ◌≡◌, ◌≢◌, ◌≤◌, ◌<◌, ◌==◌, true}
 use Rattle.std.proofs.lemmas.Bool.{eqb-true}
 use Rattle.std.proofs.lemmas.List.{append_cancel_left, nil_from_length, map-append, take-append-drop}
 use Rattle.pv_flat.specs.Plain.{plain_event}
@@ -34,7 +35,9 @@ no-other-at-end t (f ∷ es) e more other none is = absurd (omega arith)
 no-other-at-end (c ∷ t) [] e more other none is = no-other-at-text (c ∷ t) [] e more other (omega arith) is
 no-other-at-end [] [] e more other none is = let f : stands [] [] ≡ e ∷ more = is ∙ ap (λ l. l ++ more) (other-is e [] other) in absurd (cc)
 
-pub no-other-at : (t : List ℕ) (es : List Event) (d : Event) (e : PlainEvent) (more : List PlainEvent) → IsOther e → (length t == 0) ≡ true → 1 ≤ length es → begins_no_text es → (plain_event (slice_index_or es 0 d) ≡ e → ⊥) →
+pub no-other-at : (t : List ℕ) (es : List Event) (d : Event) (e : PlainEvent)
+    (more : List PlainEvent) → IsOther e → (length t == 0) ≡ true → 1 ≤ length es →
+    begins_no_text es → (plain_event (slice_index_or es 0 d) ≡ e → ⊥) →
     stands t es ≡ bytewise (e ∷ []) ++ more → ⊥
 no-other-at t [] d e more other empty some front differs is = absurd (omega arith)
 no-other-at t (x ∷ es) d e more other empty some front differs is =
@@ -70,8 +73,12 @@ texts-split bytes i lt =
     ∙ ap (λ l. texts (take i bytes ++ l)) (drop-cons bytes i 0 lt)
     ∙ map-append (λ b. text_here (b ∷ [])) (take i bytes) (get_or bytes i 0 ∷ drop (suc i) bytes)
 
-pub no-more-there : (bytes : List ℕ) (i : ℕ) (wanted now more : List PlainEvent) → i < length bytes → wanted ≡ texts (take i bytes) ++ now → ((rest : List PlainEvent) → now ≢ text_here (get_or bytes i 0 ∷ []) ∷ rest) → wanted ≡ (texts bytes ++ []) ++ more → ⊥
+pub no-more-there : (bytes : List ℕ) (i : ℕ) (wanted now more : List PlainEvent) →
+    i < length bytes → wanted ≡ texts (take i bytes) ++ now → ((rest : List PlainEvent) →
+    now ≢ text_here (get_or bytes i 0 ∷ []) ∷ rest) → wanted ≡ (texts bytes ++ []) ++ more → ⊥
 no-more-there bytes i wanted now more lt is none e =
     none (texts (drop (suc i) bytes) ++ more)
     (append_cancel_left (texts (take i bytes)) now (text_here (get_or bytes i 0 ∷ []) ∷ (texts (drop (suc i) bytes) ++ more))
-    (sym is ∙ e ∙ ap (λ l. l ++ more) (append-nil (texts bytes)) ∙ ap (λ l. l ++ more) (texts-split bytes i lt) ∙ append_assoc (texts (take i bytes)) (text_here (get_or bytes i 0 ∷ []) ∷ texts (drop (suc i) bytes)) more))
+    (sym is ∙ e ∙ ap (λ l. l ++ more) (append-nil (texts bytes))
+    ∙ ap (λ l. l ++ more) (texts-split bytes i lt) ∙ append_assoc (texts (take i bytes))
+    (text_here (get_or bytes i 0 ∷ []) ∷ texts (drop (suc i) bytes)) more))

@@ -47,9 +47,13 @@ numbers_below m e _ _ _ (out_kept _ i _ added one two x t k k' h h' s a b) =
     subst (AreBelow e) (sym s) (All-append (λ z. z < e) one two (further i e one (ends_behind i e two h h' b) (numbers_below (suc m) i one k k' a)) (numbers_below i e two h h' b))
 numbers_below m e _ _ _ (out_new _ i _ added one two x h h1 h2 k' h' s j a b) =
     let p = ends_behind (suc m) i one h1 k' a in let q = ends_behind i e two h2 h' b in
-    subst (AreBelow e) (sym s) (All-cons (λ z. z < e) m (one ++ two) (omega arith) (All-append (λ z. z < e) one two (further i e one q (numbers_below (suc m) i one h1 k' a)) (numbers_below i e two h2 h' b)))
+    subst (AreBelow e) (sym s) (All-cons (λ z. z < e) m (one ++ two) (omega arith)
+    (All-append (λ z. z < e) one two (further i e one q (numbers_below (suc m) i one h1 k' a))
+    (numbers_below i e two h2 h' b)))
 
-pub few_marks : (g : PlainDtd) (root : List ℕ) (doc : PlainDoc Mark) (count : ℕ) (marks body : List ℕ) → nodes_in doc.root ≤ MAX_NODES → IsLeastCompletion g root doc count marks body → All (λ k. k < 2 ^ 32) marks
+pub few_marks : (g : PlainDtd) (root : List ℕ) (doc : PlainDoc Mark) (count : ℕ)
+    (marks body : List ℕ) → nodes_in doc.root ≤ MAX_NODES →
+    IsLeastCompletion g root doc count marks body → All (λ k. k < 2 ^ 32) marks
 few_marks g root doc count marks body small l = λ k d lt. let b = below k d lt in let e = end in omega arith
   where
     below : AreBelow (elements (view l.tree)) marks

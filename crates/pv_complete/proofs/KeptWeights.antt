@@ -40,7 +40,9 @@ same_elements (x ∷ xs) (y ∷ ys) n f =
 abbrev pub AreRight : PlainDtd → List KnownWeight → Type 0
 AreRight g entries = (k : ℕ) (e : KnownWeight) → slice_get entries k ≡ Some e → IsWeighedWord g (plain_of e.of) (map plain_token e.word) e.weight e.pieces e.table
 
-pub right_one_more : (g : PlainDtd) (old new : List KnownWeight) (e : KnownWeight) → new ≡ old ++ e ∷ [] → AreRight g old → IsWeighedWord g (plain_of e.of) (map plain_token e.word) e.weight e.pieces e.table → AreRight g new
+pub right_one_more : (g : PlainDtd) (old new : List KnownWeight) (e : KnownWeight) →
+    new ≡ old ++ e ∷ [] → AreRight g old → IsWeighedWord g (plain_of e.of) (map plain_token e.word)
+    e.weight e.pieces e.table → AreRight g new
 right_one_more g old new e is all one k x h = elim (one_of_both old e k x (rw is at h)) [ inl at_old ↦ all k x at_old | inr same ↦ rw same one ]
 
 no_entry : {X : Type 0} (k : ℕ) (x : X) → slice_get [] k ≡ Some x → ⊥
@@ -51,7 +53,9 @@ pub right_none : (g : PlainDtd) (new : List KnownWeight) → new ≡ [] → AreR
 right_none g new is k x h = absurd (no_entry k x (rw is at h))
 
 -- after a push, which there may be no memory for
-pub right_pushed : (g : PlainDtd) (old new : List KnownWeight) (e : KnownWeight) (b : Bool) → new ≡ (if b then old ++ e ∷ [] else old) → AreRight g old → IsWeighedWord g (plain_of e.of) (map plain_token e.word) e.weight e.pieces e.table → AreRight g new
+pub right_pushed : (g : PlainDtd) (old new : List KnownWeight) (e : KnownWeight) (b : Bool) →
+    new ≡ (if b then old ++ e ∷ [] else old) → AreRight g old →
+    IsWeighedWord g (plain_of e.of) (map plain_token e.word) e.weight e.pieces e.table → AreRight g new
 right_pushed g old new e true is all one = right_one_more g old new e is all one
 right_pushed g old new e false is all one = rw is all
 

@@ -30,8 +30,8 @@ use Rattle.pv_complete.specs.Loads.{UsesVerdict}
 use Rattle.pv_complete.specs.Needing.{AreLightLists, CanWeigh, IsLightList, Needs}
 use Rattle.pv_complete.specs.Pieces.{PlainPiece}
 use Rattle.pv_complete.specs.Written.{AreListPieces, AreNotImpossible, HasNextKids, HasNextList, HasNextTree, PlainWriting, WritesSome}
-use Rattle.pv_complete.proofs.Adding.{live_site}
-use Rattle.pv_complete.proofs.Taking.{not_at}
+use Rattle.pv_complete.proofs.WeightSums.{live_site}
+use Rattle.pv_complete.proofs.PiecesByVerdict.{not_at}
 
 module _ (M : Type 0) (g : PlainDtd) (root : List ℕ) where
   no_bounds : (lists : List (Listed M)) → BoundInAll g root lists 0
@@ -84,14 +84,18 @@ module _ (g : PlainDtd) (vs : List Verdict) where
   }
 
   -- the lists of the kid that is next
-  pub next_kid : (kids rest others : Forest Mark) (kid : Tree Mark) (i used : ℕ) (ps qs : List PlainPiece) (old new : PlainWriting) (h : HasNextKids g kids vs old.used) → rest ≡ tree kid others → used ≡ new.used →
+  pub next_kid : (kids rest others : Forest Mark) (kid : Tree Mark) (i used : ℕ)
+      (ps qs : List PlainPiece) (old new : PlainWriting) (h : HasNextKids g kids vs old.used) →
+      rest ≡ tree kid others → used ≡ new.used →
       WritesSome g h.root h.path i ps qs kids rest h.more vs old new → HasNextTree g kid vs used
   next_kid kids rest others kid i used ps qs old new h is same s = record {
     root = h.root;
     path = h.path ++ i ∷ [];
     more = lists_from h.path (suc i) others ++ h.more;
     verdicts = subst (λ xs. AreVerdicts g h.root xs (drop used vs)) (append_assoc (lists_at (h.path ++ i ∷ []) kid) (lists_from h.path (suc i) others) h.more)
-        (subst (λ k. AreVerdicts g h.root (lists_from h.path i k ++ h.more) (drop used vs)) is (subst (λ k. AreVerdicts g h.root (lists_from h.path i rest ++ h.more) (drop k vs)) (sym same) (let p = s.passes in p.left)));
+        (subst (λ k. AreVerdicts g h.root (lists_from h.path i k ++ h.more) (drop used vs)) is
+        (subst (λ k. AreVerdicts g h.root (lists_from h.path i rest ++ h.more) (drop k vs))
+        (sym same) (let p = s.passes in p.left)));
     light = all_left (IsLightList g h.root) (lists_at (h.path ++ i ∷ []) kid) (lists_from h.path (suc i) others) (subst (λ k. AreLightLists g h.root (lists_from h.path i k)) is
         (all_right (IsLightList g h.root) s.lists (lists_from h.path i rest) (let e = s.are_lists in subst (AreLightLists g h.root) e h.light)));
   }

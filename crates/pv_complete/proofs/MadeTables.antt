@@ -25,7 +25,7 @@ use Rattle.pv_complete.specs.Tables.{HasTables, HasTablesCause, most_entries}
 use Rattle.pv_complete.specs.Tabling.{AreListEntries, Makes, MakesTables, PlainMade, StopsKids, StopsLists, StopsTables, StopsWord}
 use Rattle.pv_complete.specs.declared.errors.NeedError.{NeedError}
 use Rattle.pv_complete.specs.declared.errors.NeedError.TheVariants.{Impossible, NoMemory, TooHeavy, TooMany, TooWide}
-use Rattle.pv_complete.proofs.Adding.{live_site}
+use Rattle.pv_complete.proofs.WeightSums.{live_site}
 
 pub entries_joined : (ts us : List Table) → entries_in (ts ++ us) ≡ entries_in ts + entries_in us
 entries_joined [] us = omega arith
@@ -35,7 +35,8 @@ abbrev pub table : List ℕ → List Entry → Table
 table path es = record { path = path; entries = es }
 
 -- why a list of a live word isn't done
-pub stops_kids : (g : PlainDtd) (kids : Forest Mark) (live : List PlainToken) (places : List ℕ) (room : ℕ) (e : NeedError) → IsLiveWord g (word_of g kids) live → length live ≡ length (word_of g kids) →
+pub stops_kids : (g : PlainDtd) (kids : Forest Mark) (live : List PlainToken) (places : List ℕ)
+    (room : ℕ) (e : NeedError) → IsLiveWord g (word_of g kids) live → length live ≡ length (word_of g kids) →
     StopsWord g live places room e → StopsKids g kids places room e
 stops_kids g kids live places room (Impossible path) is n s = s
 stops_kids g kids live places room (TooWide path) is n s = (s.0, rw n at s.1)
@@ -215,7 +216,9 @@ module _ (g : PlainDtd) (root : List ℕ) where
   at_start lists vs old none are = rw (append-nil lists, none) are
 
   -- what a walk over all lists has made, where the least number can be told
-  pub has_tables : (doc : PlainDoc Mark) (vs : List Verdict) (old new : PlainMade) → AreVerdicts g root (lists_of doc) vs → (n : ℕ) × Needs g root doc n → old.used ≡ 0 → old.tables ≡ [] → old.room ≡ most_entries →
+  pub has_tables : (doc : PlainDoc Mark) (vs : List Verdict) (old new : PlainMade) →
+      AreVerdicts g root (lists_of doc) vs → (n : ℕ) × Needs g root doc n → old.used ≡ 0 →
+      old.tables ≡ [] → old.room ≡ most_entries →
       MakesTables g root (lists_of doc) vs old new → HasTables g root doc new.tables
   has_tables doc vs old new are (n, needs) none nil room f = record {
     least = n;
@@ -235,7 +238,9 @@ module _ (g : PlainDtd) (root : List ℕ) where
   cause_of doc room NoMemory needs same s = tt
 
   -- why it has stopped
-  pub tables_cause : (doc : PlainDoc Mark) (vs : List Verdict) (old : PlainMade) (e : NeedError) → AreVerdicts g root (lists_of doc) vs → (n : ℕ) × Needs g root doc n → old.used ≡ 0 → old.room ≡ most_entries →
+  pub tables_cause : (doc : PlainDoc Mark) (vs : List Verdict) (old : PlainMade) (e : NeedError) →
+      AreVerdicts g root (lists_of doc) vs → (n : ℕ) × Needs g root doc n → old.used ≡ 0 →
+      old.room ≡ most_entries →
       StopsTables g root (lists_of doc) vs old e → HasTablesCause g root doc e
   tables_cause doc vs old e are needs none room f = cause_of doc old.room e needs room (f [] (at_start (lists_of doc) vs old none are))
 

@@ -54,7 +54,9 @@ IsNext false next after = after ≡ next
 
 module _ (g : PlainDtd) where
   -- no piece is next in front of a token
-  pub kept_next : (t : Tree Mark) (rest : Forest Mark) (ps : List PlainPiece) → HasToken true t → AwaitsNode ps → SuitsWord g ps (word_of g (tree t rest)) → (qs : List PlainPiece) × (ps ≡ kept ∷ qs) × SuitsWord g qs (word_of g rest)
+  pub kept_next : (t : Tree Mark) (rest : Forest Mark) (ps : List PlainPiece) → HasToken true t →
+      AwaitsNode ps → SuitsWord g ps (word_of g (tree t rest)) → (qs : List PlainPiece)
+      × (ps ≡ kept ∷ qs) × SuitsWord g qs (word_of g rest)
   kept_next t rest [] h a s = absurd (let i = h g in let e = i.1 (word_of g rest) in cc)
   kept_next t rest (kept ∷ qs) h a (token, w, e, s) = (qs, refl, (let i = h g in let f = i.1 (word_of g rest) in let same : w ≡ word_of g rest = cc in rw same at s))
   kept_next t rest (start y ∷ qs) h a s = absurd a
@@ -78,7 +80,9 @@ module _ (g : PlainDtd) where
       record { within = let m = r.0 in omega arith; suits = let z = q.2 in rw here z; behind = rw here q.1 }
   after_node pieces next after false t rest l a h s n = rw n (record { within = l; suits = same_suits t rest (plain_pieces (drop next pieces)) h s; behind = refl })
 
-  merge_node : (b : Bool) (t new : Tree Mark) (rest : Forest Mark) (ps qs : List PlainPiece) (one es : List Event) (k : ℕ) → IsCompletedTree g t new one → HasToken b t → AwaitsNode ps → IsBehind b ps qs →
+  merge_node : (b : Bool) (t new : Tree Mark) (rest : Forest Mark) (ps qs : List PlainPiece)
+      (one es : List Event) (k : ℕ) → IsCompletedTree g t new one → HasToken b t → AwaitsNode ps →
+      IsBehind b ps qs →
       Merges g qs rest es k → Merges g ps (tree t rest) (one ++ es) (news one + k)
   merge_node true t new rest ps qs one es k c h a e d = let i = h g in rw e (merge_kept t new rest qs one es (one ++ es) i.0 (news one + k) k refl refl c i.1 d)
   merge_node false t new rest [] qs one es k c h a e d = merge_left t new rest one es (one ++ es) (news one + k) k refl refl c (rw e at d)
@@ -100,7 +104,9 @@ module _ (g : PlainDtd) (root path : List ℕ) (ps : List PlainPiece) (kids : Fo
 
   pub some_more : (b : Bool) (place next : ℕ) (t : Tree Mark) (rest : Forest Mark) (os qs rs : List PlainPiece) (middle a new : PlainWriting) → next ≡ place + 1 →
       WritesSome g root path place ps os kids (tree t rest) more vs old middle → WritesTags g os qs middle a →
-      (AreVerdicts g root (lists_at (path ++ place ∷ []) t ++ (lists_from path (suc place) rest ++ more)) (drop a.used vs) → WritesTree g root (path ++ place ∷ []) t (lists_from path (suc place) rest ++ more) vs a new) →
+      (AreVerdicts g root (lists_at (path ++ place ∷ []) t ++ (lists_from path (suc place) rest
+      ++ more)) (drop a.used vs) → WritesTree g root (path ++ place ∷ []) t (lists_from path
+      (suc place) rest ++ more) vs a new) →
       HasToken b t → IsBehind b qs rs → WritesSome g root path next ps rs kids rest more vs old new
   some_more b place next t rest os qs rs middle a new up s i f h e = rw next_is (record {
     events = s.events ++ (i.front.events ++ n.events);
@@ -108,7 +114,9 @@ module _ (g : PlainDtd) (root path : List ℕ) (ps : List PlainPiece) (kids : Fo
     lists = s.lists ++ lists_at (path ++ place ∷ []) t;
     are_lists = let q = s.are_lists in q ∙ sym (append_assoc s.lists (lists_at (path ++ place ∷ []) t) (lists_from path (suc place) rest));
     merges = λ es k d.
-        let whole : (s.events ++ (i.front.events ++ n.events)) ++ es ≡ s.events ++ (i.front.events ++ (n.events ++ es)) = append_assoc s.events (i.front.events ++ n.events) es ∙ ap (λ x. s.events ++ x) (append_assoc i.front.events n.events es) in
+        let whole : (s.events ++ (i.front.events ++ n.events)) ++ es ≡ s.events ++ (i.front.events
+        ++ (n.events ++ es)) = append_assoc s.events (i.front.events ++ n.events) es
+        ∙ ap (λ x. s.events ++ x) (append_assoc i.front.events n.events es) in
         let sum : (s.within + news n.events) + k ≡ s.within + (news n.events + k) = omega arith in
         let one : Merges g qs (tree t rest) (n.events ++ es) (news n.events + k) = merge_node g b t n.completed rest qs rs n.events es k n.is_completed h i.awaits e d in
         let all : Merges g ps kids (s.events ++ (i.front.events ++ (n.events ++ es))) (s.within + (news n.events + k)) =
@@ -171,7 +179,9 @@ module _ (g : PlainDtd) where
     suits = λ w s. q.suits w (p.suits w s);
   }
 
-  pub front_start : (y : ℕ) (name : List ℕ) (qs : List PlainPiece) (old new : PlainWriting) → name ≡ spelling_of g y → Appends old new (new_start name ∷ []) → new.used ≡ old.used → WritesFront g (start y ∷ qs) qs old new
+  pub front_start : (y : ℕ) (name : List ℕ) (qs : List PlainPiece) (old new : PlainWriting) →
+      name ≡ spelling_of g y → Appends old new (new_start name ∷ []) → new.used ≡ old.used →
+      WritesFront g (start y ∷ qs) qs old new
   front_start y name qs old new e a u = record {
     events = new_start name ∷ [];
     merges = λ kids es k d. merge_start y k kids qs es (new_start name ∷ es) (rw e refl) d;
@@ -180,7 +190,9 @@ module _ (g : PlainDtd) where
     suits = λ w s. s.1;
   }
 
-  pub front_finish : (y : ℕ) (name : List ℕ) (qs : List PlainPiece) (old new : PlainWriting) → name ≡ spelling_of g y → Appends old new (new_end name ∷ []) → new.used ≡ old.used → WritesFront g (finish y ∷ qs) qs old new
+  pub front_finish : (y : ℕ) (name : List ℕ) (qs : List PlainPiece) (old new : PlainWriting) →
+      name ≡ spelling_of g y → Appends old new (new_end name ∷ []) → new.used ≡ old.used →
+      WritesFront g (finish y ∷ qs) qs old new
   front_finish y name qs old new e a u = record {
     events = new_end name ∷ [];
     merges = λ kids es k d. merge_finish y k kids qs es (new_end name ∷ es) (rw e refl) d;

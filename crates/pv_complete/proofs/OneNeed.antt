@@ -19,7 +19,10 @@ use Rattle.pv_complete.specs.declared.errors.NeedError.TheVariants.{Impossible, 
 
 -- where all lists are so, there is none that isn't
 none_not : {M : Type 0} (P : Listed M → Type 0) (lists : List (Listed M)) (path : List ℕ) → AllByRecursion P lists → IsFirstNot P lists path → ⊥
-none_not P lists path all f = f.is_not (let s : AllByRecursion P (f.before ++ f.list ∷ f.after) = (let e = f.is_split in subst (AllByRecursion P) e all) in let r = all_right P f.before (f.list ∷ f.after) s in r.0)
+none_not P lists path all f =
+    f.is_not (let s : AllByRecursion P (f.before
+    ++ f.list ∷ f.after) = (let e = f.is_split in subst (AllByRecursion P) e all) in let r =
+    all_right P f.before (f.list ∷ f.after) s in r.0)
 
 module _ (M : Type 0) (g : PlainDtd) (root : List ℕ) (doc : PlainDoc M) (proper : IsProperDtd g) (proper_doc : IsProperDoc doc) (by_lists : IsPotentiallyValidByLists M) where
   same_number : (m n : ℕ) → Needs g root doc m → Needs g root doc n → m ≡ n

@@ -150,7 +150,9 @@ module _ (g : PlainDtd) (w : List PlainToken) (t : Goal → ℕ) (are : AreWeigh
             (p : PlainPart) × (r : ℕ) × IsMemberAt p r (suc q) ps × (t (over (part_site q) i j) ≡ t (over (part_site r) i j))
         part_choice_weight ps e = choice_case ps part_o.cost part_o.sides part_o.weight (part_rules (Some (choice ps)) e)
 
-        opt_case : (p : PlainPart) (c : ℕ) (xs : List Goal) → i < j → t (over (part_site q) i j) ≡ c + sum_of t xs → OfPart g w i j c xs q (Some (opt p)) → t (over (part_site q) i j) ≡ t (over (part_site (suc q)) i j)
+        opt_case : (p : PlainPart) (c : ℕ) (xs : List Goal) → i < j → t (over (part_site q) i j)
+            ≡ c + sum_of t xs → OfPart g w i j c xs q (Some (opt p)) → t (over (part_site q) i j)
+            ≡ t (over (part_site (suc q)) i j)
         opt_case p c xs lt weight (inl (z, n, m, h)) = absurd (omega arith)
         opt_case p c xs lt weight (inr (s, z, h)) = let v = rw h at weight in omega arith
 
@@ -174,7 +176,9 @@ module _ (g : PlainDtd) (w : List PlainToken) (t : Goal → ℕ) (are : AreWeigh
             ((k : ℕ) → suc i ≤ k → k < suc j → t (over (part_site q) i j) ≢ t (over (part_site (suc q)) i k) + t (over (part_site q) k j)) → ⊥
         part_star_cut p e lt none = star_case p part_o.cost part_o.sides lt part_o.weight (part_rules (Some (star p)) e) none
 
-        plus_case : (p : PlainPart) (c : ℕ) (xs : List Goal) → t (over (part_site q) i j) ≡ c + sum_of t xs → OfPart g w i j c xs q (Some (plus p)) → (t (over (part_site q) i j) ≢ t (over (part_site (suc q)) i j)) →
+        plus_case : (p : PlainPart) (c : ℕ) (xs : List Goal) → t (over (part_site q) i j)
+            ≡ c + sum_of t xs → OfPart g w i j c xs q (Some (plus p)) →
+            (t (over (part_site q) i j) ≢ t (over (part_site (suc q)) i j)) →
             ((k : ℕ) → suc i ≤ k → k < j → t (over (part_site q) i j) ≢ t (over (part_site (suc q)) i k) + t (over (part_site q) k j)) → ⊥
         plus_case p c xs weight (inl (s, z, h)) one none = one (let v = rw h at weight in omega arith)
         plus_case p c xs weight (inr (k, l, lt, (le, n, z, h))) one none = none k (omega arith) lt (let v = rw h at weight in omega arith)

@@ -33,7 +33,9 @@ use Rattle.pv_complete.proofs.Optimal.{rest_cut as by_rest_cut}
 use Rattle.pv_complete.proofs.Optimal.{rest_last_weight as by_rest_last_weight}
 use Rattle.pv_complete.proofs.Optimal.{rest_stands as by_rest_stands}
 
-module _ (g : PlainDtd) (w : List PlainToken) (t : Goal → ℕ) (are : ∥ AreWeightsBy g w t ∥₁) (known : IsTrue (are_known g)) (some_names : declared g ≤ length g.names) (i j : ℕ) (span : IsSpan w i j) where
+module _ (g : PlainDtd) (w : List PlainToken) (t : Goal → ℕ) (are : ∥ AreWeightsBy g w t ∥₁)
+    (known : IsTrue (are_known g)) (some_names : declared g ≤ length g.names) (i j : ℕ)
+    (span : IsSpan w i j) where
   same : (a b : ℕ) → (AreWeightsBy g w t → a ≡ b) → a ≡ b
   same a b f = ∥∥₁_elim are (Coded-set coded_ℕ a b) f
 
@@ -53,18 +55,27 @@ module _ (g : PlainDtd) (w : List PlainToken) (t : Goal → ℕ) (are : ∥ AreW
   pub content_empty : (x : ℕ) → HasSite g (content_site x) → t (over (content_site x) i j) < heaviest → model_of g x ≡ Some empty → i ≡ j
   content_empty x has few e = same _ _ (λ a. by_content_empty g w t a known some_names i j span x has few e)
 
-  pub content_children : (x : ℕ) → HasSite g (content_site x) → t (over (content_site x) i j) < heaviest → (p : PlainPart) → model_of g x ≡ Some (children p) → t (over (content_site x) i j) ≡ t (over (part_site (first_part g x)) i j)
+  pub content_children : (x : ℕ) → HasSite g (content_site x) → t (over (content_site x) i j)
+      < heaviest → (p : PlainPart) → model_of g x ≡ Some (children p) →
+      t (over (content_site x) i j) ≡ t (over (part_site (first_part g x)) i j)
   content_children x has few p e = same _ _ (λ a. by_content_children g w t a known some_names i j span x has few p e)
 
-  pub content_mixed : (x : ℕ) → HasSite g (content_site x) → t (over (content_site x) i j) < heaviest → (ys : List ℕ) → model_of g x ≡ Some (mixed ys) → i < j → ((slice_get w i ≡ Some text) × (t (over (content_site x) i j) ≡ t (over (content_site x) (suc i) j)) → ⊥) →
+  pub content_mixed : (x : ℕ) → HasSite g (content_site x) → t (over (content_site x) i j)
+      < heaviest → (ys : List ℕ) → model_of g x ≡ Some (mixed ys) → i < j →
+      ((slice_get w i ≡ Some text) × (t (over (content_site x) i j)
+      ≡ t (over (content_site x) (suc i) j)) → ⊥) →
       IsNoItem t part_site (first_part g x) (first_part g x + length ys) x i j (t (over (content_site x) i j)) → ⊥
   content_mixed x has few ys e lt not other = none (λ a. by_content_mixed g w t a known some_names i j span x has few ys e lt not other)
 
-  pub content_any : (x : ℕ) → HasSite g (content_site x) → t (over (content_site x) i j) < heaviest → model_of g x ≡ Some any → i < j → ((slice_get w i ≡ Some text) × (t (over (content_site x) i j) ≡ t (over (content_site x) (suc i) j)) → ⊥) →
+  pub content_any : (x : ℕ) → HasSite g (content_site x) → t (over (content_site x) i j)
+      < heaviest → model_of g x ≡ Some any → i < j → ((slice_get w i ≡ Some text)
+      × (t (over (content_site x) i j) ≡ t (over (content_site x) (suc i) j)) → ⊥) →
       IsNoItem t name_site 0 (declared g) x i j (t (over (content_site x) i j)) → ⊥
   content_any x has few e lt not other = none (λ a. by_content_any g w t a known some_names i j span x has few e lt not other)
 
-  pub content_nothing : (x : ℕ) → HasSite g (content_site x) → t (over (content_site x) i j) < heaviest → (model_of g x ≡ Some empty) ⊎ (model_of g x ≡ Some any) ⊎ ((ys : List ℕ) × (model_of g x ≡ Some (mixed ys))) → i ≡ j → t (over (content_site x) i j) ≡ 0
+  pub content_nothing : (x : ℕ) → HasSite g (content_site x) → t (over (content_site x) i j)
+      < heaviest → (model_of g x ≡ Some empty) ⊎ (model_of g x ≡ Some any) ⊎ ((ys : List ℕ)
+      × (model_of g x ≡ Some (mixed ys))) → i ≡ j → t (over (content_site x) i j) ≡ 0
   content_nothing x has few m e = same _ _ (λ a. by_content_nothing g w t a known some_names i j span x has few m e)
 
   pub part_stands : (q : ℕ) → HasSite g (part_site q) → t (over (part_site q) i j) < heaviest → part_at g q ≡ None → ⊥
@@ -73,10 +84,14 @@ module _ (g : PlainDtd) (w : List PlainToken) (t : Goal → ℕ) (are : ∥ AreW
   pub part_name_weight : (q : ℕ) → HasSite g (part_site q) → t (over (part_site q) i j) < heaviest → (y : ℕ) → part_at g q ≡ Some (name y) → t (over (part_site q) i j) ≡ t (over (name_site y) i j)
   part_name_weight q has few y e = same _ _ (λ a. by_part_name_weight g w t a known some_names i j span q has few y e)
 
-  pub part_seq_weight : (q : ℕ) → HasSite g (part_site q) → t (over (part_site q) i j) < heaviest → (p : PlainPart) (ps : PlainParts) → part_at g q ≡ Some (seq (part p ps)) → t (over (part_site q) i j) ≡ t (over (rest_site (suc q)) i j)
+  pub part_seq_weight : (q : ℕ) → HasSite g (part_site q) → t (over (part_site q) i j) < heaviest →
+      (p : PlainPart) (ps : PlainParts) → part_at g q ≡ Some (seq (part p ps)) →
+      t (over (part_site q) i j) ≡ t (over (rest_site (suc q)) i j)
   part_seq_weight q has few p ps e = same _ _ (λ a. by_part_seq_weight g w t a known some_names i j span q has few p ps e)
 
-  pub part_opt_weight : (q : ℕ) → HasSite g (part_site q) → t (over (part_site q) i j) < heaviest → (p : PlainPart) → part_at g q ≡ Some (opt p) → i < j → t (over (part_site q) i j) ≡ t (over (part_site (suc q)) i j)
+  pub part_opt_weight : (q : ℕ) → HasSite g (part_site q) → t (over (part_site q) i j) < heaviest →
+      (p : PlainPart) → part_at g q ≡ Some (opt p) → i < j → t (over (part_site q) i j)
+      ≡ t (over (part_site (suc q)) i j)
   part_opt_weight q has few p e lt = same _ _ (λ a. by_part_opt_weight g w t a known some_names i j span q has few p e lt)
 
   pub part_opt_nothing : (q : ℕ) → HasSite g (part_site q) → t (over (part_site q) i j) < heaviest → (p : PlainPart) → part_at g q ≡ Some (opt p) → i ≡ j → t (over (part_site q) i j) ≡ 0
@@ -89,14 +104,18 @@ module _ (g : PlainDtd) (w : List PlainToken) (t : Goal → ℕ) (are : ∥ AreW
       ((k : ℕ) → suc i ≤ k → k < suc j → t (over (part_site q) i j) ≢ t (over (part_site (suc q)) i k) + t (over (part_site q) k j)) → ⊥
   part_star_cut q has few p e lt other = none (λ a. by_part_star_cut g w t a known some_names i j span q has few p e lt other)
 
-  pub part_plus_cut : (q : ℕ) → HasSite g (part_site q) → t (over (part_site q) i j) < heaviest → (p : PlainPart) → part_at g q ≡ Some (plus p) → (t (over (part_site q) i j) ≢ t (over (part_site (suc q)) i j)) →
+  pub part_plus_cut : (q : ℕ) → HasSite g (part_site q) → t (over (part_site q) i j) < heaviest →
+      (p : PlainPart) → part_at g q ≡ Some (plus p) →
+      (t (over (part_site q) i j) ≢ t (over (part_site (suc q)) i j)) →
       ((k : ℕ) → suc i ≤ k → k < j → t (over (part_site q) i j) ≢ t (over (part_site (suc q)) i k) + t (over (part_site q) k j)) → ⊥
   part_plus_cut q has few p e one other = none (λ a. by_part_plus_cut g w t a known some_names i j span q has few p e one other)
 
   pub rest_stands : (q : ℕ) → HasSite g (rest_site q) → t (over (rest_site q) i j) < heaviest → (r : Option PlainParts) → rest_at g q ≡ r → IsNoRest r → ⊥
   rest_stands q has few r e n = none (λ a. by_rest_stands g w t a known some_names i j span q has few r e n)
 
-  pub rest_last_weight : (q : ℕ) → HasSite g (rest_site q) → t (over (rest_site q) i j) < heaviest → (p : PlainPart) → rest_at g q ≡ Some (part p no_parts) → t (over (rest_site q) i j) ≡ t (over (part_site q) i j)
+  pub rest_last_weight : (q : ℕ) → HasSite g (rest_site q) → t (over (rest_site q) i j) < heaviest →
+      (p : PlainPart) → rest_at g q ≡ Some (part p no_parts) → t (over (rest_site q) i j)
+      ≡ t (over (part_site q) i j)
   rest_last_weight q has few p e = same _ _ (λ a. by_rest_last_weight g w t a known some_names i j span q has few p e)
 
   pub rest_cut : (q : ℕ) → HasSite g (rest_site q) → t (over (rest_site q) i j) < heaviest → (p r : PlainPart) (ps : PlainParts) → rest_at g q ≡ Some (part p (part r ps)) →

@@ -3,7 +3,7 @@ use Rattle.std.specs.Prelude.{option_map}
 use Rattle.std.proofs.Common.{List, None, Option, Some, refl, subst, ℕ, ◌≡◌}
 use Rattle.std.proofs.lemmas.Option.{slice_get_within}
 use Rattle.pv_dtd.specs.Plain.{PlainDtd, number_of}
-use Rattle.pv_dtd.proofs.Naming.{get-place}
+use Rattle.pv_dtd.proofs.NameSequences.{get-place}
 use Rattle.pv_rules.specs.Sites.{HasSite, PlainSite, content_site, name_site}
 use Rattle.pv_tree.specs.Lists.{Owner, an_element, the_document}
 use Rattle.pv_missing.specs.Weighing.{site_of}

@@ -79,14 +79,18 @@ module _ (g : PlainDtd) (w : List PlainToken) (t : Goal → ℕ) where
   }
 
   module _ (works : List Work) (s : Site) (i j : ℕ) where
-    one_nearer : (x : Work) → (CanSpell g w t (goal_work s i j) → CanSpell g w t x × (distance g w t x < distance g w t (goal_work s i j))) → IsNearer g w t (works ++ goal_work s i j ∷ []) (works ++ x ∷ [])
+    one_nearer : (x : Work) → (CanSpell g w t (goal_work s i j) → CanSpell g w t x
+        × (distance g w t x < distance g w t (goal_work s i j))) →
+        IsNearer g w t (works ++ goal_work s i j ∷ []) (works ++ x ∷ [])
     one_nearer x f = record {
       ready = λ a. let q = ready_left works (goal_work s i j) a in ready_join works x q.0 (f q.1).0;
       less = λ a. let q = ready_left works (goal_work s i j) a in let p = one_power (distance g w t x) (distance g w t (goal_work s i j)) (f q.1).1 in
           let e = left_join works x in let h = left_join works (goal_work s i j) in omega arith;
     }
 
-    two_nearer : (x y : Work) → (CanSpell g w t (goal_work s i j) → CanSpell g w t x × CanSpell g w t y × (distance g w t x < distance g w t (goal_work s i j)) × (distance g w t y < distance g w t (goal_work s i j))) →
+    two_nearer : (x y : Work) → (CanSpell g w t (goal_work s i j) → CanSpell g w t x
+        × CanSpell g w t y × (distance g w t x < distance g w t (goal_work s i j))
+        × (distance g w t y < distance g w t (goal_work s i j))) →
         IsNearer g w t (works ++ goal_work s i j ∷ []) ((works ++ x ∷ []) ++ y ∷ [])
     two_nearer x y f = record {
       ready = λ a. let q = ready_left works (goal_work s i j) a in let k = f q.1 in ready_join (works ++ x ∷ []) y (ready_join works x q.0 k.0) k.1;
@@ -98,24 +102,32 @@ module _ (g : PlainDtd) (w : List PlainToken) (t : Goal → ℕ) where
     pub nearer_one : (r : Site) → IsMove g w t (plain_site s) i j (move.One r) → IsNearer g w t (works ++ goal_work s i j ∷ []) (works ++ goal_work r i j ∷ [])
     nearer_one r (m, has, lt, e) = one_nearer (goal_work r i j) (λ a. (
       (has, a.1, (let z = a.2 in omega arith)),
-      (let d = near (4 + 2 * parts_in_models g.models) (suc (length w)) (t (over (plain_site r) i j)) (t (over (plain_site s) i j)) (j - i) (j - i) (site_rank g (plain_site r)) (site_rank g (plain_site s))
+      (let d = near (4 + 2 * parts_in_models g.models) (suc (length w))
+          (t (over (plain_site r) i j)) (t (over (plain_site s) i j)) (j - i) (j - i)
+          (site_rank g (plain_site r)) (site_rank g (plain_site s))
           (omega arith) (omega arith) (low_rank (plain_site r)) (inr lt) in omega arith),
     ))
 
     pub nearer_text : (n : ℕ) → n ≡ suc i → IsMove g w t (plain_site s) i j move.Text → IsNearer g w t (works ++ goal_work s i j ∷ []) (works ++ goal_work s n j ∷ [])
     nearer_text n next (x, is, holds, lt, f, e) = rw next (one_nearer (goal_work s (suc i) j) (λ a. (
       (a.0, (let q = a.1 in (omega arith, q.1)), (let z = a.2 in omega arith)),
-      (let d = near (4 + 2 * parts_in_models g.models) (suc (length w)) (t (over (plain_site s) (suc i) j)) (t (over (plain_site s) i j)) (j - suc i) (j - i) (site_rank g (plain_site s)) (site_rank g (plain_site s))
+      (let d = near (4 + 2 * parts_in_models g.models) (suc (length w))
+          (t (over (plain_site s) (suc i) j)) (t (over (plain_site s) i j)) (j - suc i) (j - i)
+          (site_rank g (plain_site s)) (site_rank g (plain_site s))
           (omega arith) (omega arith) (low_rank (plain_site s)) (inl (omega arith)) in omega arith),
     )))
 
-    pub nearer_new : (id : NameId) → IsMove g w t (plain_site s) i j (move.New id) → IsNearer g w t (works ++ goal_work s i j ∷ []) ((works ++ work.End id ∷ []) ++ goal_work (site.Content id) i j ∷ [])
+    pub nearer_new : (id : NameId) → IsMove g w t (plain_site s) i j (move.New id) →
+        IsNearer g w t (works ++ goal_work s i j ∷ []) ((works ++ work.End id ∷ [])
+        ++ goal_work (site.Content id) i j ∷ [])
     nearer_new id (is, has, e) = two_nearer (work.End id) (goal_work (site.Content id) i j) (λ a. (
       tt,
       (has, a.1, (let z = a.2 in omega arith)),
       omega arith,
       (let q = a.1 in let l = q.0 in let n = q.1 in
-          let d = lighter (4 + 2 * parts_in_models g.models) (suc (length w)) (t (over (content_site id.0) i j)) (t (over (plain_site s) i j)) (j - i) (j - i) (site_rank g (content_site id.0)) (site_rank g (plain_site s))
+          let d = lighter (4 + 2 * parts_in_models g.models) (suc (length w))
+          (t (over (content_site id.0) i j)) (t (over (plain_site s) i j)) (j - i) (j - i)
+          (site_rank g (content_site id.0)) (site_rank g (plain_site s))
           (omega arith) (omega arith) (low_rank (content_site id.0)) in omega arith),
     ))
 
@@ -124,9 +136,13 @@ module _ (g : PlainDtd) (w : List PlainToken) (t : Goal → ℕ) where
         let span = a.1 in let few = a.2 in let within = span.1 in (
           (hq, (lt, within), omega arith),
           (hr, (le, omega arith), omega arith),
-          (let d = near (4 + 2 * parts_in_models g.models) (suc (length w)) (t (over (plain_site q) k j)) (t (over (plain_site s) i j)) (j - k) (j - i) (site_rank g (plain_site q)) (site_rank g (plain_site s))
+          (let d = near (4 + 2 * parts_in_models g.models) (suc (length w))
+              (t (over (plain_site q) k j)) (t (over (plain_site s) i j)) (j - k) (j - i)
+              (site_rank g (plain_site q)) (site_rank g (plain_site s))
               (omega arith) (omega arith) (low_rank (plain_site q)) (shorter less) in omega arith),
-          (let d = near (4 + 2 * parts_in_models g.models) (suc (length w)) (t (over (plain_site r) i k)) (t (over (plain_site s) i j)) (k - i) (j - i) (site_rank g (plain_site r)) (site_rank g (plain_site s))
+          (let d = near (4 + 2 * parts_in_models g.models) (suc (length w))
+              (t (over (plain_site r) i k)) (t (over (plain_site s) i j)) (k - i) (j - i)
+              (site_rank g (plain_site r)) (site_rank g (plain_site s))
               (omega arith) (omega arith) (low_rank (plain_site r)) (inr low) in omega arith),
         ))
       where

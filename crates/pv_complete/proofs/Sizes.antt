@@ -7,7 +7,7 @@ use Rattle.std.proofs.lemmas.List.{length-append}
 use Rattle.pv_dtd.specs.Facts.{MAX_NAME_BYTES, is_short_name}
 use Rattle.pv_dtd.specs.Hedge.{AreGood, Hedge, done, elements}
 use Rattle.pv_dtd.specs.Plain.{PlainDtd, number_of}
-use Rattle.pv_dtd.proofs.Naming.{get-place}
+use Rattle.pv_dtd.proofs.NameSequences.{get-place}
 use Rattle.pv_tree.specs.Legal.{are_formed, fits_kids, is_formed}
 use Rattle.pv_tree.specs.Plain.{Ending, Forest, Tree, cdata_node, element, misc_node, no_trees, short, tagged, text_node, tree}
 use Rattle.pv_tree.specs.View.{spread, view_all, view_before}
@@ -19,14 +19,18 @@ use Rattle.pv_complete.proofs.FewMarks.{elements_spread}
 -- ---- names
 short_at : (names : List (List ℕ)) (x : List ℕ) (y : ℕ) → IsTrue (list_all is_short_name names) → slice_get names y ≡ Some x → length x ≤ MAX_NAME_BYTES
 short_at [] x y s e = absurd cc
-short_at (n ∷ ns) x zero s e = let p = (and_parts (is_short_name n) (list_all is_short_name ns) s).0 in let f : n ≡ x = cc in let q : length n ≤ MAX_NAME_BYTES = leb-true (length n) MAX_NAME_BYTES p in subst (λ z. length z ≤ MAX_NAME_BYTES) f q
+short_at (n ∷ ns) x zero s e = let p = (and_parts (is_short_name n) (list_all is_short_name ns) s).0
+    in let f : n ≡ x = cc in let q : length n ≤ MAX_NAME_BYTES = leb-true (length n) MAX_NAME_BYTES
+    p in subst (λ z. length z ≤ MAX_NAME_BYTES) f q
 short_at (n ∷ ns) x (suc y) s e = short_at ns x y (and_parts (is_short_name n) (list_all is_short_name ns) s).1 e
 
 short_name : (g : PlainDtd) (x : List ℕ) (y : ℕ) → HasShortNames g → number_of g x ≡ Some y → length x ≤ MAX_NAME_BYTES
 short_name g x y s e = short_at g.names x y s (get-place g.names x y e)
 
 -- ---- the bytes of an element
-tagged_size : {M : Type 0} (x attrs gap : List ℕ) (k : Forest M) (m : M) → length (tree_text (element x attrs (tagged gap) k m)) ≡ length x + length x + length attrs + length gap + length (forest_text k) + 5
+tagged_size : {M : Type 0} (x attrs gap : List ℕ) (k : Forest M) (m : M) →
+    length (tree_text (element x attrs (tagged gap) k m)) ≡ length x + length x + length attrs
+    + length gap + length (forest_text k) + 5
 tagged_size x attrs gap k m =
     omega (
       arith,
@@ -101,7 +105,16 @@ module _ {M : Type 0} (g : PlainDtd) (names : HasShortNames g) where
       let p = beside_formed k a (subst (λ z. IsTrue (are_formed z)) is formed) in
       let own = sizes k l within p.0 inside in
       let next = sizes a b behind p.1 after in
-      rw is (omega (arith, beside_text k a, beside_elements k a, length-append (tree_text (element x [] (tagged []) l m)) (forest_text b), tagged_size x [] [] l m, short_name g x y names number, own, next))
+      rw is (omega (
+        arith,
+        beside_text k a,
+        beside_elements k a,
+        length-append (tree_text (element x [] (tagged []) l m)) (forest_text b),
+        tagged_size x [] [] l m,
+        short_name g x y names number,
+        own,
+        next,
+      ))
 
 -- of one tree that becomes one
 pub tree_sizes : {M : Type 0} (g : PlainDtd) → HasShortNames g → (t u : Tree M) → Grows (tree t no_trees) (tree u no_trees) → IsTrue (is_formed t) → AreGood g (view_all (tree u no_trees)) →

@@ -10,14 +10,16 @@ use Rattle.pv_rules.specs.Numbering.{IsMemberAt, here, later, part_at, rest_at}
 use Rattle.pv_rules.specs.Rules.{over}
 use Rattle.pv_rules.specs.Sites.{PlainSite, content_site, name_site, part_site, rest_site}
 use Rattle.pv_rules.proofs.Facts.{parts_by_number}
-use Rattle.pv_missing.proofs.Derived.{map_join}
-use Rattle.pv_missing.proofs.Standing.{Stands, cut_at, front_text, nothing, one_token}
+use Rattle.pv_missing.proofs.CoverWeights.{map_join}
+use Rattle.pv_missing.proofs.SpanContents.{Stands, cut_at, front_text, nothing, one_token}
 use Rattle.pv_complete.specs.Laws.{SpelledWrites}
 use Rattle.pv_missing.specs.PlainForms.{plain_of}
 use Rattle.pv_missing.specs.declared.owners.Of.{Of}
 use Rattle.pv_missing.specs.declared.owners.Of.TheVariants as of
 use Rattle.pv_complete.specs.Pieces.{PlainPiece, Writes, WritesAt, WritesContent, finish, kept, start, write_kept, write_new, write_none, write_text}
-use Rattle.pv_complete.specs.Spelling.{HoldsData, MayBeNothing, MayBeOne, MayBeTwo, SpellsSpan, any_two, children_one, choice_one, data_nothing, empty_nothing, last_one, mixed_two, name_one, opt_nothing, opt_one, plus_one, plus_two, rest_two, seq_one, spell_kept, spell_new, spell_none, spell_one, spell_text, spell_two, star_nothing, star_two}
+use Rattle.pv_complete.specs.Spelling.{HoldsData, MayBeNothing, MayBeOne, MayBeTwo, SpellsSpan, any_two, children_one, choice_one, data_nothing}
+use Rattle.pv_complete.specs.Spelling.{empty_nothing, last_one, mixed_two, name_one, opt_nothing, opt_one, plus_one, plus_two, rest_two, seq_one}
+use Rattle.pv_complete.specs.Spelling.{spell_kept, spell_new, spell_none, spell_one, spell_text, spell_two, star_nothing, star_two}
 
 module _ (g : PlainDtd) where
   -- pieces for one word and then those for the next
@@ -81,7 +83,9 @@ module _ (g : PlainDtd) where
     writes = rw (j, k) (writes-join n a b u0 p.whole v0 v ps qs e c p.writes);
   }
 
-  front_mixed : (x n a b : ℕ) (ys : List ℕ) (w u0 v0 v : List PlainToken) (ps qs rs : List PlainPiece) → model_of g x ≡ Some (mixed ys) → n ≡ a + b → w ≡ v0 ++ v → rs ≡ ps ++ qs → Writes g a u0 v0 ps →
+  front_mixed : (x n a b : ℕ) (ys : List ℕ) (w u0 v0 v : List PlainToken)
+      (ps qs rs : List PlainPiece) → model_of g x ≡ Some (mixed ys) → n ≡ a + b → w ≡ v0 ++ v →
+      rs ≡ ps ++ qs → Writes g a u0 v0 ps →
       AllByRecursion (IsOfMixed ys) u0 → WritesContent g x b v qs → WritesContent g x n w rs
   front_mixed x n a b ys w u0 v0 v ps qs rs is e j k c ok p = record {
     model = mixed ys;
@@ -133,7 +137,9 @@ module _ (g : PlainDtd) where
   listed : (ys : List ℕ) (e : ℕ) → e < length ys → (y : ℕ) × (slice_get ys e ≡ Some y) × Contains ys y
   listed ys e l = let f = slice_get-get_or ys e 0 l in (get_or ys e 0, f, (e, l, let h = slice_get-get_or ys e (get_or ys e 0) l in cc))
 
-  two_there : (n a b : ℕ) (s r q : PlainSite) (u v w : List PlainToken) (ps qs rs : List PlainPiece) → n ≡ a + b → w ≡ u ++ v → rs ≡ ps ++ qs → MayBeTwo g s r q → WritesSite a r u ps → WritesSite b q v qs → WritesSite n s w rs
+  two_there : (n a b : ℕ) (s r q : PlainSite) (u v w : List PlainToken)
+      (ps qs rs : List PlainPiece) → n ≡ a + b → w ≡ u ++ v → rs ≡ ps ++ qs → MayBeTwo g s r q →
+      WritesSite a r u ps → WritesSite b q v qs → WritesSite n s w rs
   two_there n a b s r q u v w ps qs rs z j k (mixed_two x e ys m l) h i =
       let y = listed ys e l in
       front_mixed x n a b ys w (named y.0 ∷ []) u v ps qs rs m z j k (one_name a y.0 u ps (h (name y.0) ((parts_by_number g).listed x e y.0 ys m y.1))) (y.2, tt) i

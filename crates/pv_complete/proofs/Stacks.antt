@@ -108,7 +108,9 @@ module _ (g : PlainDtd) (w : List PlainToken) (t : Goal → ℕ) where
           let a = o.is_join in let b = u.is_join in
               let c : ps ≡ (o.first ++ u.first) ++ u.others = a ∙ ap (λ x. o.first ++ x) b ∙ sym (append_assoc o.first u.first u.others) in
               rw c (on_top works (goal_work s i j) (o.first ++ u.first) u.others
-              (spell_two (t (over (plain_site s) i j)) (t (over (plain_site r) i k)) (t (over (plain_site q) k j)) i k j (plain_site s) (plain_site r) (plain_site q) o.first u.first (o.first ++ u.first) z refl le lt m o.wants u.wants) u.below),
+              (spell_two (t (over (plain_site s) i j)) (t (over (plain_site r) i k))
+              (t (over (plain_site q) k j)) i k j (plain_site s) (plain_site r) (plain_site q)
+              o.first u.first (o.first ++ u.first) z refl le lt m o.wants u.wants) u.below),
         )
 
     pub goes_new : (id : NameId) (after : List PlainPiece) → after ≡ before ++ start id.0 ∷ [] → IsMove g w t (plain_site s) i j (move.New id) →

@@ -7,7 +7,7 @@ use Rattle.pv_rules.specs.Derivations.{IsWeight}
 use Rattle.pv_rules.specs.PlainForms.{plain_site}
 use Rattle.pv_rules.specs.Rules.{Goal, Rule, over}
 use Rattle.pv_rules.specs.Sites.{PlainSite, content_site, name_site, part_site, rest_site}
-use Rattle.pv_rules.proofs.Derived.{one_weight}
+use Rattle.pv_rules.proofs.DerivationLaws.{one_weight}
 use Rattle.pv_span.specs.Weights.{AreWeights, tokens_of, weight_of}
 use Rattle.pv_tables.specs.declared.tables.Entry.{Entry}
 use Rattle.pv_span.specs.declared.weighing.Spans.{Spans}
@@ -39,7 +39,9 @@ module _ (g : PlainDtd) (w : List PlainToken) (spans : Spans) (are : AreWeights 
     is_site = i.is_site;
     begins = i.is_span.0;
     ends = let n = are.long (plain_site e.site) i.is_site in let d = i.is_span.1 in omega arith;
-    weighs = one_weight Goal (Rule g w) (over (plain_site e.site) e.from e.to) e.value (weight_of spans (over (plain_site e.site) e.from e.to)) i.weighs (are.weights (plain_site e.site) e.from e.to i.is_site i.is_span);
+    weighs = one_weight Goal (Rule g w) (over (plain_site e.site) e.from e.to) e.value
+        (weight_of spans (over (plain_site e.site) e.from e.to)) i.weighs
+        (are.weights (plain_site e.site) e.from e.to i.is_site i.is_span);
     light = i.light;
   }
 

@@ -16,8 +16,8 @@ use Rattle.pv_complete.specs.Pieces.{PlainPiece, Writes, WritesAt, WritesContent
 use Rattle.pv_complete.specs.Writable.{HasNames}
 use Rattle.pv_complete.specs.Growing.{gap_of}
 use Rattle.pv_complete.specs.Written.{Appends, AreListPieces, Passes, PlainWriting, WritesList, WritesTree}
-use Rattle.pv_complete.proofs.Completed.{bare_completed, element_completed, leaf_completed, merged_completed}
-use Rattle.pv_complete.proofs.Merging.{events-join, marks-join, news-join, opens-join}
+use Rattle.pv_complete.proofs.CompletedTrees.{bare_completed, element_completed, leaf_completed, merged_completed}
+use Rattle.pv_complete.proofs.MergedPieces.{events-join, marks-join, news-join, opens-join}
 
 -- ---- events
 pub appends_none : (a : PlainWriting) → Appends a a []
@@ -41,12 +41,18 @@ appends_after a b c es e f h p = record {
 }
 
 -- the text and the marks of a whole document
-pub whole_text : (s a b c : PlainWriting) (before after : List ℕ) (es : List Event) → s.body ≡ [] → s.marks ≡ [] → s.begun ≡ 0 → Appends s a (old_bytes before ∷ []) → Appends a b es → Appends b c (old_bytes after ∷ []) →
+pub whole_text : (s a b c : PlainWriting) (before after : List ℕ) (es : List Event) → s.body ≡ [] →
+    s.marks ≡ [] → s.begun ≡ 0 → Appends s a (old_bytes before ∷ []) → Appends a b es →
+    Appends b c (old_bytes after ∷ []) →
     (c.marks ≡ marks_from 0 es) × (c.body ≡ before ++ events_text es ++ after)
 whole_text s a b c before after es no_body no_marks none p q r =
     let all = appends_join s a c (old_bytes before ∷ []) (es ++ old_bytes after ∷ []) p (appends_join a b c es (old_bytes after ∷ []) q r) in (
-      (let m = all.marks in m ∙ ap (λ x. x ++ marks_from s.begun (es ++ old_bytes after ∷ [])) no_marks ∙ ap (λ n. marks_from n (es ++ old_bytes after ∷ [])) none ∙ marks-join 0 es (old_bytes after ∷ []) ∙ append-nil (marks_from 0 es)),
-      (let t = all.body in t ∙ ap (λ x. x ++ (before ++ events_text (es ++ old_bytes after ∷ []))) no_body ∙ ap (λ x. before ++ x) (events-join es (old_bytes after ∷ []) ∙ ap (λ x. events_text es ++ x) (append-nil after))
+      (let m = all.marks in m ∙ ap (λ x. x ++ marks_from s.begun (es ++ old_bytes after ∷ []))
+          no_marks ∙ ap (λ n. marks_from n (es ++ old_bytes after ∷ [])) none
+          ∙ marks-join 0 es (old_bytes after ∷ []) ∙ append-nil (marks_from 0 es)),
+      (let t = all.body in t ∙ ap (λ x. x ++ (before ++ events_text (es ++ old_bytes after ∷ [])))
+          no_body ∙ ap (λ x. before ++ x) (events-join es (old_bytes after ∷ [])
+          ∙ ap (λ x. events_text es ++ x) (append-nil after))
           ∙ sym (append_assoc before (events_text es) after)),
     )
 
@@ -89,7 +95,8 @@ nothing_new g n u w ps e (write_text _ u2 w2 os c) = absurd cc
 nothing_new g n u w ps e (write_kept _ y u2 w2 os c) = absurd cc
 nothing_new g n u w ps e (write_new _ a b y m z u2 w1 w2 _ one two _ f j h is ok c1 c2) = absurd (let i = sym h ∙ e in cc)
 
-module _ (g : PlainDtd) (proper : IsProperDtd g) (names : HasNames g) (root path x attrs : List ℕ) (ending : Ending) (kids : Forest Mark) (mark : Mark) (more : List (Listed Mark)) (vs : List Verdict) where
+module _ (g : PlainDtd) (proper : IsProperDtd g) (names : HasNames g) (root path x attrs : List ℕ)
+    (ending : Ending) (kids : Forest Mark) (mark : Mark) (more : List (Listed Mark)) (vs : List Verdict) where
   abbrev here : Listed Mark
   here = record { path = path; owner = an_element x; kids = kids }
 
@@ -103,7 +110,9 @@ module _ (g : PlainDtd) (proper : IsProperDtd g) (names : HasNames g) (root path
   pub element_written : (old middle a b new : PlainWriting) (ps : List PlainPiece) →
       AreListPieces g root (record { path = path; owner = an_element x; kids = kids }) (lists_from path 0 kids ++ more) vs old.used middle.used ps →
       middle.body ≡ old.body → middle.marks ≡ old.marks → middle.begun ≡ old.begun → Appends middle a (old_start (codes "<" ++ x ++ attrs ++ codes ">") ∷ []) → a.used ≡ middle.used →
-      WritesList g root path ps kids more vs a b → (ending ≡ short → kids ≡ no_trees → ps ≡ [] → ⊥) → Appends b new (old_bytes (codes "</" ++ x ++ gap_of ending ++ codes ">") ∷ []) → new.used ≡ b.used →
+      WritesList g root path ps kids more vs a b → (ending ≡ short → kids ≡ no_trees → ps ≡ [] →
+      ⊥) → Appends b new (old_bytes (codes "</" ++ x ++ gap_of ending ++ codes ">") ∷ []) →
+      new.used ≡ b.used →
       WritesTree g root path (element x attrs ending kids mark) more vs old new
   element_written old middle a b new ps p same_body same_marks same_begun first used_first l bare last used_last =
       let live = p.live in

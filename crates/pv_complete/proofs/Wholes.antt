@@ -37,9 +37,9 @@ use Rattle.pv_complete.specs.Needing.{Needs}
 use Rattle.pv_complete.specs.Pieces.{Writes, WritesAt}
 use Rattle.pv_complete.specs.Writable.{AreElements, AreWritable, HasNames, KeepsWritable}
 use Rattle.pv_complete.specs.Written.{AreListPieces, Passes, WritesDoc}
-use Rattle.pv_complete.proofs.Completed.{merged_completed}
-use Rattle.pv_complete.proofs.Keeping.{keeps_none}
-use Rattle.pv_complete.proofs.Merging.{trees_and-none}
+use Rattle.pv_complete.proofs.CompletedTrees.{merged_completed}
+use Rattle.pv_complete.proofs.WritableTrees.{keeps_none}
+use Rattle.pv_complete.proofs.MergedPieces.{trees_and-none}
 use Rattle.pv_complete.proofs.Sizes.{tree_sizes}
 use Rattle.pv_complete.proofs.Walks.{passes_join}
 
@@ -64,7 +64,9 @@ mutual
 
   kids_lists : (g : PlainDtd) (root path : List ℕ) (i : ℕ) (kids : Forest Mark) → AreValidTrees g kids → AllByRecursion (IsValidList g root) (lists_from path i kids)
   kids_lists g root path i no_trees v = tt
-  kids_lists g root path i (tree t rest) v = all_joined (IsValidList g root) (lists_at (path ++ i ∷ []) t) (lists_from path (suc i) rest) (tree_lists g root (path ++ i ∷ []) t v.0) (kids_lists g root path (suc i) rest v.1)
+  kids_lists g root path i (tree t rest) v = all_joined (IsValidList g root) (lists_at (path
+      ++ i ∷ []) t) (lists_from path (suc i) rest) (tree_lists g root (path ++ i ∷ []) t v.0)
+      (kids_lists g root path (suc i) rest v.1)
 
 -- one element of a name
 record IsOne (g : PlainDtd) (y : ℕ) (new : Forest Mark) : Type 0 where
@@ -113,7 +115,9 @@ record IsCompletedRoot (g : PlainDtd) (root : List ℕ) (old : Tree Mark) (es : 
   pub grows : Grows (tree old no_trees) (tree new no_trees)
 
 -- a completed list of one element is that element
-root_of_list : (g : PlainDtd) (root : List ℕ) (y : ℕ) (old : Tree Mark) (before after : List ℕ) (mark : Mark) (new : Forest Mark) (es : List Event) (n k : ℕ) → number_of g root ≡ Some y → IsTrue (is_element old) →
+root_of_list : (g : PlainDtd) (root : List ℕ) (y : ℕ) (old : Tree Mark) (before after : List ℕ)
+    (mark : Mark) (new : Forest Mark) (es : List Event) (n k : ℕ) → number_of g root ≡ Some y →
+    IsTrue (is_element old) →
     AreWritable (tree old no_trees) → IsCompletedList g (tree old no_trees) new (named y ∷ []) es n k → IsCompletedRoot g root old es (n + k)
 root_of_list g root y old before after mark new es n k is rooted writable c = record {
   new = t;
@@ -148,7 +152,9 @@ root_of_list g root y old before after mark new es n k is rooted writable c = re
     same_name = one_name g o.name root y o.number is
 
 -- the text of a completed document, and how long it is where names are short
-completed_whole : (g : PlainDtd) (root : List ℕ) (doc : PlainDoc Mark) (es : List Event) (s count : ℕ) (marks body : List ℕ) → WritesEveryView → TagsExtend → IsProlog root doc.before → IsEpilog doc.after →
+completed_whole : (g : PlainDtd) (root : List ℕ) (doc : PlainDoc Mark) (es : List Event)
+    (s count : ℕ) (marks body : List ℕ) → WritesEveryView → TagsExtend → IsProlog root doc.before →
+    IsEpilog doc.after →
     Needs g root doc count → SumIsLeast g root s (view doc.root) → IsCompletedRoot g root doc.root es s → marks ≡ marks_from 0 es → body ≡ doc.before ++ events_text es ++ doc.after →
     IsLeastCompletion g root doc count marks body × (HasShortNames g → IsTrue (is_formed doc.root) → IsBounded doc count body)
 completed_whole g root doc es s count marks body written tags_extend prolog epilog needs sum c are_marks is_body = (least, bounded)
@@ -209,7 +215,16 @@ completed_whole g root doc es s count marks body written tags_extend prolog epil
     bounded names formed =
         let size = tree_sizes g names doc.root c.new c.grows formed good in
         subst (λ (b : List ℕ). IsBounded doc count b) same_text
-        (omega (arith, size, inserted, length-append (doc.before ++ tree_text c.new) doc.after, length-append doc.before (tree_text c.new), length-append (doc.before ++ tree_text doc.root) doc.after, length-append doc.before (tree_text doc.root)))
+        (omega (
+          arith,
+          size,
+          inserted,
+          length-append (doc.before ++ tree_text c.new) doc.after,
+          length-append doc.before (tree_text c.new),
+          length-append (doc.before
+              ++ tree_text doc.root) doc.after,
+          length-append doc.before (tree_text doc.root),
+        ))
 
 -- the lists of a document, as a walk goes over them
 pub whole_lists : (doc : PlainDoc Mark) → lists_of doc ≡ record { path = []; owner = the_document; kids = tree doc.root no_trees } ∷ (lists_from [] 0 (tree doc.root no_trees) ++ [])
@@ -218,7 +233,9 @@ whole_lists doc =
     ap (λ x. top ∷ x) (sym (append-nil (lists_at (0 ∷ []) doc.root)) ∙ sym (append-nil (lists_at (0 ∷ []) doc.root ++ [])))
 
 -- the root that a walk over a whole document has written
-walked_root : (g : PlainDtd) (root : List ℕ) (doc : PlainDoc Mark) (vs : List Verdict) (marks body : List ℕ) → IsProperDtd g → HasNames g → IsTrue (is_element doc.root) → AreWritable (tree doc.root no_trees) →
+walked_root : (g : PlainDtd) (root : List ℕ) (doc : PlainDoc Mark) (vs : List Verdict)
+    (marks body : List ℕ) → IsProperDtd g → HasNames g → IsTrue (is_element doc.root) →
+    AreWritable (tree doc.root no_trees) →
     (w : WritesDoc g root doc vs marks body) → (n : ℕ) × (n ≡ w.list_pieces.count) × IsCompletedRoot g root doc.root w.events (n + w.within)
 walked_root g root doc vs marks body proper names rooted writable w = (p.count, refl, completed)
   where
@@ -254,7 +271,9 @@ whole g root doc vs count marks body proper names written tags_extend adds_up pr
     sum = p.count + w.within
 
     joined : Passes g root (record { path = []; owner = the_document; kids = tree doc.root no_trees } ∷ lists_from [] 0 (tree doc.root no_trees)) [] vs 0 w.last sum
-    joined = passes_join g root vs (record { path = []; owner = the_document; kids = tree doc.root no_trees } ∷ []) (lists_from [] 0 (tree doc.root no_trees)) [] 0 w.used w.last p.count w.within p.passes w.passes
+    joined = passes_join g root vs
+        (record { path = []; owner = the_document; kids = tree doc.root no_trees } ∷ [])
+        (lists_from [] 0 (tree doc.root no_trees)) [] 0 w.used w.last p.count w.within p.passes w.passes
 
     weighed : PossibleWeigh g root (lists_of doc) vs sum
     weighed =

@@ -14,7 +14,7 @@ use Rattle.pv_missing.specs.Widths.{FitsWeights, IsListForWeights, columns_of}
 use Rattle.pv_complete.specs.Loads.{UsesVerdict}
 use Rattle.pv_complete.specs.Needing.{CanWeigh}
 use Rattle.pv_complete.specs.WideLists.{HaveVerdictsFrom}
-use Rattle.pv_complete.proofs.Adding.{adds_other, stops_here}
+use Rattle.pv_complete.proofs.WeightSums.{adds_other, stops_here}
 
 -- fewer tokens are no wider
 pub fits_less : (g : PlainDtd) (m n : ℕ) → m ≤ n → FitsWeights g n → FitsWeights g m

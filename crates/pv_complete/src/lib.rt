@@ -4,8 +4,8 @@
 //! pv_missing). The weights of the Possible lists add up to it (`possible_weights_law` of
 //! pv_tables); a Valid list weighs nothing, and takes no table. `specs/Needing.antt` says what is
 //! answered, and when each refusal comes. `tables` gives all light weights of each Possible list
-//! (`specs/Tables.antt`). `list_pieces` puts a least completion of one list together, piece by
-//! piece (`specs/Pieces.antt`), by the weights of all sites over its word.
+//! (`specs/Tables.antt`). A least completion of one list is put together piece by piece
+//! (`specs/Pieces.antt`), by the weights of all sites over its word.
 //!
 //! `complete` writes the document with the pieces of each list (`src/writing/walk.rt`).
 //! `specs/Completing.antt` and `specs/Growing.antt` say what it gives, and `specs/Written.antt` how

@@ -126,7 +126,9 @@ module _ {M N : Type 0} (f : M → N) where
   }
 
 -- what a completion by the verdicts that a session tells is of the session's document
-module _ (s : PlainSession) (g : PlainDtd) (root : List ℕ) (doc : PlainDoc Mark) (vs : PlainVerdicts) (same_dtd : g ≡ s.dtd) (same_root : root ≡ s.root) (same_doc : stamps_of doc ≡ s.doc) (is : IsSession s)
+module _ (s : PlainSession) (g : PlainDtd) (root : List ℕ) (doc : PlainDoc Mark)
+    (vs : PlainVerdicts) (same_dtd : g ≡ s.dtd) (same_root : root ≡ s.root)
+    (same_doc : stamps_of doc ≡ s.doc) (is : IsSession s)
     (proper : IsProperDtd s.dtd) (tell : TellVerdicts (stamped_document s) vs) (none : vs.first ≡ None) where
   abbrev live : ∥ AreLiveVerdicts g root doc vs.verdicts ∥₁
   live = live_verdicts s g root doc vs same_dtd same_root same_doc is proper tell none

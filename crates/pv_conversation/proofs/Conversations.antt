@@ -28,8 +28,12 @@ no_room session input output checked = record {
 }
 
 -- a session ended over the bytes that were taken
-pub has_course : {S : Type 0} (session : PlainSession) (script silent : List ℕ) (at_end : Bool) (ending : RunEnding) (input input_now : InputNow S) (old new : OutputNow) (checked checked_now : ℕ) (status : Status) →
-    EndsSession session script silent at_end ending → Consumes input.left input_now.left script → AskedAtMost (length script + 1) 1 input.calls input_now.calls → (at_end ≡ true → IsAtEnd input_now.left) →
+pub has_course : {S : Type 0} (session : PlainSession) (script silent : List ℕ) (at_end : Bool)
+    (ending : RunEnding) (input input_now : InputNow S) (old new : OutputNow)
+    (checked checked_now : ℕ) (status : Status) →
+    EndsSession session script silent at_end ending → Consumes input.left input_now.left script →
+    AskedAtMost (length script + 1) 1 input.calls input_now.calls → (at_end ≡ true →
+    IsAtEnd input_now.left) →
     ((n : ℕ) → CountsShelf ending n n) → CountsInput ending input.faults input_now.faults → WritesEnding ending old.written new.written old.faults new.faults status →
     CountsFirst silent (lines_answered at_end script) checked checked_now → Talked session input input_now old new checked checked_now status
 has_course session script silent at_end ending input input_now old new checked checked_now status ends taken asked whole shelf_stays counts writes checks = record {
@@ -70,7 +74,9 @@ pub asked_once : {E : Type 0} (most : ℕ) (before between after : Asked) (resul
     AskedAtMost (most + 1) 1 before after
 asked_once most before between after result made once = record {
   all = made_more most 1 before.calls between.calls after.calls made.all once.all;
-  none_given = made_within (0 + empty_in result) 1 before.empty after.empty (omega (arith, empty_once result)) (made_more 0 (empty_in result) before.empty between.empty after.empty made.none_given once.none_given);
+  none_given = made_within (0 + empty_in result) 1 before.empty after.empty
+      (omega (arith, empty_once result)) (made_more 0 (empty_in result) before.empty between.empty
+      after.empty made.none_given once.none_given);
 }
 
 pub asked_more : (script piece : List ℕ) (n : ℕ) (before between after : Asked) → AskedAtMost (length script) 0 before between → WasAsked 1 (empty_in {E = Failed} (Ok n)) between after →

@@ -51,7 +51,9 @@ or_none false = refl
 cut_at_first : (p : List ℕ) (ps : List (List ℕ)) → is_line_too_long p ≡ true → before_too_long (p ∷ ps) ≡ []
 cut_at_first p ps is = rw is refl
 
-ended_long : (part more : List ℕ) → is_line_too_long part ≡ true → (ended_raw_lines (part ++ more) ≡ []) ⊎ BeginsRawLines part (ended_raw_lines (part ++ more)) → before_too_long (ended_raw_lines (part ++ more)) ≡ []
+ended_long : (part more : List ℕ) → is_line_too_long part ≡ true →
+    (ended_raw_lines (part ++ more) ≡ []) ⊎ BeginsRawLines part (ended_raw_lines (part ++ more)) →
+    before_too_long (ended_raw_lines (part ++ more)) ≡ []
 ended_long part more is (inl none) = ap before_too_long none
 ended_long part more is (inr begins) = ap before_too_long begins.are ∙ cut_at_first (part ++ begins.behind) begins.others (goes_on_long part begins.behind is)
 
@@ -69,7 +71,9 @@ long_part (b ∷ bs) free any more =
 any_in_parts : (bytes : List ℕ) → (list_any is_line_too_long (ended_raw_lines bytes) || list_any is_line_too_long (raw_lines_of (cut_of bytes).part)) ≡ list_any is_line_too_long (raw_lines_of bytes)
 any_in_parts bytes =
     sym (list_any-append is_line_too_long (ended_raw_lines bytes) (raw_lines_of (cut_of bytes).part))
-    ∙ ap (list_any is_line_too_long) (ap (λ (h : List ℕ). ended_raw_lines bytes ++ raw_lines_of h) (sym (append-nil (cut_of bytes).part)) ∙ sym (pieces_on bytes []) ∙ ap raw_lines_of (append-nil bytes))
+    ∙ ap (list_any is_line_too_long) (ap (λ (h : List ℕ). ended_raw_lines bytes ++ raw_lines_of h)
+    (sym (append-nil (cut_of bytes).part)) ∙ sym (pieces_on bytes [])
+    ∙ ap raw_lines_of (append-nil bytes))
 
 none_cut : (ps : List (List ℕ)) → list_any is_line_too_long ps ≡ false → before_too_long ps ≡ ps
 none_cut ps none = ap before_too_long (sym (append-nil ps)) ∙ goes_on ps [] none ∙ append-nil ps

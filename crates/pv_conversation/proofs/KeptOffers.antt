@@ -21,7 +21,9 @@ use Rattle.pv_conversation.specs.Offers.{TellsOffer, is_not_offered, is_offered,
 use Rattle.pv_conversation.specs.Session.{RepliesBy, RepliesTo, known, reply_to, unknown}
 
 -- what a line that spells a command is answered
-by_command : OneCommand → (session : PlainSession) (line : List ℕ) (c : Command) (told : Reply) (after : PlainSession) → SpellsCommand line c → RepliesTo session line told after → RepliesBy session c told after
+by_command : OneCommand → (session : PlainSession) (line : List ℕ) (c : Command) (told : Reply)
+    (after : PlainSession) → SpellsCommand line c → RepliesTo session line told after →
+    RepliesBy session c told after
 by_command one session line c told after spells (unknown none is stays) = absurd (none c spells)
 by_command one session line c told after spells (known other reads by) = subst (λ (d : Command). RepliesBy session d told after) (one line other c reads spells) by
 
@@ -48,7 +50,9 @@ some_answer why answer is none = let never = sym (ap refusal_of none) ∙ is in 
 one_answer : (answer other : PlainAnswer) → Some answer ≡ Some other → other ≡ answer
 one_answer answer other is = cc
 
-module _ (exactly : OffersExactly) (tried : TriedAsOffered) (s : PlainSession) (ask : Ask) (names : List (List ℕ)) (x : List ℕ) (told_of : AreTold s ask names) (is_declared : Contains (declared_names s.dtd) x)
+module _ (exactly : OffersExactly) (tried : TriedAsOffered) (s : PlainSession) (ask : Ask)
+    (names : List (List ℕ)) (x : List ℕ) (told_of : AreTold s ask names) (is_declared : Contains
+    (declared_names s.dtd) x)
     (named : IsTrue (is_new_name x)) (told : Reply) (answer : PlainAnswer) (is : told ≡ reply_to answer) where
   kept_by : (after : PlainSession) → IsEditStep s (edit_with ask x) answer after → IsKeptFor names x told
   kept_by after (accepted edited left bad may behind has_open has_bad at) = record {

@@ -8,9 +8,9 @@ pub mod OneReplies
 pub mod OneSession
 -- of this crate:
 pub mod Conversations
-pub mod Conversing
-pub mod Counting
-pub mod Holding
+pub mod ConversationLines
+pub mod LineCounts
+pub mod HeldReplies
 pub mod KeptOffers
 pub mod Limits
 pub mod Moves

@@ -101,7 +101,9 @@ module _ (s : PlainSession) (is : IsSession s) (proper : IsProperDtd s.dtd) wher
   all_live vs none have = rw none at have.is_first
 
 -- What the verdicts that a session tells, none of them Impossible, tell of its document: it is this one, whatever its marks are.
-module _ (s : PlainSession) (g : PlainDtd) (root : List ℕ) (doc : PlainDoc Mark) (vs : PlainVerdicts) (same_dtd : g ≡ s.dtd) (same_root : root ≡ s.root) (same_doc : stamps_of doc ≡ s.doc) (is : IsSession s)
+module _ (s : PlainSession) (g : PlainDtd) (root : List ℕ) (doc : PlainDoc Mark)
+    (vs : PlainVerdicts) (same_dtd : g ≡ s.dtd) (same_root : root ≡ s.root)
+    (same_doc : stamps_of doc ≡ s.doc) (is : IsSession s)
     (proper : IsProperDtd s.dtd) (tell : TellVerdicts (stamped_document s) vs) (none : vs.first ≡ None) where
   narrow_lists : AllByRecursion (IsListForVerdict s.dtd) (lists_of doc)
   narrow_lists = all_narrow_from stamp_of doc s.dtd (subst (λ (d : PlainDoc ℕ). AllByRecursion (IsListForVerdict s.dtd) (lists_of d)) (sym same_doc) is.holdable.narrow)
@@ -130,5 +132,7 @@ not_too_wide : (s : PlainSession) (path : List ℕ) → IsSession s → IsFirstT
 not_too_wide s path is (inl first) = absurd (none_first (IsListForVerdict s.dtd) (lists_of s.doc) path is.holdable.narrow first)
 not_too_wide s path is (inr stops) = stops
 
-pub wide_for_weights : (s : PlainSession) (path : List ℕ) → IsSession s → ∥ IsFirstTooWide s.dtd (lists_of s.doc) path ⊎ StopsAtWide s.dtd s.root s.doc path ∥₁ → ∥ StopsAtWide s.dtd s.root s.doc path ∥₁
+pub wide_for_weights : (s : PlainSession) (path : List ℕ) → IsSession s →
+    ∥ IsFirstTooWide s.dtd (lists_of s.doc) path ⊎ StopsAtWide s.dtd s.root s.doc path ∥₁ →
+    ∥ StopsAtWide s.dtd s.root s.doc path ∥₁
 wide_for_weights s path is stops = ∥∥₁_map stops (not_too_wide s path is)

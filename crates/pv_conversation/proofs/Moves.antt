@@ -65,11 +65,14 @@ edit_counted before edit checked left bad after (accepted edited open_now bad_no
 edit_counted before edit checked left bad after (refused why ground is stays) = absurd (not_refused why checked left bad is)
 
 pub undo_counted : (before : PlainSession) (checked left bad : ℕ) (after : PlainSession) → IsUndoStep before (is_done checked left bad) after → IsCounted after checked bad
-undo_counted before checked left bad after (undone edit past doc open_now bad_now was replays led behind has_open has_bad is) = counted_by after (undoes edit) checked left bad open_now bad_now has_bad is
+undo_counted before checked left bad after (undone edit past doc open_now bad_now was replays led
+    behind has_open has_bad is) = counted_by after (undoes edit) checked left bad open_now bad_now has_bad is
 undo_counted before checked left bad after (no_past none is stays) = cc
 
 pub redo_counted : (before : PlainSession) (checked left bad : ℕ) (after : PlainSession) → IsRedoStep before (is_done checked left bad) after → IsCounted after checked bad
-redo_counted before checked left bad after (redone edit rest edited open_now bad_now was gives replays behind has_open has_bad is) = counted_by after (makes edit) checked left bad open_now bad_now has_bad is
+redo_counted before checked left bad after (redone edit rest edited open_now bad_now was gives
+    replays behind has_open has_bad is) = counted_by after (makes edit) checked left bad open_now
+    bad_now has_bad is
 redo_counted before checked left bad after (none_undone none is stays) = cc
 
 -- no list is impossible exactly where inserting elements can make the document valid

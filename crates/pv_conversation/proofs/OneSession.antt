@@ -13,7 +13,9 @@ use Rattle.pv_opening.specs.Documents.{PlainOpened}
 use Rattle.pv_opening.specs.Possibility.{width_stage}
 use Rattle.pv_opening.specs.Response.{PlainResponse}
 use Rattle.pv_conversation.specs.Script.{MAX_SCRIPT_BYTES, IsWithin, lines_within}
-use Rattle.pv_conversation.specs.Session.{Converses, EndsSession, IsSessionCourse, Place, Replies, at_line, at_quit, beginning_stage, ended_over, finished, guarding_stage, input_failed, limited, output_failed, past_line, past_script, quitted, without_room}
+use Rattle.pv_conversation.specs.Session.{Converses, EndsSession, IsSessionCourse, Place, Replies, at_line, at_quit, beginning_stage, ended_over}
+use Rattle.pv_conversation.specs.Session.{finished, guarding_stage, input_failed, limited, output_failed, past_line, past_script, quitted}
+use Rattle.pv_conversation.specs.Session.{without_room}
 use Rattle.pv_words.proofs.RawLines.{cut_of}
 use Rattle.pv_conversation.proofs.GoingOn.{lines_and_last}
 use Rattle.pv_conversation.proofs.Likeness.{alike_behind, endings_alike, one_response_alike}
@@ -78,7 +80,9 @@ one_session once session script silent a b ending other r also at on (quitted o 
 one_session once session script silent a b ending other r also at on (quitted o replies is) (quitted q others are) =
     endings_alike Done o q ending other r also at on is are (one_output once session (lines_within script) silent o q at_quit at_quit replies others).0
 one_session once session script silent a b ending other r also at on (quitted o replies is) (past_line q n s long others are) = absurd (quit_or_line once session script silent o q n s replies others)
-one_session once session script silent a b ending other r also at on (quitted o replies is) (past_script q n s none beyond others are) = absurd (quit_or_line once session script silent o q n s replies others)
+one_session once session script silent a b ending other r also at on (quitted o replies is)
+    (past_script q n s none beyond others are) = absurd (quit_or_line once session script silent o q
+    n s replies others)
 one_session once session script silent a b ending other r also at on (past_line o n s long replies is) (finished q p f v others are) = let none = v.lines in cc
 one_session once session script silent a b ending other r also at on (past_line o n s long replies is) (quitted q others are) = absurd (quit_or_line once session script silent q o n s others replies)
 one_session once session script silent a b ending other r also at on (past_line o n s long replies is) (past_line q m t still others are) =
@@ -88,7 +92,9 @@ one_session once session script silent a b ending other r also at on (past_line 
     endings_alike Limit (o ++ line) (q ++ line) ending other r also at on is (are ∙ ap (λ (i : ℕ). limited q (codes "limit line " ++ decimal i)) (sym number)) (alike_behind o q line both.0)
 one_session once session script silent a b ending other r also at on (past_line o n s long replies is) (past_script q m t none beyond others are) = cc
 one_session once session script silent a b ending other r also at on (past_script o n s none beyond replies is) (finished q p f v others are) = absurd (within_or_past script v beyond)
-one_session once session script silent a b ending other r also at on (past_script o n s none beyond replies is) (quitted q others are) = absurd (quit_or_line once session script silent q o n s others replies)
+one_session once session script silent a b ending other r also at on (past_script o n s none beyond
+    replies is) (quitted q others are) = absurd (quit_or_line once session script silent q o n s
+    others replies)
 one_session once session script silent a b ending other r also at on (past_script o n s none beyond replies is) (past_line q m t long others are) = cc
 one_session once session script silent a b ending other r also at on (past_script o n s none beyond replies is) (past_script q m t never more others are) =
     let both = one_output once session (lines_within script) silent o q (at_line n s) (at_line m t) replies others in

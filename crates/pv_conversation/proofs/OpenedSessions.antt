@@ -27,7 +27,9 @@ module _ (r : Remembered) where
   redo_keeps s t answer (none_undone e a same) p = subst Keeps (sym same) p
 
   -- where nothing was answered, the session is as it was
-  pub still_keeps : (s t : PlainSession) (told : Option PlainAnswer) (Is : PlainAnswer → Type 0) → ((answer : PlainAnswer) → Is answer → Keeps s → Keeps t) → MatchOption told (t ≡ s) Is → Keeps s → Keeps t
+  pub still_keeps : (s t : PlainSession) (told : Option PlainAnswer) (Is : PlainAnswer → Type 0) →
+      ((answer : PlainAnswer) → Is answer → Keeps s → Keeps t) → MatchOption told (t ≡ s) Is →
+      Keeps s → Keeps t
   still_keeps s t None Is keeps same p = subst Keeps (sym same) p
   still_keeps s t (Some answer) Is keeps is p = keeps answer is p
 

@@ -1,5 +1,6 @@
 -- A conversation, piece by piece.
-use Rattle.std.proofs.Common.{◌≡◌, inl, inr, ℕ, zero, suc, ◌+◌, ◌-◌, ◌<◌, ◌≤◌, Bool, true, false, List, [], ◌∷◌, ◌++◌, length, get_or, take, drop, codes, decimal, Option, refl, sym, ap, ◌∙◌, subst, append_assoc, arith}
+use Rattle.std.proofs.Common.{◌≡◌, inl, inr, ℕ, zero, suc, ◌+◌, ◌-◌, ◌<◌, ◌≤◌, Bool, true, false, List, [], ◌∷◌, ◌++◌, length, get_or, take, drop}
+use Rattle.std.proofs.Common.{codes, decimal, Option, refl, sym, ap, ◌∙◌, subst, append_assoc, arith}
 use Rattle.std.proofs.lemmas.List.{append-nil, length-append, length-take, take-append-drop, take_all}
 use Rattle.std.specs.Io.KnownBytes.{Appends, Consumes}
 use Rattle.pv_io.specs.Causes.{AppendsFront, Asked, CountStays}
@@ -17,8 +18,10 @@ use Rattle.pv_conversation.specs.Counting.{CountedSession}
 use Rattle.pv_conversation.specs.ReplyBuffer.{HoldsReplies}
 use Rattle.pv_conversation.specs.Script.{MAX_SCRIPT_BYTES}
 use Rattle.pv_conversation.specs.Session.{all_told, limited}
-use Rattle.pv_conversation.proofs.Conversing.{cut_off, ended_as, ended_on, ends_with_last, ends_with_quit, limit_is_no_fault, output_is_no_input, takes_all, takes_failed, takes_line, takes_long, takes_past_line, takes_past_script, takes_quit, told_is_no_fault, written_as}
-use Rattle.pv_conversation.proofs.Holding.{holds_failed, holds_more, holds_none}
+use Rattle.pv_conversation.proofs.ConversationLines.{cut_off, ended_as, ended_on, ends_with_last, ends_with_quit, limit_is_no_fault}
+use Rattle.pv_conversation.proofs.ConversationLines.{output_is_no_input, takes_all, takes_failed, takes_line, takes_long, takes_past_line}
+use Rattle.pv_conversation.proofs.ConversationLines.{takes_past_script, takes_quit, told_is_no_fault, written_as}
+use Rattle.pv_conversation.proofs.HeldReplies.{holds_failed, holds_more, holds_none}
 use Rattle.pv_conversation.proofs.Replies.{front_behind}
 
 -- the first bytes of a piece were answered, their replies written or held, and these bytes are left
@@ -59,8 +62,12 @@ rest_of_line : (rest front behind : List ℕ) → rest ≡ front ++ FEED ∷ beh
 rest_of_line rest front behind is = is ∙ sym (append_assoc front (FEED ∷ []) behind)
 
 -- a line of what is left was answered
-pub goes_line : (before mid now : Option (List ℕ)) (replies still : List ℕ) (session current after : CountedSession) (held kept new : HeldLine) (number next eaten : ℕ) (piece rest behind text : List ℕ) →
-    GoesTo before mid replies session current held kept number next piece rest → (takes : TakesLine kept rest eaten new) → behind ≡ takes.rest → IsReplyText current (without_returns new.bytes) after text →
+pub goes_line : (before mid now : Option (List ℕ)) (replies still : List ℕ)
+    (session current after : CountedSession) (held kept new : HeldLine) (number next eaten : ℕ)
+    (piece rest behind text : List ℕ) →
+    GoesTo before mid replies session current held kept number next piece rest →
+    (takes : TakesLine kept rest eaten new) → behind ≡ takes.rest →
+    IsReplyText current (without_returns new.bytes) after text →
     HoldsReplies mid now still (replies ++ text) → GoesTo before now still session after held nothing_held number (next + 1) piece behind
 goes_line before mid now replies still session current after held kept new number next eaten piece rest behind text so takes is by more =
     let one : next + 1 ≡ suc next = omega arith in
@@ -87,7 +94,9 @@ fits_front script piece eaten rest front behind is cut within =
 
 -- a line of what is left ended the session
 pub goes_quit : (before mid now : Option (List ℕ)) (replies still : List ℕ) (session current : CountedSession) (checked : ℕ) (held kept new : HeldLine) (number next eaten : ℕ) (piece rest : List ℕ) →
-    GoesTo before mid replies session current held kept number next piece rest → TakesLine kept rest eaten new → SpellsCommand (without_returns new.bytes) Quit → checked ≡ current.checked → HoldsReplies mid now still (replies ++ []) →
+    GoesTo before mid replies session current held kept number next piece rest →
+    TakesLine kept rest eaten new → SpellsCommand (without_returns new.bytes) Quit →
+    checked ≡ current.checked → HoldsReplies mid now still (replies ++ []) →
     (old : Option (List ℕ)) (script : List ℕ) (first : CountedSession) → length script + length piece ≤ MAX_SCRIPT_BYTES → Conversed (Appends old before) first script session held number →
     EndedWith first checked (script ++ piece) false all_told (HoldsReplies old now still)
 goes_quit before mid now replies still session current checked held kept new number next eaten piece rest so takes quits same more old script first within so_far =
@@ -101,7 +110,9 @@ goes_quit before mid now replies still session current checked held kept new num
 
 -- the output failed at a line of what is left
 pub goes_failed : (before mid now : Option (List ℕ)) (replies : List ℕ) (session current after : CountedSession) (held kept new : HeldLine) (number next eaten : ℕ) (piece rest text : List ℕ) →
-    GoesTo before mid replies session current held kept number next piece rest → TakesLine kept rest eaten new → IsReplyText current (without_returns new.bytes) after text → AppendsFront mid now (replies ++ text) →
+    GoesTo before mid replies session current held kept number next piece rest →
+    TakesLine kept rest eaten new → IsReplyText current (without_returns new.bytes) after text →
+    AppendsFront mid now (replies ++ text) →
     (old : Option (List ℕ)) (script : List ℕ) (first : CountedSession) → length script + length piece ≤ MAX_SCRIPT_BYTES → Conversed (Appends old before) first script session held number →
     EndedWith first after.checked (script ++ piece) false output_fault (AppendsFront old now)
 goes_failed before mid now replies session current after held kept new number next eaten piece rest text so takes by front old script first within so_far =
@@ -272,7 +283,10 @@ last_failed old mid now first current after script line held number is replies s
     (λ out w. front_behind old mid now out replies.0 w replies.2)
 
 -- a conversation up to a piece: what it took, and what its devices counted; no reply is held, and the output may be asked
-pub record Talks (old now : Option (List ℕ)) (first current : CountedSession) (held : HeldLine) (number : ℕ) (input_old input_now : Option (List ℕ)) (calls calls_now : Asked) (input_faults input_faults_now faults faults_now left room : ℕ) (replies : List ℕ) (ready : Bool) : Type 0 where
+pub record Talks (old now : Option (List ℕ)) (first current : CountedSession) (held : HeldLine)
+    (number : ℕ) (input_old input_now : Option (List ℕ)) (calls calls_now : Asked)
+    (input_faults input_faults_now faults faults_now left room : ℕ) (replies : List ℕ)
+    (ready : Bool) : Type 0 where
   pub script : List ℕ
   pub so_far : Conversed (Appends old now) first script current held number
   pub taken : Consumes input_old input_now script

@@ -13,7 +13,7 @@ use Rattle.pv_conversation.specs.Laws.{JoinsReplies, EndsAtQuit}
 use Rattle.pv_conversation.specs.Session.{is_among, Place, at_line, at_quit, Replies, no_lines, without_memory, answered, ended}
 use Rattle.pv_conversation.specs.Conversation.{AllBelow, IsReplyText, replied, without_memory as told_nothing}
 use Rattle.pv_conversation.specs.Counting.{CountedSession, CountsLines, was_silent}
-use Rattle.pv_conversation.proofs.Counting.{counts_silent, counts_then, number_behind, replied_goes}
+use Rattle.pv_conversation.proofs.LineCounts.{counts_silent, counts_then, number_behind, replied_goes}
 
 joined : (silent : List ℕ) (number next : ℕ) (session middle : PlainSession) (lines more : List (List ℕ)) (out rest : List ℕ) (here place : Place) →
     here ≡ at_line next middle → Replies silent number session lines out here → Replies silent next middle more rest place →
@@ -110,7 +110,9 @@ pub record RepliesMore (number : ℕ) (first : CountedSession) (lines : List (Li
   pub counts : CountsLines silent 1 (lines ++ line ∷ []) first.checked after.checked
 
 pub replies_more : (silent : List ℕ) (number : ℕ) (first current : CountedSession) (lines : List (List ℕ)) (line : List ℕ) (out text : List ℕ) (after : CountedSession) →
-    AllBelow number silent → Replies silent 1 first.session lines out (at_line number current.session) → CountsLines silent 1 lines first.checked current.checked → IsReplyText current line after text →
+    AllBelow number silent → Replies silent 1 first.session lines out
+    (at_line number current.session) →
+    CountsLines silent 1 lines first.checked current.checked → IsReplyText current line after text →
     RepliesMore number first lines line out text after
 replies_more silent number first current lines line out text after below replies counts (replied told by is one) =
     let next = number_behind silent 1 number first.session current.session lines out (at_line number current.session) refl replies in

@@ -82,12 +82,16 @@ verdicts_told doc =
     let path : decimal 0 ≡ path_text (0 ∷ []) = sym (append-nil (decimal 0)) in
     ap (λ n. verdicts_head (suc n) ++ (verdict_line (codes ".") doc.mark ++ verdict_lines (decimal 0) doc.root)) (sym (rows_number (0 ∷ []) doc.root))
     ∙ ap (λ lines. verdicts_head (length (rows_of doc)) ++ lines)
-    (ap (λ line. line ++ verdict_lines (decimal 0) doc.root) (sym (row_line [] doc.mark)) ∙ ap (λ rest. with_feed (row_text (row_at [] doc.mark)) ++ rest) (ap (λ h. verdict_lines h doc.root) path ∙ sym (lines_of_rows 0 [] doc.root)))
+    (ap (λ line. line ++ verdict_lines (decimal 0) doc.root) (sym (row_line [] doc.mark))
+    ∙ ap (λ rest. with_feed (row_text (row_at [] doc.mark)) ++ rest)
+    (ap (λ h. verdict_lines h doc.root) path ∙ sym (lines_of_rows 0 [] doc.root)))
 
 -- ---- of a session's document
 pub told_text : (s : PlainSession) (doc : PlainDoc Mark) → stamps_of doc ≡ s.doc → ∥ IsWellMarked s.dtd s.root doc ∥₁ → IsVerdictsText s (verdicts_text doc)
 told_text s doc same marked =
-    has_rows (rows_of doc) (subst (λ (d : PlainDoc ℕ). AreRows (record { dtd = s.dtd; root = s.root; doc = d }) (rows_of doc)) same (told_rows s.dtd s.root doc marked (rows_of doc) refl)) (verdicts_told doc)
+    has_rows (rows_of doc) (subst (λ (d : PlainDoc ℕ). AreRows
+    (record { dtd = s.dtd; root = s.root; doc = d }) (rows_of doc)) same
+    (told_rows s.dtd s.root doc marked (rows_of doc) refl)) (verdicts_told doc)
 
 -- ---- as a reply to a line
 pub is_reply_text : (s : PlainSession) (n : ℕ) (line text : List ℕ) → SpellsCommand line tells_verdicts → IsVerdictsText s text → IsReplyText (counted s n) line (counted s n) text

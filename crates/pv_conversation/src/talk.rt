@@ -144,7 +144,7 @@ fn limit_at(lines: &Lines, byte: u8) -> Next
     }
 }
 
-// What comes where a byte stands after the longest script, which this came after.
+// What comes after `next`, where one more byte stands after the longest script.
 fn beyond(next: Next, lines: &Lines, byte: u8) -> Next
     ensures { IsBeyond lines.now byte next result }
 {

@@ -16,7 +16,7 @@ use Rattle.pv_rules.specs.declared.flat.Kind.TheVariants as kind
 use Rattle.pv_rules.specs.declared.flat.Membership.TheVariants as membership
 use Rattle.pv_rules.proofs.FlatContents.{any_at, children_at, empty_at, mixed_at, no_content}
 use Rattle.pv_rules.proofs.FlatKinds.{IsNoRest, choice_at, followed_at, last_at, name_at, no_part, no_rest, opt_at, outside_at, plus_at, seq_at, star_at}
-use Rattle.pv_rules.proofs.Formed.{parts_formed}
+use Rattle.pv_rules.proofs.FormedParts.{parts_formed}
 use Rattle.pv_denial.specs.RowForms.{HoldsAt, HoldsNoSide, HoldsOneSide, HoldsOverTexts, HoldsTwoSides}
 use Rattle.pv_denial.specs.Rows.{EachRow, IsRow}
 use Rattle.pv_denial.specs.declared.denials.Row.{Row}
@@ -39,14 +39,18 @@ module _ (g : PlainDtd) (w : List PlainToken) (n : ℕ) (size : n ≡ length w) 
       empty_holds k i = both i (holds_content g w n size rows each x (Some empty) (empty_at g x f h k))
 
       pub any_holds : f.kind ≡ content.Any →
-          (IsTrue b ↔ ((HoldsNoSide rows (content_site x) n × HoldsOverTexts rows (content_site x) w) × ((y : ℕ) → IsDeclared g y → HoldsTwoSides rows (content_site x) (name_site y) (content_site x) n))) →
+          (IsTrue b ↔ ((HoldsNoSide rows (content_site x) n × HoldsOverTexts rows (content_site x)
+          w) × ((y : ℕ) → IsDeclared g y → HoldsTwoSides rows (content_site x) (name_site y)
+          (content_site x) n))) →
           IsTrue b ↔ HoldsAt g w rows (content_site x)
       any_holds k i =
           let j = holds_content g w n size rows each x (Some any) (any_at g x f h k) in
           ((λ t. let a = i.0 t in j.0 (a.0.0, a.0.1, a.1)), (λ d. let a = j.1 d in i.1 ((a.0, a.1), a.2)))
 
       pub mixed_holds : f.kind ≡ content.Mixed →
-          (IsTrue b ↔ ((HoldsNoSide rows (content_site x) n × HoldsOverTexts rows (content_site x) w) × ((q : ℕ) → f.first ≤ q → q < f.end → HoldsTwoSides rows (content_site x) (part_site q) (content_site x) n))) →
+          (IsTrue b ↔ ((HoldsNoSide rows (content_site x) n × HoldsOverTexts rows (content_site x)
+          w) × ((q : ℕ) → f.first ≤ q → q < f.end → HoldsTwoSides rows (content_site x)
+          (part_site q) (content_site x) n))) →
           IsTrue b ↔ HoldsAt g w rows (content_site x)
       mixed_holds k i =
           let m = mixed_at g x f h k in
@@ -89,7 +93,9 @@ module _ (g : PlainDtd) (w : List PlainToken) (n : ℕ) (size : n ≡ length w) 
       seq_case no_parts e full i = absurd (full refl)
       seq_case (part p ps) e full i = both i (holds_part g w n size rows each q (Some (seq (part p ps))) e)
 
-      pub seq_holds : IsTrue (list_all is_formed_model g.models) → f.kind ≡ kind.Seq → (m : ℕ) → m ≡ suc q → IsTrue b ↔ HoldsOneSide rows (part_site q) (rest_site m) n → IsTrue b ↔ HoldsAt g w rows (part_site q)
+      pub seq_holds : IsTrue (list_all is_formed_model g.models) → f.kind ≡ kind.Seq → (m : ℕ) →
+          m ≡ suc q → IsTrue b ↔ HoldsOneSide rows (part_site q) (rest_site m) n →
+          IsTrue b ↔ HoldsAt g w rows (part_site q)
       seq_holds formed k m z i =
           let a = seq_at g q f h k in let P : ℕ → Type 0 = λ v. IsTrue b ↔ HoldsOneSide rows (part_site q) (rest_site v) n in seq_case a.0 a.1 (full_seq a.0 a.1) (subst P z i)
         where
@@ -102,17 +108,33 @@ module _ (g : PlainDtd) (w : List PlainToken) (n : ℕ) (size : n ≡ length w) 
           IsTrue b ↔ HoldsAt g w rows (part_site q)
       choice_part_holds k i = let a = choice_at g q f h k in both (i a.0 a.1) (holds_part g w n size rows each q (Some (choice a.0)) a.1)
 
-      pub opt_part_holds : f.kind ≡ kind.Opt → (m : ℕ) → m ≡ suc q → IsTrue b ↔ (HoldsNoSide rows (part_site q) n × HoldsOneSide rows (part_site q) (part_site m) n) → IsTrue b ↔ HoldsAt g w rows (part_site q)
+      pub opt_part_holds : f.kind ≡ kind.Opt → (m : ℕ) → m ≡ suc q →
+          IsTrue b ↔ (HoldsNoSide rows (part_site q) n × HoldsOneSide rows (part_site q)
+          (part_site m) n) → IsTrue b ↔ HoldsAt g w rows (part_site q)
       opt_part_holds k m z i =
-          let a = opt_at g q f h k in let P : ℕ → Type 0 = λ v. IsTrue b ↔ (HoldsNoSide rows (part_site q) n × HoldsOneSide rows (part_site q) (part_site v) n) in both (subst P z i) (holds_part g w n size rows each q (Some (opt a.0)) a.1)
+          let a = opt_at g q f h k in let P : ℕ →
+          Type 0 = λ v. IsTrue b ↔ (HoldsNoSide rows (part_site q) n
+          × HoldsOneSide rows (part_site q) (part_site v) n) in
+          both (subst P z i) (holds_part g w n size rows each q (Some (opt a.0)) a.1)
 
-      pub star_part_holds : f.kind ≡ kind.Star → (m : ℕ) → m ≡ suc q → IsTrue b ↔ (HoldsNoSide rows (part_site q) n × HoldsTwoSides rows (part_site q) (part_site m) (part_site q) n) → IsTrue b ↔ HoldsAt g w rows (part_site q)
+      pub star_part_holds : f.kind ≡ kind.Star → (m : ℕ) → m ≡ suc q →
+          IsTrue b ↔ (HoldsNoSide rows (part_site q) n × HoldsTwoSides rows (part_site q)
+          (part_site m) (part_site q) n) → IsTrue b ↔ HoldsAt g w rows (part_site q)
       star_part_holds k m z i =
-          let a = star_at g q f h k in let P : ℕ → Type 0 = λ v. IsTrue b ↔ (HoldsNoSide rows (part_site q) n × HoldsTwoSides rows (part_site q) (part_site v) (part_site q) n) in both (subst P z i) (holds_part g w n size rows each q (Some (star a.0)) a.1)
+          let a = star_at g q f h k in let P : ℕ →
+          Type 0 = λ v. IsTrue b ↔ (HoldsNoSide rows (part_site q) n
+          × HoldsTwoSides rows (part_site q) (part_site v) (part_site q) n) in
+          both (subst P z i) (holds_part g w n size rows each q (Some (star a.0)) a.1)
 
-      pub plus_part_holds : f.kind ≡ kind.Plus → (m : ℕ) → m ≡ suc q → IsTrue b ↔ (HoldsOneSide rows (part_site q) (part_site m) n × HoldsTwoSides rows (part_site q) (part_site m) (part_site q) n) → IsTrue b ↔ HoldsAt g w rows (part_site q)
+      pub plus_part_holds : f.kind ≡ kind.Plus → (m : ℕ) → m ≡ suc q →
+          IsTrue b ↔ (HoldsOneSide rows (part_site q) (part_site m) n
+          × HoldsTwoSides rows (part_site q) (part_site m) (part_site q) n) →
+          IsTrue b ↔ HoldsAt g w rows (part_site q)
       plus_part_holds k m z i =
-          let a = plus_at g q f h k in let P : ℕ → Type 0 = λ v. IsTrue b ↔ (HoldsOneSide rows (part_site q) (part_site v) n × HoldsTwoSides rows (part_site q) (part_site v) (part_site q) n) in both (subst P z i) (holds_part g w n size rows each q (Some (plus a.0)) a.1)
+          let a = plus_at g q f h k in let P : ℕ →
+          Type 0 = λ v. IsTrue b ↔ (HoldsOneSide rows (part_site q) (part_site v) n
+          × HoldsTwoSides rows (part_site q) (part_site v) (part_site q) n) in
+          both (subst P z i) (holds_part g w n size rows each q (Some (plus a.0)) a.1)
 
       pub outside_holds : f.membership ≡ membership.Outside → b ≡ true → IsTrue b ↔ HoldsAt g w rows (rest_site q)
       outside_holds m t = member_case (rest_at g q) refl (outside_at g q f h m) t

@@ -1,17 +1,17 @@
 -- for other crates:
-pub mod Answering
-pub mod Denied
+pub mod ListJudgements
+pub mod NotLive
 pub mod Lists
 pub mod PartSites
-pub mod Rowing
+pub mod SiteRows
 -- of this crate:
 pub mod Contents
-pub mod Holding
-pub mod Indexing
+pub mod RowRules
+pub mod RowIndex
 pub mod Most
-pub mod OneJudged
-pub mod Rising
+pub mod OneJudgement
+pub mod RisingValues
 pub mod SiteKinds
 pub mod Sites
-pub mod Standing
+pub mod ListsAtPaths
 pub mod Tokens

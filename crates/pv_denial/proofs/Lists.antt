@@ -88,5 +88,7 @@ module _ {A : Type 0} (R : A → A → Type 0) (never : (a b : A) → R a b → 
   one_ascending (x ∷ xs) (y ∷ ys) up vp a b =
       let h = a 0 x refl in let k = b 0 y refl in
       let same = first_same x y xs ys up vp h.0 h.1 k.0 k.1 in
-      let below = one_ascending xs ys (λ j k a b lt. up (suc j) (suc k) a b (omega arith)) (λ j k a b lt. vp (suc j) (suc k) a b (omega arith)) (others x y xs ys up same a) (others y x ys xs vp (sym same) b) in
+      let below = one_ascending xs ys (λ j k a b lt. up (suc j) (suc k) a b (omega arith))
+      (λ j k a b lt. vp (suc j) (suc k) a b (omega arith)) (others x y xs ys up same a)
+      (others y x ys xs vp (sym same) b) in
       λ i. same i ∷ below i

@@ -8,7 +8,7 @@ use Rattle.pv_denial.specs.RowForms.{AreMost, HoldsTwoSides, IsMost, value_then,
 use Rattle.pv_denial.specs.Rows.{EachRow, IsRow, row_value}
 use Rattle.pv_denial.specs.declared.denials.Row.{Row}
 use Rattle.pv_denial.proofs.Lists.{front_or_end}
-use Rattle.pv_denial.proofs.Rowing.{past_bounds, past_some, slice_get_below, value_rises}
+use Rattle.pv_denial.proofs.SiteRows.{past_bounds, past_some, slice_get_below, value_rises}
 
 module _ (g : PlainDtd) (n : ℕ) (rows : List Row) (each : EachRow (IsRow g n) rows) where
   -- what is told of a site doesn't fall
@@ -93,7 +93,9 @@ most_all g rows i count m size is = record {
     by (inr (y, lt, e)) = inr (y, omega arith, e)
 
 -- the most of one place more
-pub mosts_more : (g : PlainDtd) (rows : List Row) (ms : List ℕ) (m n : ℕ) → length ms ≡ n → IsMost g rows n m → ((i k : ℕ) → slice_get ms i ≡ Some k → IsMost g rows i k) → (i k : ℕ) → slice_get (ms ++ m ∷ []) i ≡ Some k → IsMost g rows i k
+pub mosts_more : (g : PlainDtd) (rows : List Row) (ms : List ℕ) (m n : ℕ) → length ms ≡ n →
+    IsMost g rows n m → ((i k : ℕ) → slice_get ms i ≡ Some k → IsMost g rows i k) → (i k : ℕ) →
+    slice_get (ms ++ m ∷ []) i ≡ Some k → IsMost g rows i k
 mosts_more g rows ms m n long is each i k e = by (front_or_end ms m i k e)
   where
     by : (slice_get ms i ≡ Some k) ⊎ ((i ≡ length ms) × (m ≡ k)) → IsMost g rows i k

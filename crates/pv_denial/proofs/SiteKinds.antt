@@ -11,8 +11,8 @@ use Rattle.pv_rules.proofs.ByKind.{by_kind, from_kind}
 use Rattle.pv_denial.specs.RowForms.{HoldsAt, HoldsKept, HoldsNoSide, HoldsOneSide, HoldsOverTexts, HoldsTwoSides}
 use Rattle.pv_denial.specs.Rows.{EachRow, IsRow, row_value}
 use Rattle.pv_denial.specs.declared.denials.Row.{Row}
-use Rattle.pv_denial.proofs.Holding.{from_again, from_more, from_none, from_one, from_text, from_then, let_again, let_more, let_none, let_one, let_text, let_then}
-use Rattle.pv_denial.proofs.Rowing.{past_within, within_past}
+use Rattle.pv_denial.proofs.RowRules.{from_again, from_more, from_none, from_one, from_text, from_then, let_again, let_more, let_none, let_one, let_text, let_then}
+use Rattle.pv_denial.proofs.SiteRows.{past_within, within_past}
 
 module _ (g : PlainDtd) (w : List PlainToken) (n : ℕ) (size : n ≡ length w) (rows : List Row) (each : EachRow (IsRow g n) rows) where
   abbrev Within : PlainSite → ℕ → ℕ → Type 0

@@ -15,7 +15,7 @@ use Rattle.pv_rules.proofs.Members.{some_part}
 use Rattle.pv_denial.specs.RowForms.{HoldsAt}
 use Rattle.pv_denial.specs.Rows.{EachRow, IsRow, row_value}
 use Rattle.pv_denial.specs.declared.denials.Row.{Row}
-use Rattle.pv_denial.proofs.Rowing.{value}
+use Rattle.pv_denial.proofs.SiteRows.{value}
 
 module _ (g : PlainDtd) (w : List PlainToken) (n : ℕ) (size : n ≡ length w) (rows : List Row) (each : EachRow (IsRow g n) rows) where
   -- the rules of each name and its content hold, and those of each part and of the members from it on

@@ -16,7 +16,7 @@ use Rattle.pv_denial_text.specs.Steps.{EndsWithRows, HasTooManyBehind, IsFaultyB
 use Rattle.pv_denial_text.specs.Texts.{lines_text}
 use Rattle.pv_denial_text.specs.declared.errors.TableError.{TableError}
 use Rattle.pv_denial_text.specs.declared.errors.TableError.TheVariants.{Limit, NoMemory, Syntax}
-use Rattle.pv_denial_text.proofs.Determined.{cause-free}
+use Rattle.pv_denial_text.proofs.OneLine.{cause-free}
 use Rattle.pv_denial_text.proofs.OneMeaning.{one-meaning}
 use Rattle.pv_denial_text.proofs.Stands.{no-cause, no-list, no-version, stand-append, stand-more, stand-none, stand-one}
 
@@ -60,7 +60,9 @@ version-stands bytes rest b = stand-one None bytes version_line rest record { ma
 list-stands : (bytes rest path more : List ℕ) → Begins bytes version_line rest → Begins rest (list_line path) more → Stand None bytes (version_line ∷ list_line path ∷ []) more
 list-stands bytes rest path more b l = stand-more None bytes (version_line ∷ []) rest (list_line path) more (version-stands bytes rest b) record { may_follow = tt; begins = l }
 
-pub head-stands : (bytes rest path more : List ℕ) (c : Cause) (after : List ℕ) → Begins bytes version_line rest → Begins rest (list_line path) more → Begins more (cause_line c) after → Stand None bytes (head_lines path c) after
+pub head-stands : (bytes rest path more : List ℕ) (c : Cause) (after : List ℕ) →
+    Begins bytes version_line rest → Begins rest (list_line path) more →
+    Begins more (cause_line c) after → Stand None bytes (head_lines path c) after
 head-stands bytes rest path more c after b l k =
     stand-more None bytes (version_line ∷ list_line path ∷ []) more (cause_line c) after (list-stands bytes rest path more b l) record { may_follow = tt; begins = k }
 
@@ -98,7 +100,8 @@ fault-at-cause bytes rest path more b l none = record {
 }
 
 -- the head and what stands after it
-pub denial-read : (bytes path : List ℕ) (c : Cause) (rest : List ℕ) (rows : List Row) (d : Denial) → length bytes ≤ MAX_DENIAL_BYTES → Stand None bytes (head_lines path c) rest → EndsWithRows rest rows →
+pub denial-read : (bytes path : List ℕ) (c : Cause) (rest : List ℕ) (rows : List Row) (d : Denial) →
+    length bytes ≤ MAX_DENIAL_BYTES → Stand None bytes (head_lines path c) rest → EndsWithRows rest rows →
     d ≡ record { path = path; cause = c; rows = rows } → DenialMeans bytes (is_denial d)
 denial-read bytes path c rest rows d few s t is =
     let tail = map row_line rows ++ end_line ∷ [] in
@@ -128,7 +131,9 @@ too-many-behind bytes path c rest s m = record {
   past = m.past;
 }
 
-pub rows-refused : (bytes path : List ℕ) (c : Cause) (rest : List ℕ) (error : TableError) → length bytes ≤ MAX_DENIAL_BYTES → Stand None bytes (head_lines path c) rest → RefusesRows rest error → Refuses bytes error
+pub rows-refused : (bytes path : List ℕ) (c : Cause) (rest : List ℕ) (error : TableError) →
+    length bytes ≤ MAX_DENIAL_BYTES → Stand None bytes (head_lines path c) rest →
+    RefusesRows rest error → Refuses bytes error
 rows-refused bytes path c rest (Syntax k) few s r = (few, fault-behind bytes path c rest k s (r c))
 rows-refused bytes path c rest Limit few s r = inr (few, too-many-behind bytes path c rest s (r c))
 rows-refused bytes path c rest NoMemory few s r = tt
@@ -149,6 +154,8 @@ answers-err bytes NoMemory m (is_denial d) n = tt
 answers-err bytes NoMemory m (is_fault k) n = tt
 answers-err bytes NoMemory m is_past_limit n = tt
 
-pub answers-result : (bytes : List ℕ) (r : Result Denial TableError) → IfOk r (λ d. DenialMeans bytes (is_denial d)) → IfErr r (λ e. Refuses bytes e) → (o : Outcome) → DenialMeans bytes o → Answers o r
+pub answers-result : (bytes : List ℕ) (r : Result Denial TableError) →
+    IfOk r (λ d. DenialMeans bytes (is_denial d)) → IfErr r (λ e. Refuses bytes e) → (o : Outcome) →
+    DenialMeans bytes o → Answers o r
 answers-result bytes (Ok d) read refused o m = answers-ok bytes d read o m
 answers-result bytes (Err error) read refused o m = answers-err bytes error refused o m

@@ -3,7 +3,7 @@ pub mod ValueWords
 pub mod RowWords
 pub mod Stands
 pub mod RowLines
-pub mod Determined
+pub mod OneLine
 pub mod OneMeaning
 pub mod Heads
 pub mod WrittenLines

@@ -83,7 +83,9 @@ more-stand : (bytes : List ℕ) (rows : List Row) (last : Option Site) (rest : L
 more-stand bytes rows last rest r more h s c =
     stand-more (Some (cause_line c)) bytes (map row_line rows) rest (row_line r) more (h.stand c) (s (last_line (Some (cause_line c)) (map row_line rows)) (h.place c))
 
-pub row-read : (bytes : List ℕ) (rows : List Row) (last : Option Site) (rest : List ℕ) (r : Row) (more : List ℕ) → RowsRead bytes rows last rest → StandsRow last rest r more → RowsRead bytes (rows ++ r ∷ []) (Some r.site) more
+pub row-read : (bytes : List ℕ) (rows : List Row) (last : Option Site) (rest : List ℕ) (r : Row)
+    (more : List ℕ) → RowsRead bytes rows last rest → StandsRow last rest r more →
+    RowsRead bytes (rows ++ r ∷ []) (Some r.site) more
 row-read bytes rows last rest r more h s = record {
   stand = λ c. rw (map-append row_line rows (r ∷ [])) (more-stand bytes rows last rest r more h s c);
   place = λ c. rw (map-append row_line rows (r ∷ []), last-append (Some (cause_line c)) (map row_line rows) (row_line r ∷ [])) refl;
@@ -100,17 +102,28 @@ too-many bytes rows last rest r more room h s all past c = record {
   past = omega (arith, values-of rows, all, past);
 }
 
-end-stands : (bytes : List ℕ) (rows : List Row) (last : Option Site) (rest after : List ℕ) → RowsRead bytes rows last rest → Begins rest end_line after → (c : Cause) → Stand (Some (cause_line c)) bytes (map row_line rows ++ end_line ∷ []) after
+end-stands : (bytes : List ℕ) (rows : List Row) (last : Option Site) (rest after : List ℕ) →
+    RowsRead bytes rows last rest → Begins rest end_line after → (c : Cause) →
+    Stand (Some (cause_line c)) bytes (map row_line rows ++ end_line ∷ []) after
 end-stands bytes rows last rest after h e c =
-    stand-more (Some (cause_line c)) bytes (map row_line rows) rest end_line after (h.stand c) record { may_follow = place-ends (last_line (Some (cause_line c)) (map row_line rows)) last (h.place c); begins = e }
+    stand-more (Some (cause_line c)) bytes (map row_line rows) rest end_line after (h.stand c)
+    record {
+      may_follow = place-ends (last_line (Some (cause_line c)) (map row_line rows)) last
+          (h.place c);
+      begins = e;
+    }
 
-pub rows-end : (bytes : List ℕ) (rows : List Row) (last : Option Site) (rest after : List ℕ) → RowsRead bytes rows last rest → Begins rest end_line after → after ≡ [] → values_in rows ≤ most_values → EndsWithRows bytes rows
+pub rows-end : (bytes : List ℕ) (rows : List Row) (last : Option Site) (rest after : List ℕ) →
+    RowsRead bytes rows last rest → Begins rest end_line after → after ≡ [] →
+    values_in rows ≤ most_values → EndsWithRows bytes rows
 rows-end bytes rows last rest after h e none few = record {
   stand = λ c. let P : List ℕ → Type 0 = λ l. Stand (Some (cause_line c)) bytes (map row_line rows ++ end_line ∷ []) l in subst P none (end-stands bytes rows last rest after h e c);
   few = few;
 }
 
-pub more-behind-end : (bytes : List ℕ) (rows : List Row) (last : Option Site) (rest after : List ℕ) (k : ℕ) → RowsRead bytes rows last rest → Begins rest end_line after → (after ≡ [] → ⊥) → values_in rows ≤ most_values →
+pub more-behind-end : (bytes : List ℕ) (rows : List Row) (last : Option Site) (rest after : List ℕ)
+    (k : ℕ) → RowsRead bytes rows last rest → Begins rest end_line after → (after ≡ [] → ⊥) →
+    values_in rows ≤ most_values →
     k ≡ 4 + length rows → (c : Cause) → IsFaultyBehind c bytes k
 more-behind-end bytes rows last rest after k h e some few is c =
     let ended = last-append (Some (cause_line c)) (map row_line rows) (end_line ∷ []) in
@@ -124,7 +137,9 @@ more-behind-end bytes rows last rest after k h e some few is c =
       cut = λ w. some w.1;
     }
 
-pub no-end : (bytes : List ℕ) (rows : List Row) (last : Option Site) (rest : List ℕ) (k : ℕ) → RowsRead bytes rows last rest → StandsNoRowBehind last rest → BeginsNot end_line rest → values_in rows ≤ most_values →
+pub no-end : (bytes : List ℕ) (rows : List Row) (last : Option Site) (rest : List ℕ) (k : ℕ) →
+    RowsRead bytes rows last rest → StandsNoRowBehind last rest → BeginsNot end_line rest →
+    values_in rows ≤ most_values →
     k ≡ 3 + length rows → (c : Cause) → IsFaultyBehind c bytes k
 no-end bytes rows last rest k h r e few is c =
     let before = last_line (Some (cause_line c)) (map row_line rows) in
@@ -142,5 +157,7 @@ none-short : (xs : List ℕ) → length xs < 1 → xs ≡ []
 none-short [] s = refl
 none-short (x ∷ xs) s = absurd (omega arith)
 
-pub short-end : (bytes : List ℕ) (rows : List Row) (last : Option Site) (rest after : List ℕ) → RowsRead bytes rows last rest → Begins rest end_line after → length after < 1 → values_in rows ≤ most_values → EndsWithRows bytes rows
+pub short-end : (bytes : List ℕ) (rows : List Row) (last : Option Site) (rest after : List ℕ) →
+    RowsRead bytes rows last rest → Begins rest end_line after → length after < 1 →
+    values_in rows ≤ most_values → EndsWithRows bytes rows
 short-end bytes rows last rest after h e short few = rows-end bytes rows last rest after h e (none-short after short) few

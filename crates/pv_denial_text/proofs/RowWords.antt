@@ -12,7 +12,7 @@ use Rattle.pv_cert.specs.Fronts.{IsKind}
 use Rattle.pv_words.specs.Numbers.{IsNumberBefore}
 use Rattle.pv_cert.specs.Lines.{kind_word}
 use Rattle.pv_words.proofs.Cuts.{cut-once, ends-once, feed-behind, holds-none, one-number-before}
-use Rattle.pv_cert.proofs.Determined.{same-site}
+use Rattle.pv_cert.proofs.OneLine.{same-site}
 use Rattle.pv_cert.proofs.EntryWords.{letter-by}
 use Rattle.pv_denial.specs.declared.denials.Row.{Row}
 use Rattle.pv_denial_text.specs.Fronts.{AreValueWords, Begins, BeginsNone, IsRowText, IsSiteBehind}
@@ -46,7 +46,9 @@ parts-of letter behind s rest b =
     let more : behind ≡ behind_kind s rest = cc (l.whole) in
     record { is_kind = l.is_kind ∙ ap (λ b. b ∷ []) same; number = record { within = b.number; whole = more } }
 
-pub site-behind : (line : List ℕ) (letter : ℕ) (behind : List ℕ) (n : ℕ) (rest : List ℕ) (s : Site) → line ≡ letter ∷ 32 ∷ behind → IsNumberBefore behind n rest → IsKind letter s → site_number (plain_site s) ≡ n → IsSiteBehind line s rest
+pub site-behind : (line : List ℕ) (letter : ℕ) (behind : List ℕ) (n : ℕ) (rest : List ℕ)
+    (s : Site) → line ≡ letter ∷ 32 ∷ behind → IsNumberBefore behind n rest → IsKind letter s →
+    site_number (plain_site s) ≡ n → IsSiteBehind line s rest
 site-behind line letter behind n rest s is b kind number = record {
   number = omega (arith, number, b.within);
   whole = is ∙ ap (λ l. letter ∷ 32 ∷ l) (b.whole ∙ ap (λ k. decimal k ++ (32 ∷ rest)) (sym number)) ∙ ap (λ k. k ++ (32 ∷ behind_kind s rest)) (sym kind);
@@ -55,7 +57,9 @@ site-behind line letter behind n rest s is b kind number = record {
 pub no-letter : (line : List ℕ) → ((letter : ℕ) (rest : List ℕ) → line ≢ letter ∷ 32 ∷ rest) → (s : Site) (rest : List ℕ) → IsSiteBehind line s rest → ⊥
 no-letter line none s rest b = let l = has-letter line s rest b in none l.letter _ l.whole
 
-pub no-number : (line : List ℕ) (letter : ℕ) (behind : List ℕ) → line ≡ letter ∷ 32 ∷ behind → ((n : ℕ) (rest : List ℕ) → IsNumberBefore behind n rest → ⊥) → (s : Site) (rest : List ℕ) → IsSiteBehind line s rest → ⊥
+pub no-number : (line : List ℕ) (letter : ℕ) (behind : List ℕ) → line ≡ letter ∷ 32 ∷ behind →
+    ((n : ℕ) (rest : List ℕ) → IsNumberBefore behind n rest → ⊥) → (s : Site) (rest : List ℕ) →
+    IsSiteBehind line s rest → ⊥
 no-number line letter behind is none s rest b =
     let P : List ℕ → Type 0 = λ l. IsSiteBehind l s rest in
     none (site_number (plain_site s)) rest (parts-of letter behind s rest (subst P is b)).number
@@ -76,7 +80,9 @@ one-site line s t x y b c =
     let other = has-letter line t y c in
     let letters : one.letter ≡ other.letter = cc (one.whole, other.whole) in
     let behind : behind_kind s x ≡ behind_kind t y = cc (one.whole, other.whole) in
-    let numbers = one-number-before (behind_kind s x) (site_number (plain_site s)) (site_number (plain_site t)) x y record { within = b.number; whole = refl } record { within = c.number; whole = behind } in
+    let numbers = one-number-before (behind_kind s x) (site_number (plain_site s))
+    (site_number (plain_site t)) x y record { within = b.number; whole = refl }
+    record { within = c.number; whole = behind } in
     record { sites = same-site s t other.letter (one.is_kind ∙ ap (λ b. b ∷ []) letters) other.is_kind numbers.numbers; rests = numbers.rests }
 
 -- the words of a row: its site, and its values

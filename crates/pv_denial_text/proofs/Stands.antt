@@ -38,7 +38,9 @@ values-more (q ∷ rows) r = omega (arith, values-more rows r)
 pub stand-none : (before : Option DenialLine) (bytes : List ℕ) → Stand before bytes [] bytes
 stand-none before bytes = record { are_lines = tt; whole = refl }
 
-pub stand-append : (before : Option DenialLine) (bytes : List ℕ) (xs : List DenialLine) (rest : List ℕ) (ys : List DenialLine) (more : List ℕ) → Stand before bytes xs rest → Stand (last_line before xs) rest ys more →
+pub stand-append : (before : Option DenialLine) (bytes : List ℕ) (xs : List DenialLine)
+    (rest : List ℕ) (ys : List DenialLine) (more : List ℕ) → Stand before bytes xs rest →
+    Stand (last_line before xs) rest ys more →
     Stand before bytes (xs ++ ys) more
 stand-append before bytes xs rest ys more s t = record {
   are_lines = are-append before xs ys s.are_lines t.are_lines;
@@ -51,7 +53,9 @@ stand-one before bytes line rest s = record {
   whole = s.begins.whole ∙ ap (λ l. l ++ rest) (sym (append-nil (line_text line)));
 }
 
-pub stand-more : (before : Option DenialLine) (bytes : List ℕ) (xs : List DenialLine) (rest : List ℕ) (line : DenialLine) (more : List ℕ) → Stand before bytes xs rest → Stands (last_line before xs) rest line more →
+pub stand-more : (before : Option DenialLine) (bytes : List ℕ) (xs : List DenialLine)
+    (rest : List ℕ) (line : DenialLine) (more : List ℕ) → Stand before bytes xs rest →
+    Stands (last_line before xs) rest line more →
     Stand before bytes (xs ++ line ∷ []) more
 stand-more before bytes xs rest line more s t = stand-append before bytes xs rest (line ∷ []) more s (stand-one (last_line before xs) rest line more t)
 

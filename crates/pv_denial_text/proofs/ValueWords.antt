@@ -73,7 +73,9 @@ no-last rest (u ∷ []) none other a =
     cc
 no-last rest (u ∷ w ∷ ws) none other a = none u (words (map decimal (w ∷ ws))) record { within = a.in_range.0; whole = a.whole }
 
-pub no-values : (bytes values rest : List ℕ) → HaveRead bytes values rest → ((n : ℕ) (behind : List ℕ) → IsNumberBefore rest n behind → ⊥) → number_spelled rest ≡ None → (all : List ℕ) → AreValueWords bytes all → ⊥
+pub no-values : (bytes values rest : List ℕ) → HaveRead bytes values rest →
+    ((n : ℕ) (behind : List ℕ) → IsNumberBefore rest n behind → ⊥) → number_spelled rest ≡ None →
+    (all : List ℕ) → AreValueWords bytes all → ⊥
 no-values bytes values rest h none other all a = let x = h.back all a in no-last rest x.0 none other x.2
 
 -- bytes are one list of values at most

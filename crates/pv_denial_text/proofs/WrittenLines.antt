@@ -1,5 +1,6 @@
 -- What is written of a denial.
-use Rattle.std.proofs.Common.{List, None, Some, [], ap, append-nil, append_assoc, arith, codes, decimal, drop, drop-cons, get_or, inl, inr, length, map, refl, slice_get, subst, suc, sym, ℕ, ◌+◌, ◌++◌, ◌<◌, ◌∙◌, ◌∷◌, ◌≡◌, ◌≢◌, ◌≤◌, ◌⊎◌}
+use Rattle.std.proofs.Common.{List, None, Some, [], ap, append-nil, append_assoc, arith, codes, decimal, drop, drop-cons, get_or, inl, inr, length}
+use Rattle.std.proofs.Common.{map, refl, slice_get, subst, suc, sym, ℕ, ◌+◌, ◌++◌, ◌<◌, ◌∙◌, ◌∷◌, ◌≡◌, ◌≢◌, ◌≤◌, ◌⊎◌}
 use Rattle.std.proofs.lemmas.Bool.{cases_lt}
 use Rattle.std.proofs.lemmas.Option.{slice_get-get_or, slice_get_within}
 use Rattle.pv_rules.specs.PlainForms.{plain_site}
@@ -22,7 +23,8 @@ words-text : (a : List ℕ) (vs : List ℕ) → words (a ∷ map decimal vs) ≡
 words-text a [] = sym (append-nil a)
 words-text a (v ∷ vs) = ap (λ l. a ++ (codes " " ++ l)) (words-text (decimal v) vs)
 
-pub row-written : (r : Row) (t0 t1 t2 t3 t4 : List ℕ) → t1 ≡ t0 ++ kind_word (plain_site r.site) → t2 ≡ t1 ++ (codes " " ++ decimal (site_number (plain_site r.site))) → t3 ≡ t2 ++ numbers_text r.values →
+pub row-written : (r : Row) (t0 t1 t2 t3 t4 : List ℕ) → t1 ≡ t0 ++ kind_word (plain_site r.site) →
+    t2 ≡ t1 ++ (codes " " ++ decimal (site_number (plain_site r.site))) → t3 ≡ t2 ++ numbers_text r.values →
     t4 ≡ t3 ++ codes "\n" → t4 ≡ t0 ++ line_text (row_line r)
 row-written r t0 t1 t2 t3 t4 e1 e2 e3 e4 =
     let k = kind_word (plain_site r.site) in
@@ -43,7 +45,9 @@ head-text path c =
     let x = codes "cause " ++ (cause_word c ++ codes "\n") in
     ap (λ l. codes "pvdeny 1\nlist " ++ ((p ++ codes "\n") ++ l)) (append-nil x) ∙ ap (λ l. codes "pvdeny 1\nlist " ++ l) (append_assoc p (codes "\n") x)
 
-pub head-written : (path : List ℕ) (c : Cause) (t0 t1 t2 t3 t4 t5 : List ℕ) → t1 ≡ t0 ++ codes "pvdeny 1\nlist " → t2 ≡ t1 ++ path_text path → t3 ≡ t2 ++ codes "\ncause " → t4 ≡ t3 ++ cause_word c → t5 ≡ t4 ++ codes "\n" →
+pub head-written : (path : List ℕ) (c : Cause) (t0 t1 t2 t3 t4 t5 : List ℕ) →
+    t1 ≡ t0 ++ codes "pvdeny 1\nlist " → t2 ≡ t1 ++ path_text path → t3 ≡ t2 ++ codes "\ncause " →
+    t4 ≡ t3 ++ cause_word c → t5 ≡ t4 ++ codes "\n" →
     t5 ≡ t0 ++ lines_text (head_lines path c)
 head-written path c t0 t1 t2 t3 t4 t5 e1 e2 e3 e4 e5 =
     let p = path_text path in
@@ -67,7 +71,9 @@ rows-more rows i r old new all low is wrote so =
     ap (λ l. l ++ L) wrote ∙ append_assoc old T L ∙ ap (λ us. old ++ lines_text (map row_line us)) (sym cut) ∙ so
 
 -- it is in range, as those before it
-pub range-more : (rows : List Row) (i : ℕ) (r : Row) → i < length rows → r ≡ get_or rows i r → (r.values ≢ [] → IsRowInRange r) → ((k : ℕ) (q : Row) → k < i → slice_get rows k ≡ Some q → q.values ≢ [] → IsRowInRange q) →
+pub range-more : (rows : List Row) (i : ℕ) (r : Row) → i < length rows → r ≡ get_or rows i r →
+    (r.values ≢ [] → IsRowInRange r) → ((k : ℕ) (q : Row) → k < i → slice_get rows k ≡ Some q →
+    q.values ≢ [] → IsRowInRange q) →
     (k : ℕ) (q : Row) → k < i + 1 → slice_get rows k ≡ Some q → q.values ≢ [] → IsRowInRange q
 range-more rows i r low is here before k q lt e = by (cases_lt k i)
   where
@@ -85,7 +91,9 @@ range-more rows i r low is here before k q lt e = by (cases_lt k i)
         let Q : Row → Type 0 = λ v. v.values ≢ [] → IsRowInRange v in
         subst Q equal here
 
-pub range-all : (rows : List Row) (i : ℕ) → length rows ≤ i → ((k : ℕ) (q : Row) → k < i → slice_get rows k ≡ Some q → q.values ≢ [] → IsRowInRange q) → EachRow (λ r. r.values ≢ [] → IsRowInRange r) rows
+pub range-all : (rows : List Row) (i : ℕ) → length rows ≤ i → ((k : ℕ) (q : Row) → k < i →
+    slice_get rows k ≡ Some q → q.values ≢ [] → IsRowInRange q) → EachRow (λ r. r.values ≢ [] →
+    IsRowInRange r) rows
 range-all rows i all each k r e = each k r (let n = slice_get_within rows k r e in omega arith) e
 
 -- the lines of rows in order, and the end
@@ -105,7 +113,9 @@ pub denial-lines : (d : Denial) → AreNumbers d.path → AreInOrder d.rows → 
 denial-lines d path order each =
     (tt, tt, (tt, path, (tt, tt, rows-lines d.cause d.rows order.ascend (λ k r e. each k r e (order.some k r e)))))
 
-pub denial-written : (d : Denial) (t1 t2 t3 : List ℕ) → t1 ≡ lines_text (head_lines d.path d.cause) → t2 ≡ t1 ++ lines_text (map row_line d.rows) → t3 ≡ t2 ++ codes "end\n" → t3 ≡ lines_text (lines_of_denial d)
+pub denial-written : (d : Denial) (t1 t2 t3 : List ℕ) →
+    t1 ≡ lines_text (head_lines d.path d.cause) → t2 ≡ t1 ++ lines_text (map row_line d.rows) →
+    t3 ≡ t2 ++ codes "end\n" → t3 ≡ lines_text (lines_of_denial d)
 denial-written d t1 t2 t3 e1 e2 e3 =
     let head = head_lines d.path d.cause in
     let rows = map row_line d.rows in

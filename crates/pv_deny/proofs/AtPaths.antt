@@ -63,7 +63,9 @@ module _ (g : PlainDtd) (root : List ℕ) (doc : PlainDoc Mark) (path : List ℕ
   few_by c rows h (inl e) = (h.by_word e).few
   few_by c rows h (inr n) = let P : List Row → Type 0 = λ v. values_in v ≤ most_values in subst P (sym (h.none n)) (omega arith)
 
-  pub denial_there : (paths : OneListAtPath Mark) → AllByRecursion (IsListForVerdict g) (lists_of doc) → IsFirstImpossible g root (lists_of doc) path → (d : Denial) → d.path ≡ path → IsCause g root at.list d.cause →
+  pub denial_there : (paths : OneListAtPath Mark) → AllByRecursion (IsListForVerdict g)
+      (lists_of doc) → IsFirstImpossible g root (lists_of doc) path → (d : Denial) → d.path ≡ path →
+      IsCause g root at.list d.cause →
       HasRowsBy g (word_of g (forest p.kids.now)) d.cause d.rows → IsDenialOf g root doc d
   denial_there paths narrow first d is_path is_cause rows = record {
     list = at.list;
@@ -80,7 +82,9 @@ module _ (g : PlainDtd) (root : List ℕ) (doc : PlainDoc Mark) (path : List ℕ
     no_rows = rows.none;
   }
 
-  pub too_many_there : (paths : OneListAtPath Mark) → AllByRecursion (IsListForVerdict g) (lists_of doc) → IsFirstImpossible g root (lists_of doc) path → (c : Cause) → IsCause g root at.list c → c ≡ cause.Word →
+  pub too_many_there : (paths : OneListAtPath Mark) → AllByRecursion (IsListForVerdict g)
+      (lists_of doc) → IsFirstImpossible g root (lists_of doc) path → (c : Cause) →
+      IsCause g root at.list c → c ≡ cause.Word →
       HasManyValues g (word_of g (forest p.kids.now)) → HasTooMany g root doc
   too_many_there paths narrow first c is_cause by_word many =
       let P : List PlainToken → Type 0 = λ w. IsLiveWord g w many.live in
@@ -99,7 +103,9 @@ module _ (g : PlainDtd) (root : List ℕ) (doc : PlainDoc Mark) (path : List ℕ
       }
 
 -- a list stands at the path of the first impossible one
-pub stands_there : (g : PlainDtd) (root : List ℕ) (doc : PlainDoc Mark) (path : List ℕ) → IsFirstImpossible g root (lists_of doc) path → ((list : Listed Mark) → Contains (lists_of doc) list → list.path ≡ path → ⊥) → ⊥
+pub stands_there : (g : PlainDtd) (root : List ℕ) (doc : PlainDoc Mark) (path : List ℕ) →
+    IsFirstImpossible g root (lists_of doc) path → ((list : Listed Mark) →
+    Contains (lists_of doc) list → list.path ≡ path → ⊥) → ⊥
 stands_there g root doc path f none =
     let P : List (Listed Mark) → Type 0 = λ ls. Contains ls f.list in
     none f.list (subst P (sym f.is_split) (in_middle f.before f.after f.list)) (sym f.is_path)

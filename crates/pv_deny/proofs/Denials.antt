@@ -24,7 +24,7 @@ use Rattle.pv_denial.specs.declared.denials.Cause.TheVariants as cause
 use Rattle.pv_denial.specs.declared.denials.Denial.{Denial}
 use Rattle.pv_denial.specs.declared.denials.Judged.TheVariants as judged
 use Rattle.pv_rules.specs.Rules.{IsKnownWord}
-use Rattle.pv_denial.proofs.Answering.{live_known}
+use Rattle.pv_denial.proofs.ListJudgements.{live_known}
 use Rattle.pv_reach.specs.Laws.{SpansWithin}
 use Rattle.pv_deny.specs.Denying.{AreFurthestRows}
 use Rattle.pv_deny.specs.Laws.{DenialIsJudged, FurthestIsBarrier}
@@ -60,7 +60,9 @@ module _ (M : Type 0) (spans : SpansWithin) (barrier : FurthestIsBarrier) (words
     no_kids x name no_trees n not m = refl
     no_kids x name (tree t rest) n not m = absurd (not (x, n, m, (λ e. cc)))
 
-    live_by : (s : PlainSite) (o : Owner) (kids : Forest M) → site_of g root o ≡ Some s → IsLiveWord g (word_of g kids) w → (HasKidsInEmpty g o kids → ⊥) → DerivesAt g w s 0 (length w) → IsLiveBy g root o kids
+    live_by : (s : PlainSite) (o : Owner) (kids : Forest M) → site_of g root o ≡ Some s →
+        IsLiveWord g (word_of g kids) w → (HasKidsInEmpty g o kids → ⊥) →
+        DerivesAt g w s 0 (length w) → IsLiveBy g root o kids
     live_by s the_document kids e l not der = by_number (number_of g root) refl e
       where
         by_number : (m : Option ℕ) → number_of g root ≡ m → site_of g root the_document ≡ Some s → IsLiveBy g root the_document kids
@@ -90,7 +92,13 @@ module _ (M : Type 0) (spans : SpansWithin) (barrier : FurthestIsBarrier) (words
         impossible (live_by r.site list.owner list.kids r.is_site is word.2 der)
 
 pub denial_judged : (M : Type 0) → SpansWithin → FurthestIsBarrier → KnownWord M → LiveFollows → OneLiveWord → OwnerIsProductive → PossibleDerives → DenialIsJudged M
-denial_judged M spans barrier words follows one owner possible g root doc d proper is = inr (is.list, is.is_about, judges (is_word M spans barrier words follows one owner possible g root d proper is.list d.cause))
+denial_judged M spans barrier words follows one owner possible g root doc d proper is =
+    inr (
+      is.list,
+      is.is_about,
+      judges (is_word M spans barrier words follows one owner possible g
+          root d proper is.list d.cause),
+    )
   where
     judges : (d.cause ≡ cause.Word) ⊎ (d.cause ≢ cause.Word) → JudgesAt g root d is.list judged.Denied
     judges (inl e) =

@@ -15,20 +15,22 @@ use Rattle.pv_rules.specs.PlainForms.{plain_site}
 use Rattle.pv_rules.specs.Rules.{Goal, IsKnownWord, Rule, over}
 use Rattle.pv_rules.specs.Sites.{HasSite, PlainSite, content_site, name_site, part_site, rest_site}
 use Rattle.pv_rules.proofs.ByKind.{by_kind}
-use Rattle.pv_rules.proofs.Deriving.{spanned}
+use Rattle.pv_rules.proofs.DerivationsMade.{spanned}
 use Rattle.pv_missing.specs.LiveWords.{AreProductiveTokens}
 use Rattle.pv_tables.specs.Tables.{kind_rank, site_number}
 use Rattle.pv_reach.specs.Laws.{SpansWithin}
 use Rattle.pv_denial.specs.Rows.{AreBarrierRows, AreOfOtherSites, EachRow, IsRow, IsSiteBefore, row_of_site, row_value}
 use Rattle.pv_denial.specs.declared.denials.Row.{Row}
-use Rattle.pv_denial.proofs.Rowing.{row_found, row_is, slice_get_below}
+use Rattle.pv_denial.proofs.SiteRows.{row_found, row_is, slice_get_below}
 use Rattle.pv_deny.specs.Denying.{AreFurthestRows, IsFurthestRow}
 
 before_itself : (a b : PlainSite) → a ≡ b → IsSiteBefore a b → ⊥
 before_itself a b e (inl lt) = let k = ap kind_rank e in omega arith
 before_itself a b e (inr (k, lt)) = let n = ap site_number e in omega arith
 
-module _ (spans : SpansWithin) (g : PlainDtd) (w : List PlainToken) (rows : List Row) (proper : IsProperDtd g) (known : IsKnownWord g w) (productive : AreProductiveTokens g w) (are : AreFurthestRows g w rows) where
+module _ (spans : SpansWithin) (g : PlainDtd) (w : List PlainToken) (rows : List Row)
+    (proper : IsProperDtd g) (known : IsKnownWord g w) (productive : AreProductiveTokens g w)
+    (are : AreFurthestRows g w rows) where
   abbrev n : ℕ
   n = length w
 

@@ -94,11 +94,17 @@ module _ (g : PlainDtd) (w : List PlainToken) where
       one_ascending BeforeRow (λ q r. never_both (plain_site q.site) (plain_site r.site)) rows others a.ascend b.ascend (rows_among rows others a b) (rows_among others rows b a)
 
   -- the sites of the rows are all sites that derive something
-  row_site_at : (rows : List Row) (k : ℕ) (s : PlainSite) (o : Option Row) → slice_get rows k ≡ o → slice_get (map (λ (r : Row). plain_site r.site) rows) k ≡ Some s → (r : Row) × (slice_get rows k ≡ Some r) × (plain_site r.site ≡ s)
+  row_site_at : (rows : List Row) (k : ℕ) (s : PlainSite) (o : Option Row) → slice_get rows k ≡ o →
+      slice_get (map (λ (r : Row). plain_site r.site) rows) k ≡ Some s →
+      (r : Row) × (slice_get rows k ≡ Some r) × (plain_site r.site ≡ s)
   row_site_at rows k s None e f =
-      let m : slice_get (map (λ (r : Row). plain_site r.site) rows) k ≡ None = slice_get-map (λ (r : Row). plain_site r.site) rows k ∙ ap (λ v. option_map (λ (r : Row). plain_site r.site) v) e in absurd cc
+      let m : slice_get (map (λ (r : Row). plain_site r.site) rows) k ≡ None =
+      slice_get-map (λ (r : Row). plain_site r.site) rows k
+      ∙ ap (λ v. option_map (λ (r : Row). plain_site r.site) v) e in absurd cc
   row_site_at rows k s (Some r) e f =
-      let m : slice_get (map (λ (r : Row). plain_site r.site) rows) k ≡ Some (plain_site r.site) = slice_get-map (λ (r : Row). plain_site r.site) rows k ∙ ap (λ v. option_map (λ (r : Row). plain_site r.site) v) e in (r, e, cc)
+      let m : slice_get (map (λ (r : Row). plain_site r.site) rows) k ≡ Some (plain_site r.site) =
+      slice_get-map (λ (r : Row). plain_site r.site) rows k
+      ∙ ap (λ v. option_map (λ (r : Row). plain_site r.site) v) e in (r, e, cc)
 
   one_sites : (rows : List Row) (sites : List PlainSite) → AreFurthestRows g w rows → AreDerivingSites g w sites → map (λ (r : Row). plain_site r.site) rows ≡ sites
   one_sites rows sites a b = one_ascending IsSiteBefore never_both (map (λ (r : Row). plain_site r.site) rows) sites up b.ascend among back
@@ -195,7 +201,9 @@ module _ (M : Type 0) (paths : OneListAtPath M) (words : OneLiveWord) (g : Plain
       let Q : List PlainToken → Type 0 = λ v. AreFurthestRows g v d.rows in
       not_many g m.live d.rows m.sites (subst Q lives x.2) m.are_sites a.few m.many
 
-module _ (M : Type 0) (paths : OneListAtPath M) (words : OneLiveWord) (live_lists : IsPotentiallyValidByLists M) (g : PlainDtd) (root : List ℕ) (doc : PlainDoc M) (proper : IsProperDtd g) (proper_doc : IsProperDoc doc) where
+module _ (M : Type 0) (paths : OneListAtPath M) (words : OneLiveWord)
+    (live_lists : IsPotentiallyValidByLists M) (g : PlainDtd) (root : List ℕ) (doc : PlainDoc M)
+    (proper : IsProperDtd g) (proper_doc : IsProperDoc doc) where
   -- a document isn't potentially valid where a list isn't live
   not_possible : (list : Listed M) → Contains (lists_of doc) list → (IsLive g root list → ⊥) → IsPotentiallyValid g root (view doc.root) → ⊥
   not_possible list here not p = not (every (IsLive g root) (lists_of doc) list ((live_lists g root doc proper proper_doc).0 p) here)

@@ -20,7 +20,7 @@ use Rattle.pv_denial.specs.declared.denials.Row.{Row}
 use Rattle.pv_deny.specs.Denying.{AreDerivingSites, AreFurthestRows, DerivesSome, IsFurthestRow}
 use Rattle.pv_deny.specs.Told.{AreToldRows, AreToldSites, IsBelow, IsToldRow, IsTold}
 use Rattle.pv_denial.proofs.Lists.{front_or_end}
-use Rattle.pv_denial.proofs.Rowing.{slice_get_below}
+use Rattle.pv_denial.proofs.SiteRows.{slice_get_below}
 
 -- rows of so many values each
 pub values_in_rows : (rows : List Row) (n : ℕ) → EachRow (λ r. length r.values ≡ n) rows → values_in rows ≡ length rows * n

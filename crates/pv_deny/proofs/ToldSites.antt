@@ -42,7 +42,9 @@ before_here : (rank n : ℕ) (a t : PlainSite) → kind_rank t ≡ rank → site
 before_here rank n a t k m (inl lt) = inl (omega arith)
 before_here rank n a t k m (inr (e, lt)) = inr (omega arith, omega arith)
 
-module _ (g : PlainDtd) (r : Reaches) (rank n : ℕ) (sites : List Site) (are : AreToldSites g r rank n sites) (t : PlainSite) (is_rank : kind_rank t ≡ rank) (is_number : site_number t ≡ n) (law : SitesAreTold) where
+module _ (g : PlainDtd) (r : Reaches) (rank n : ℕ) (sites : List Site) (are : AreToldSites g r rank
+    n sites) (t : PlainSite) (is_rank : kind_rank t ≡ rank) (is_number : site_number t ≡ n)
+    (law : SitesAreTold) where
   -- the site of this number is told
   module _ (site : Site) (is : plain_site site ≡ t) (told : IsTold g r t) where
     one_each : (k : ℕ) (s : Site) → (slice_get sites k ≡ Some s) ⊎ ((k ≡ length sites) × (site ≡ s)) → IsTold g r (plain_site s) × IsBelow rank (n + 1) (plain_site s)
@@ -91,7 +93,9 @@ module _ (g : PlainDtd) (r : Reaches) (rank n : ℕ) (sites : List Site) (are : 
     }
 
 -- all sites of a kind are passed
-pub next_kind : (g : PlainDtd) (r : Reaches) (rank count : ℕ) (sites : List Site) → AreToldSites g r rank count sites → ((s : PlainSite) → HasSite g s → kind_rank s ≡ rank → site_number s < count) → AreToldSites g r (suc rank) 0 sites
+pub next_kind : (g : PlainDtd) (r : Reaches) (rank count : ℕ) (sites : List Site) →
+    AreToldSites g r rank count sites → ((s : PlainSite) → HasSite g s → kind_rank s ≡ rank →
+    site_number s < count) → AreToldSites g r (suc rank) 0 sites
 next_kind g r rank count sites are within = record {
   each = λ k s e. let o = are.each k s e in (o.0, before (plain_site s) o.1);
   ascend = are.ascend;

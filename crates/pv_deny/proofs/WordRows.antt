@@ -20,7 +20,9 @@ use Rattle.pv_denial.specs.declared.denials.Row.{Row}
 use Rattle.pv_deny.specs.Told.{AreToldRows, AreToldSites, HasManyValues, HasRows}
 use Rattle.pv_deny.proofs.RowFacts.{deriving_sites, few_values, furthest_rows, told_each}
 
-module _ (spans : SpansWithin) (follows : LiveFollows) (g : PlainDtd) (plain : PlainDtd) (is_plain : plain ≡ g) (proper : IsProperDtd plain) (w : List PlainToken) (word : List Token) (live : IsLiveWord g w (map plain_token word))
+module _ (spans : SpansWithin) (follows : LiveFollows) (g : PlainDtd) (plain : PlainDtd)
+    (is_plain : plain ≡ g) (proper : IsProperDtd plain) (w : List PlainToken) (word : List Token)
+    (live : IsLiveWord g w (map plain_token word))
     (r : Reaches) (are : AreReaches g (map plain_token word) r) (sites : List Site) (all : AreToldSites g r 4 0 sites) where
   abbrev size : length (map plain_token word) ≡ length word
   size = length-map word plain_token
@@ -39,7 +41,9 @@ module _ (spans : SpansWithin) (follows : LiveFollows) (g : PlainDtd) (plain : P
   }
 
   pub each_told : (k i : ℕ) (s : Site) → slice_get sites k ≡ Some s → i ≤ length word → IsSome (end_told r (plain_site s) i)
-  each_told k i s e le = told_each spans g (map plain_token word) r (subst IsProperDtd is_plain proper) (follows g w (map plain_token word) live).names are sites all k i s e (let n = size in omega arith)
+  each_told k i s e le = told_each spans g (map plain_token word) r
+      (subst IsProperDtd is_plain proper) (follows g w (map plain_token word) live).names are sites
+      all k i s e (let n = size in omega arith)
 
   pub has_rows : (rows : List Row) → AreToldRows r (length word) sites rows → length sites * suc (length word) ≤ most_values → HasRows g w rows
   has_rows rows of few =

@@ -18,7 +18,9 @@ inside_element n m text s = s.before_name ++ (n ++ (s.before_spec ++ (s.spec ++ 
 pub element_whole : (n : List ℕ) (m : NamedModel) (text rest : List ℕ) (s : SpellsElement n m text) → text ++ rest ≡ codes "<!ELEMENT" ++ (inside_element n m text s ++ (62 ∷ rest))
 element_whole n m text rest s = ap (λ t. t ++ rest) s.whole ∙ simp append_assoc
 
-pub mixed_regrouped : (before listed after end : List ℕ) → codes "(" ++ before ++ codes "#PCDATA" ++ listed ++ after ++ (codes ")" ++ end) ≡ (40 ∷ ((before ++ (codes "#PCDATA" ++ (listed ++ after))) ++ codes ")")) ++ end
+pub mixed_regrouped : (before listed after end : List ℕ) → codes "(" ++ before ++ codes "#PCDATA"
+    ++ listed ++ after ++ (codes ")" ++ end)
+    ≡ (40 ∷ ((before ++ (codes "#PCDATA" ++ (listed ++ after))) ++ codes ")")) ++ end
 mixed_regrouped before listed after end = simp append_assoc
 
 -- white space and names pass the test
@@ -70,8 +72,12 @@ module _ (p : ℕ → Bool) (pass : PassMarks p) where
     all_group : (separator : List ℕ) (ps : NamedParts) (text : List ℕ) → list_all p separator ≡ true → SpellsGroup separator ps text → list_all p text ≡ true
     all_group separator no_parts text by s = absurd s
     all_group separator (part q ps) text by s =
-        ap (list_all p) (s.8 ∙ group_regrouped s.0 s.1 s.2 s.3) ∙ (all-append p (codes "(") ((s.0 ++ (s.1 ++ (s.2 ++ s.3))) ++ codes ")") pass.opened (all-append p (s.0 ++ (s.1 ++ (s.2 ++ s.3))) (codes ")")
-        (all-append p s.0 (s.1 ++ (s.2 ++ s.3)) (all_space s.0 s.4) (all-append p s.1 (s.2 ++ s.3) (all_part q s.1 s.5) (all-append p s.2 s.3 (all_others separator ps s.2 by s.6) (all_space s.3 s.7)))) pass.closed))
+        ap (list_all p) (s.8 ∙ group_regrouped s.0 s.1 s.2 s.3)
+        ∙ (all-append p (codes "(") ((s.0 ++ (s.1 ++ (s.2 ++ s.3))) ++ codes ")") pass.opened
+        (all-append p (s.0 ++ (s.1 ++ (s.2 ++ s.3))) (codes ")")
+        (all-append p s.0 (s.1 ++ (s.2 ++ s.3)) (all_space s.0 s.4) (all-append p s.1 (s.2 ++ s.3)
+        (all_part q s.1 s.5) (all-append p s.2 s.3 (all_others separator ps s.2 by s.6)
+        (all_space s.3 s.7)))) pass.closed))
 
     all_others : (separator : List ℕ) (ps : NamedParts) (text : List ℕ) → list_all p separator ≡ true → SpellsOthers separator ps text → list_all p text ≡ true
     all_others separator no_parts text by s = rw s refl
@@ -94,5 +100,9 @@ module _ (p : ℕ → Bool) (pass : PassMarks p) where
 
   pub all_inside : (n : List ℕ) (m : NamedModel) (text : List ℕ) (s : SpellsElement n m text) → list_all p (inside_element n m text s) ≡ true
   all_inside n m text s =
-      all-append p s.before_name (n ++ (s.before_spec ++ (s.spec ++ s.after))) (all_space s.before_name s.space_before_name.space) (all-append p n (s.before_spec ++ (s.spec ++ s.after)) (pass.words.name n s.is_name)
-      (all-append p s.before_spec (s.spec ++ s.after) (all_space s.before_spec s.space_before_spec.space) (all-append p s.spec s.after (all_model m s.spec s.is_spec) (all_space s.after s.space_after))))
+      all-append p s.before_name (n ++ (s.before_spec ++ (s.spec ++ s.after)))
+      (all_space s.before_name s.space_before_name.space) (all-append p n (s.before_spec
+      ++ (s.spec ++ s.after)) (pass.words.name n s.is_name)
+      (all-append p s.before_spec (s.spec ++ s.after)
+      (all_space s.before_spec s.space_before_spec.space) (all-append p s.spec s.after
+      (all_model m s.spec s.is_spec) (all_space s.after s.space_after))))

@@ -7,7 +7,7 @@ use Rattle.std.specs.Str.{bytes_eq}
 use Rattle.std.proofs.lemmas.Bool.{and_parts, or_right}
 use Rattle.pv_dtd.specs.Plain.{place_of}
 use Rattle.pv_dtd.specs.Facts.{are_distinct}
-use Rattle.pv_chars.proofs.Binding.{same_some}
+use Rattle.pv_chars.proofs.ReaderSteps.{same_some}
 
 -- each name has its first place for its number
 abbrev pub AreApart : List (List ℕ) → Type 0
@@ -18,7 +18,9 @@ any_at x [] y e = cc
 any_at x (n ∷ ns) zero e = rw ((bytes_eq-Decides x n).1 (sym (same_some _ _ e))) refl
 any_at x (n ∷ ns) (suc y) e = or_right (bytes_eq x n) (list_any (bytes_eq x) ns) (any_at x ns y e)
 
-later : (n x : List ℕ) (ns : List (List ℕ)) (y : ℕ) (same : Bool) → bytes_eq x n ≡ same → not (list_any (bytes_eq n) ns) ≡ true → slice_get ns y ≡ Some x → place_of ns x ≡ Some y → cond same (Some 0) (option_map suc (place_of ns x)) ≡ Some (suc y)
+later : (n x : List ℕ) (ns : List (List ℕ)) (y : ℕ) (same : Bool) → bytes_eq x n ≡ same →
+    not (list_any (bytes_eq n) ns) ≡ true → slice_get ns y ≡ Some x → place_of ns x ≡ Some y →
+    cond same (Some 0) (option_map suc (place_of ns x)) ≡ Some (suc y)
 later n x ns y true is new at below =
     let there : list_any (bytes_eq n) ns ≡ true = ap (λ m. list_any (bytes_eq m) ns) (sym ((bytes_eq-Decides x n).0 is)) ∙ any_at x ns y at in
     cc

@@ -4,7 +4,7 @@ use Rattle.std.specs.Prelude.{nat_lt, nat_eq}
 use Rattle.std.proofs.lemmas.Bool.{ltb-true, lt-ltb, or_right}
 use Rattle.std.proofs.lemmas.Bool.Decides.{Decides-eqb}
 use Rattle.pv_chars.specs.Scan.{after_bytes}
-use Rattle.pv_chars.proofs.Scanning.{after_bytes_takes}
+use Rattle.pv_chars.proofs.TextScans.{after_bytes_takes}
 use Rattle.pv_dtd.specs.Facts.{MAX_NESTING}
 use Rattle.pv_chars.specs.Declarations.{is_one_of}
 use Rattle.pv_dtd.specs.Kinds.{IsTooDeep, how_many}
@@ -55,10 +55,13 @@ finds_by b bs opened closed false false is at below e =
 
 finds : (bytes : List ℕ) (opened closed : ℕ) → opens_too_many opened closed bytes ≡ true → Opens opened closed bytes
 finds [] opened closed e = let deep = ltb-true (MAX_NESTING + closed) opened e in record { before = []; rest = []; whole = refl; unclosed = refl; deep = omega arith }
-finds (b ∷ bs) opened closed e = finds_by b bs opened closed (nat_lt (MAX_NESTING + closed) opened) (b == 62) refl refl (finds bs (cond (b == 40) (suc opened) opened) (cond (b == 41) (suc closed) closed)) e
+finds (b ∷ bs) opened closed e = finds_by b bs opened closed (nat_lt (MAX_NESTING + closed) opened)
+    (b == 62) refl refl (finds bs (cond (b == 40) (suc opened) opened) (cond (b == 41) (suc closed) closed)) e
 
 -- what it must find
-found : (before rest : List ℕ) (opened closed : ℕ) → not (is_one_of before 62) ≡ true → MAX_NESTING + (closed + how_many 41 before) < opened + how_many 40 before → opens_too_many opened closed (before ++ rest) ≡ true
+found : (before rest : List ℕ) (opened closed : ℕ) → not (is_one_of before 62) ≡ true →
+    MAX_NESTING + (closed + how_many 41 before) < opened + how_many 40 before →
+    opens_too_many opened closed (before ++ rest) ≡ true
 found [] [] opened closed unclosed deep = lt-ltb (MAX_NESTING + closed) opened (omega arith)
 found [] (b ∷ bs) opened closed unclosed deep = let is : nat_lt (MAX_NESTING + closed) opened ≡ true = lt-ltb (MAX_NESTING + closed) opened (omega arith) in rw is refl
 found (b ∷ bs) rest opened closed unclosed deep =
@@ -67,7 +70,10 @@ found (b ∷ bs) rest opened closed unclosed deep =
     (omega (arith, deep, counted (b == 40) opened (how_many 40 bs), counted (b == 41) closed (how_many 41 bs))) in
     or_right (nat_lt (MAX_NESTING + closed) opened) _ (by (b == 62) refl here.0 more)
   where
-    by : (close : Bool) → (b == 62) ≡ close → nat_eq 62 b ≡ false → opens_too_many (cond (b == 40) (suc opened) opened) (cond (b == 41) (suc closed) closed) (bs ++ rest) ≡ true → cond close false (opens_too_many (cond (b == 40) (suc opened) opened) (cond (b == 41) (suc closed) closed) (bs ++ rest)) ≡ true
+    by : (close : Bool) → (b == 62) ≡ close → nat_eq 62 b ≡ false →
+        opens_too_many (cond (b == 40) (suc opened) opened) (cond (b == 41) (suc closed) closed) (bs
+        ++ rest) ≡ true → cond close false (opens_too_many (cond (b == 40) (suc opened) opened)
+        (cond (b == 41) (suc closed) closed) (bs ++ rest)) ≡ true
     by true is other more = let at = (Decides-eqb b 62).0 is in let back = (Decides-eqb 62 b).1 (sym at) in cc
     by false is other more = more
 
@@ -75,7 +81,15 @@ too_deep_by : (place : List ℕ) (o : Option (List ℕ)) → after_bytes (codes 
 too_deep_by place None is e = cc
 too_deep_by place (Some inside) is e =
     let opens = finds inside 0 0 e in
-    record { before = opens.before; rest = opens.rest; whole = after_bytes_takes (codes "<!ELEMENT") place inside is ∙ ap (λ i. codes "<!ELEMENT" ++ i) opens.whole ∙ sym (append_assoc (codes "<!ELEMENT") opens.before opens.rest); unclosed = opens.unclosed; deep = omega (arith, opens.deep) }
+    record {
+      before = opens.before;
+      rest = opens.rest;
+      whole = after_bytes_takes (codes "<!ELEMENT")
+          place inside is ∙ ap (λ i. codes "<!ELEMENT" ++ i) opens.whole
+          ∙ sym (append_assoc (codes "<!ELEMENT") opens.before opens.rest);
+      unclosed = opens.unclosed;
+      deep = omega (arith, opens.deep);
+    }
 
 pub too_deep_read : (place : List ℕ) → is_too_deep place ≡ true → IsTooDeep place
 unfolding is_too_deep

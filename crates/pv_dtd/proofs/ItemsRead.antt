@@ -1,12 +1,13 @@
 -- Items: what is read is spelled so, and what is spelled so is read.
-use Rattle.std.proofs.Common.{◌≡◌, ◌⊎◌, inl, inr, ℕ, suc, ◌-◌, List, [], ◌∷◌, ◌++◌, length, take, codes, Bool, true, false, ◌&&◌, ◌==◌, not, Option, Some, None, refl, sym, ap, ◌∙◌, append_assoc, length-append, subst, arith}
+use Rattle.std.proofs.Common.{◌≡◌, ◌⊎◌, inl, inr, ℕ, suc, ◌-◌, List, [], ◌∷◌, ◌++◌, length, take, codes, Bool, true, false, ◌&&◌, ◌==◌, not, Option}
+use Rattle.std.proofs.Common.{Some, None, refl, sym, ap, ◌∙◌, append_assoc, length-append, subst, arith}
 use Rattle.std.proofs.lemmas.Bool.Decides.{Decides-eqb}
 use Rattle.std.proofs.lemmas.Bool.{and_parts}
 use Rattle.std.proofs.lemmas.List.{take_at}
 use Rattle.std.specs.List.{list_all}
 use Rattle.pv_chars.specs.Spaces.{is_space, IsSpace, IsOptionalSpace}
 use Rattle.pv_chars.specs.Scan.{after_space, after_blank, after_bytes}
-use Rattle.pv_chars.proofs.Scanning.{after_space_takes, after_space-append, after_blank_takes, after_blank-append, after_bytes_takes, after_bytes-append, chosen}
+use Rattle.pv_chars.proofs.TextScans.{after_space_takes, after_space-append, after_blank_takes, after_blank-append, after_bytes_takes, after_bytes-append, chosen}
 use Rattle.pv_chars.proofs.Beginnings.{begins_in_space, begins_behind}
 use Rattle.pv_chars.specs.CharReading.{name_at, is_chars, comment_at, instruction_at, text_declaration_at}
 use Rattle.pv_dtd.specs.Items.{NamedModel, DtdItem, text_declaration, element, skipped, comment, instruction}
@@ -15,14 +16,14 @@ use Rattle.pv_dtd.specs.Spelling.{StandsAt, Spells, SpellsElement, SpellsSkipped
 use Rattle.pv_chars.specs.Declarations.{is_one_of}
 use Rattle.pv_dtd.specs.ItemReading.{or_else, model_at, element_at, skipped_word, after_white, stop_at, where_it_is, after_stop, behind_chars, skipped_at, read_as, front_at, item_at}
 use Rattle.pv_dtd.specs.SoFar.{IsShallow, IsShallowItem}
-use Rattle.pv_chars.proofs.Binding.{bound, same_some}
+use Rattle.pv_chars.proofs.ReaderSteps.{bound, same_some}
 use Rattle.pv_chars.proofs.NameBytes.{is_name_byte, names_have_no_space, name_at_takes, name_at-append, name_begins, space_passes}
 use Rattle.pv_chars.proofs.CharFacts.{chars_are, are_chars, chars_behind_space, comment_takes, comment_at-append, comment_opens, instruction_takes, instruction_at-append, instruction_opens}
 use Rattle.pv_chars.proofs.TextDeclarations.{no_declaration, declaration_takes, text_declaration_at-append, declaration_opens}
 use Rattle.pv_dtd.proofs.PartsSpelled.{goes_on, particles_have_no_space}
 use Rattle.pv_dtd.proofs.ModelsRead.{model_reads}
 use Rattle.pv_dtd.proofs.ModelsSpelled.{model_is_read, model_begins}
-use Rattle.pv_dtd.proofs.Quoted.{Stops, stops_takes, stop_at-append, plain_before}
+use Rattle.pv_dtd.proofs.QuotedText.{Stops, stops_takes, stop_at-append, plain_before}
 
 pub record Begun (front : Bool) (bytes : List ℕ) (x : DtdItem × List ℕ) : Type 0 where
   pub begun : StandsAt front bytes x.0 x.1
@@ -42,7 +43,9 @@ pub either_read : {A : Type 0} (P : A → Type 0) (first second : Option A) (x :
 either_read P first second x e f g = elim (either first second x e).is [ inl a ↦ f a | inr b ↦ g b.1 ]
 
 element_joined : (bytes blank before start name after_name between spec model behind after place rest : List ℕ) →
-    bytes ≡ codes "<!ELEMENT" ++ blank → blank ≡ before ++ start → start ≡ name ++ after_name → after_name ≡ between ++ spec → spec ≡ model ++ behind → behind ≡ after ++ place → place ≡ codes ">" ++ rest →
+    bytes ≡ codes "<!ELEMENT" ++ blank → blank ≡ before ++ start → start ≡ name ++ after_name →
+    after_name ≡ between ++ spec → spec ≡ model ++ behind → behind ≡ after ++ place →
+    place ≡ codes ">" ++ rest →
     bytes ≡ (codes "<!ELEMENT" ++ before ++ name ++ between ++ model ++ after ++ codes ">") ++ rest
 element_joined bytes blank before start name after_name between spec model behind after place rest a b c d e f g = rw (a, b, c, d, e, f, g) (simp append_assoc)
 
@@ -76,13 +79,19 @@ element_read front bytes x e =
           whole = refl;
         };
         may_stand = tt;
-        whole = element_joined bytes blank.value before.space start.value word.value.0 word.value.1 between.space spec.value modelled.text model.value.1 after.space (after_space model.value.1) rest.value
-            (after_bytes_takes (codes "<!ELEMENT") bytes blank.value blank.first) before.whole named.whole between.whole modelled.whole after.whole (after_bytes_takes (codes ">") (after_space model.value.1) rest.value rest.first);
+        whole = element_joined bytes blank.value before.space start.value word.value.0 word.value.1
+            between.space spec.value modelled.text model.value.1 after.space
+            (after_space model.value.1) rest.value
+            (after_bytes_takes (codes "<!ELEMENT") bytes blank.value blank.first) before.whole
+            named.whole between.whole modelled.whole after.whole (after_bytes_takes (codes ">")
+            (after_space model.value.1) rest.value rest.first);
       };
       shallow = modelled.spelled.1;
     }
 
-element_regrouped : (before name between model after rest : List ℕ) → (codes "<!ELEMENT" ++ before ++ name ++ between ++ model ++ after ++ codes ">") ++ rest ≡ codes "<!ELEMENT" ++ (before ++ (name ++ (between ++ (model ++ (after ++ (codes ">" ++ rest))))))
+element_regrouped : (before name between model after rest : List ℕ) → (codes "<!ELEMENT" ++ before
+    ++ name ++ between ++ model ++ after ++ codes ">") ++ rest ≡ codes "<!ELEMENT"
+    ++ (before ++ (name ++ (between ++ (model ++ (after ++ (codes ">" ++ rest))))))
 element_regrouped before name between model after rest = simp append_assoc
 
 element_is_read : (name : List ℕ) (model : NamedModel) (text rest : List ℕ) → SpellsElement name model text → IsShallow model → element_at (text ++ rest) ≡ Some (element name model, rest)
@@ -130,7 +139,9 @@ white_takes (b ∷ bs) rest e = let is = chosen (is_space b) (Some bs) rest e in
 
 pub stop_is : (byte : ℕ) (stop : ℕ × List ℕ) (rest : List ℕ) → where_it_is byte stop ≡ Some rest → stop ≡ (byte, rest)
 unfolding where_it_is
-stop_is byte stop rest e = let is = chosen (stop.0 == byte) (Some stop.1) rest e in let first : stop.0 ≡ byte = (Decides-eqb stop.0 byte).0 is.0 in let second : stop.1 ≡ rest = same_some _ _ is.1 in ap (λ a. (a, stop.1)) first ∙ ap (λ r. (byte, r)) second
+stop_is byte stop rest e = let is = chosen (stop.0 == byte) (Some stop.1) rest e in
+    let first : stop.0 ≡ byte = (Decides-eqb stop.0 byte).0 is.0 in let second : stop.1 ≡ rest =
+    same_some _ _ is.1 in ap (λ a. (a, stop.1)) first ∙ ap (λ r. (byte, r)) second
 
 skipped_joined : (bytes word blank inner text rest : List ℕ) (b : ℕ) → bytes ≡ word ++ blank → blank ≡ b ∷ inner → inner ≡ text ++ 62 ∷ rest → bytes ≡ (word ++ (b ∷ []) ++ text ++ codes ">") ++ rest
 skipped_joined bytes word blank inner text rest b e f g = rw (e, f, g) (simp append_assoc)
@@ -198,7 +209,9 @@ skipped_is_read text rest s = by s.before s.space_before s.whole
         rw (grouped, word_is_taken s.word (b ∷ ((bs ++ s.inside) ++ 62 ∷ rest)) s.is_word, here.0, stops, chars) refl
 
 -- an item that is read as the rest of a text
-read_by : (front : Bool) (bytes : List ℕ) (i : DtdItem) (x : DtdItem × List ℕ) (o : Option (List ℕ)) → ((rest : List ℕ) → o ≡ Some rest → Begun front bytes (i, rest)) → read_as i o ≡ Some x → Begun front bytes x
+read_by : (front : Bool) (bytes : List ℕ) (i : DtdItem) (x : DtdItem × List ℕ)
+    (o : Option (List ℕ)) → ((rest : List ℕ) → o ≡ Some rest → Begun front bytes (i, rest)) →
+    read_as i o ≡ Some x → Begun front bytes x
 unfolding read_as
 read_by front bytes i x None reads f = cc
 read_by front bytes i x (Some rest) reads f = subst (Begun front bytes) (same_some _ _ f) (reads rest refl)
@@ -214,7 +227,16 @@ comment_read : (front : Bool) (bytes rest : List ℕ) → comment_at bytes ≡ S
 comment_read front bytes rest e = let takes = comment_takes bytes rest e in record { begun = record { text = takes.item; spelled = takes.is_item; may_stand = tt; whole = takes.whole }; shallow = tt }
 
 instruction_read : (front : Bool) (bytes rest : List ℕ) → instruction_at bytes ≡ Some rest → Begun front bytes (instruction, rest)
-instruction_read front bytes rest e = let takes = instruction_takes bytes rest e in record { begun = record { text = takes.item; spelled = takes.is_item; may_stand = tt; whole = takes.whole }; shallow = tt }
+instruction_read front bytes rest e = let takes = instruction_takes bytes rest e in
+    record {
+      begun = record {
+        text = takes.item;
+        spelled = takes.is_item;
+        may_stand = tt;
+        whole = takes.whole;
+      };
+      shallow = tt;
+    }
 
 pub item_read : (front : Bool) (bytes : List ℕ) (x : DtdItem × List ℕ) → item_at front bytes ≡ Some x → Begun front bytes x
 unfolding item_at
@@ -232,7 +254,9 @@ no_front false bytes e = refl
 
 not_declared_by : (bytes : List ℕ) (o : Option (List ℕ)) → text_declaration_at bytes ≡ o → after_bytes (codes "<?") bytes ≡ None → o ≡ None
 not_declared_by bytes None is none = refl
-not_declared_by bytes (Some rest) is none = let opens = declaration_opens bytes rest is in let some = after_bytes-append (codes "<?") (codes "xml" ++ opens.0) in let at = ap (after_bytes (codes "<?")) opens.1 in cc
+not_declared_by bytes (Some rest) is none = let opens = declaration_opens bytes rest is in
+    let some = after_bytes-append (codes "<?") (codes "xml" ++ opens.0) in let at =
+    ap (after_bytes (codes "<?")) opens.1 in cc
 
 not_declared : (bytes : List ℕ) → after_bytes (codes "<?") bytes ≡ None → text_declaration_at bytes ≡ None
 not_declared bytes none = not_declared_by bytes (text_declaration_at bytes) refl none
@@ -288,7 +312,13 @@ spelled_is_read front (element n model) text rest s may shallow =
     let none : after_bytes (codes "<?") (text ++ rest) ≡ None = rw s.whole refl in
     let none_too : after_bytes (codes "<!--") (text ++ rest) ≡ None = rw s.whole refl in
     let no_skipped : skipped_at (text ++ rest) ≡ None = rw s.whole refl in
-    rw (no_front front (text ++ rest) (not_declared (text ++ rest) none), no_skipped, no_comment (text ++ rest) none_too, no_instruction (text ++ rest) none) (element_is_read n model text rest s shallow)
+    rw (
+      no_front front (text ++ rest) (not_declared (text ++ rest) none),
+      no_skipped,
+      no_comment (text ++ rest) none_too,
+      no_instruction (text ++ rest) none,
+    )
+    (element_is_read n model text rest s shallow)
 
 pub item_is_read : (front : Bool) (place : List ℕ) (i : DtdItem) (rest : List ℕ) → StandsAt front place i rest → IsShallowItem i → item_at front place ≡ Some (i, rest)
 item_is_read front place i rest b shallow = ap (item_at front) b.whole ∙ spelled_is_read front i b.text rest b.spelled b.may_stand shallow

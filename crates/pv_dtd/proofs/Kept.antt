@@ -1,5 +1,6 @@
 -- What the DTD of ruled items keeps.
-use Rattle.std.proofs.Common.{◌≡◌, ◌≤◌, ◌<◌, ◌+◌, ◌-◌, ℕ, zero, suc, List, [], ◌∷◌, ◌++◌, length, map, Bool, true, Some, unwrap_or, refl, sym, ap, ◌∙◌, subst, length-append, Vec, Global, IsTrue, arith}
+use Rattle.std.proofs.Common.{◌≡◌, ◌≤◌, ◌<◌, ◌+◌, ◌-◌, ℕ, zero, suc, List, [], ◌∷◌, ◌++◌, length, map, Bool, true, Some, unwrap_or, refl, sym, ap}
+use Rattle.std.proofs.Common.{◌∙◌, subst, length-append, Vec, Global, IsTrue, arith}
 use Rattle.std.proofs.lemmas.Bool.{or_right, le-leb}
 use Rattle.std.proofs.lemmas.List.{length-map, map-append}
 use Rattle.std.proofs.lemmas.List.Folds.{list_all-append, list_any-append}
@@ -11,12 +12,15 @@ use Rattle.pv_model.specs.declared.models.ContentModel.{ContentModel}
 use Rattle.pv_model.specs.PlainForms.{plain_model}
 use Rattle.pv_dtd.specs.Plain.{PlainDtd, place_of, parts_in_models, mentions}
 use Rattle.pv_dtd.specs.Facts.{as_dtd, are_names, AreLegalNames, is_short_name, are_distinct, are_known, are_mentioned, nesting, is_formed_model, MAX_TYPES, MAX_PARTS, MAX_NESTING}
-use Rattle.pv_dtd.specs.Items.{NamedPart, name, seq, choice, opt, star, plus, NamedParts, no_parts, part, NamedModel, empty, any, mixed, children, DtdItem, text_declaration, element, skipped, comment, instruction, spelled_in, spelled_in_all, spelled_in_model, mentioned_by, declared_by, declared_in, model_in, models_in, mentioned_in, particles_in, particles_in_all, parts_of_model, parts_of_models}
+use Rattle.pv_dtd.specs.Items.{NamedPart, name, seq, choice, opt, star, plus, NamedParts, no_parts, part, NamedModel, empty, any, mixed, children}
+use Rattle.pv_dtd.specs.Items.{DtdItem, text_declaration, element, skipped, comment, instruction, spelled_in, spelled_in_all, spelled_in_model}
+use Rattle.pv_dtd.specs.Items.{mentioned_by, declared_by, declared_in, model_in, models_in, mentioned_in, particles_in, particles_in_all}
+use Rattle.pv_dtd.specs.Items.{parts_of_model, parts_of_models}
 use Rattle.pv_dtd.specs.Numbering.{with_numbers, model_with_numbers, number_among, each_once, names_of, dtd_of_items}
 use Rattle.pv_dtd.proofs.Once.{distinct-once, once_all, once_one_of, once_fewer, once-distinct, with_names-once}
 use Rattle.pv_dtd.proofs.Apart.{apart_from_distinct}
 use Rattle.pv_dtd.specs.SoFar.{IsSoundItem, AreSoundItems, AreRuled, IsOfItems}
-use Rattle.pv_dtd.proofs.Numbered.{mentions_numbered, nesting_numbered, part_formed, parts_numbered}
+use Rattle.pv_dtd.proofs.NumbersForNames.{mentions_numbered, nesting_numbered, part_formed, parts_numbered}
 use Rattle.pv_dtd.proofs.Among.{AreAmong, among-left, among-right, among_by, any_number, distinct_numbered, known_all, once_has}
 use Rattle.pv_dtd.proofs.NamesKept.{both_short, declared_legal, declared_short, legal-append, mentioned_legal, mentioned_more, mentioned_short, once_legal}
 
@@ -47,7 +51,9 @@ module _ (names : List (List ℕ)) where
   item_formed comment s a = refl
   item_formed instruction s a = refl
 
-  items_formed : (items : List DtdItem) → AreSoundItems items → AreAmong (mentioned_in (models_in items)) names → list_all is_formed_model (map (model_with_numbers (number_among names)) (models_in items)) ≡ true
+  items_formed : (items : List DtdItem) → AreSoundItems items →
+      AreAmong (mentioned_in (models_in items)) names →
+      list_all is_formed_model (map (model_with_numbers (number_among names)) (models_in items)) ≡ true
   items_formed [] s a = refl
   items_formed (i ∷ items) s a =
       let all : AreAmong (mentioned_by i ++ mentioned_in (models_in items)) names = rw (mentioned_more i items) at a in
@@ -98,7 +104,9 @@ module _ (items : List DtdItem) (r : AreRuled items) where
   names = names_of items
 
   all_among : AreAmong mentioned names
-  all_among = among_by mentioned (declared_in items ++ mentioned) names (λ x. once_has x (declared_in items ++ mentioned)) (λ x e. list_any-append (bytes_eq x) (declared_in items) mentioned ∙ or_right (list_any (bytes_eq x) (declared_in items)) (list_any (bytes_eq x) mentioned) e)
+  all_among = among_by mentioned (declared_in items ++ mentioned) names (λ x. once_has x
+      (declared_in items ++ mentioned)) (λ x e. list_any-append (bytes_eq x) (declared_in items)
+      mentioned ∙ or_right (list_any (bytes_eq x) (declared_in items)) (list_any (bytes_eq x) mentioned) e)
 
   pub distinct_kept : are_distinct names ≡ true
   distinct_kept = distinct-once (declared_in items ++ mentioned)
@@ -138,7 +146,10 @@ module _ (items : List DtdItem) (r : AreRuled items) where
       let y = length (dtd_of_items items).models + i in
       let x = slice_index_or names y [] in
       let at : slice_get names y ≡ Some x = slice_get-get_or names y [] (omega arith) in
-      let behind : slice_get (each_once (declared_in items) mentioned) i ≡ Some x = sym (get_behind (declared_in items) (each_once (declared_in items) mentioned) i) ∙ ap (λ n. slice_get (declared_in items ++ each_once (declared_in items) mentioned) (n + i)) (sym models_count) ∙ ap (λ ns. slice_get ns y) (sym names_split) ∙ at in
+      let behind : slice_get (each_once (declared_in items) mentioned) i ≡ Some x =
+      sym (get_behind (declared_in items) (each_once (declared_in items) mentioned) i)
+      ∙ ap (λ n. slice_get (declared_in items ++ each_once (declared_in items) mentioned)
+      (n + i)) (sym models_count) ∙ ap (λ ns. slice_get ns y) (sym names_split) ∙ at in
       let place : place_of names x ≡ Some y = apart_from_distinct names distinct_kept y x at in
       let number : number_among names x ≡ y = ap (λ o. unwrap_or o 0) place in
       ap (list_any (nat_eq y)) (mentions_numbered (number_among names) (models_in items)) ∙ any_number names x mentioned y number (once_one_of x mentioned (declared_in items) i behind)
@@ -187,5 +198,7 @@ module _ (keys : List (Vec ℕ Global)) (models : List ContentModel) (of : IsOfI
   pub held_parts : parts_in_models (as_dtd keys models).models ≤ MAX_PARTS
   held_parts = omega (arith, ap parts_in_models models_are, parts_numbered (number_among (names_of of.0)) (models_in of.0), of.1.few_parts)
 
-pub items_held : (keys : List (Vec ℕ Global)) (models : List ContentModel) (names : List (List ℕ)) → map (λ v. v.items) keys ≡ names → IsOfItems (record { names = names; models = map plain_model models }) → IsOfItems (as_dtd keys models)
+pub items_held : (keys : List (Vec ℕ Global)) (models : List ContentModel) (names : List (List ℕ)) →
+    map (λ v. v.items) keys ≡ names →
+    IsOfItems (record { names = names; models = map plain_model models }) → IsOfItems (as_dtd keys models)
 items_held keys models names seen of = rw seen of

@@ -1,5 +1,5 @@
 -- for other crates:
-pub mod Naming
+pub mod NameSequences
 pub mod Proper
 -- of this crate:
 pub mod Places
@@ -11,24 +11,24 @@ pub mod PartsRead
 pub mod PartsSpelled
 pub mod ModelsRead
 pub mod ModelsSpelled
-pub mod Quoted
+pub mod QuotedText
 pub mod ItemsRead
 pub mod Deep
 pub mod Shallow
 pub mod AllBytes
-pub mod Bounded
+pub mod OpenParentheses
 pub mod Parameters
 pub mod NoParameter
 pub mod OneMeaning
-pub mod Listed
-pub mod Breaking
-pub mod Growing
+pub mod ListedNames
+pub mod BrokenRules
+pub mod GrowingNames
 pub mod SoFar
 pub mod Unbroken
 pub mod SubsetMeaning
 pub mod TextMeaning
-pub mod Telling
-pub mod Numbered
+pub mod ReaderAnswers
+pub mod NumbersForNames
 pub mod Among
 pub mod NamesKept
 pub mod Kept

@@ -27,7 +27,9 @@ onto-push : (members : List NamedPart) (p : NamedPart) (others : NamedParts) →
 onto-push [] p others = refl
 onto-push (q ∷ qs) p others = ap (part q) (onto-push qs p others)
 
-onto_push : (separator : ℕ) (members : List NamedPart) (p : NamedPart) (others : Option (NamedParts × List ℕ)) → group_onto separator (members ++ p ∷ []) others ≡ group_onto separator members (others >>= λ more. Some (part p more.0, more.1))
+onto_push : (separator : ℕ) (members : List NamedPart) (p : NamedPart) (others : Option (NamedParts
+    × List ℕ)) → group_onto separator (members ++ p ∷ []) others ≡ group_onto separator members
+    (others >>= λ more. Some (part p more.0, more.1))
 onto_push separator members p None = refl
 onto_push separator members p (Some more) = ap (λ ps. Some (group_of separator ps, more.1)) (onto-push members p more.0)
 
@@ -38,7 +40,9 @@ module _ (particle : Reader NamedPart) (separator : ℕ) (first : NamedPart) (be
   abbrev the_group : Option (NamedPart × List ℕ)
   the_group = group_from separator first (others_at particle separator (suc (length behind)) behind)
 
-  more_steps : (members : List NamedPart) (rest : List ℕ) (steps : ℕ) → length rest < steps → group_onto separator members (others_at particle separator steps rest) ≡ the_group → IsGroupSoFar particle separator first behind members rest
+  more_steps : (members : List NamedPart) (rest : List ℕ) (steps : ℕ) → length rest < steps →
+      group_onto separator members (others_at particle separator steps rest) ≡ the_group →
+      IsGroupSoFar particle separator first behind members rest
   more_steps members rest zero few same = absurd (omega arith)
   more_steps members rest (suc steps) few same = record { steps = steps; enough = few; same = same }
 
@@ -57,7 +61,9 @@ module _ (particle : Reader NamedPart) (separator : ℕ) (first : NamedPart) (be
         unfolding others_at more_at
         no_member none = sym (sym so_far.same ∙ rw (← at, ← unclosed, ← next, ← inner_at, ← none) refl)
 
-        step : (p : NamedPart) (rest' : List ℕ) → Some (p, rest') ≡ particle inner → others_at particle separator (suc so_far.steps) rest ≡ (others_at particle separator so_far.steps rest' >>= λ more. Some (part p more.0, more.1))
+        step : (p : NamedPart) (rest' : List ℕ) → Some (p, rest') ≡ particle inner →
+            others_at particle separator (suc so_far.steps) rest
+            ≡ (others_at particle separator so_far.steps rest' >>= λ more. Some (part p more.0, more.1))
         unfolding others_at more_at
         step p rest' read = rw (← at, ← unclosed, ← next, ← inner_at, ← read) refl
 

@@ -4,7 +4,7 @@ use Rattle.std.proofs.lemmas.Bool.{and_parts}
 use Rattle.std.specs.List.{list_all}
 use Rattle.pv_chars.specs.Spaces.{IsOptionalSpace}
 use Rattle.pv_chars.specs.Scan.{after_space, after_bytes}
-use Rattle.pv_chars.proofs.Scanning.{after_space_takes, after_bytes_takes}
+use Rattle.pv_chars.proofs.TextScans.{after_space_takes, after_bytes_takes}
 use Rattle.pv_chars.specs.Names.{IsName}
 use Rattle.pv_chars.specs.CharReading.{name_at}
 use Rattle.pv_dtd.specs.Facts.{MAX_NESTING}
@@ -13,7 +13,7 @@ use Rattle.pv_dtd.specs.Spelling.{SpellsPart, SpellsListed, SpellsMixed, SpellsM
 use Rattle.pv_dtd.specs.PartReading.{Reader, particle_at}
 use Rattle.pv_dtd.specs.ItemReading.{names_after_bar, listed_at, after_end, mixed_at, children_at, group_by, group_model_at, model_by, model_at}
 use Rattle.pv_dtd.specs.SoFar.{IsShallow}
-use Rattle.pv_chars.proofs.Binding.{bound, same_some}
+use Rattle.pv_chars.proofs.ReaderSteps.{bound, same_some}
 use Rattle.pv_chars.proofs.NameBytes.{is_name_byte, name_at_takes, name_bytes, name_some}
 use Rattle.pv_dtd.proofs.PartsRead.{Reads, particle_reads}
 
@@ -70,22 +70,44 @@ SpellsShallow m text = SpellsModel m text × IsShallow m
 abbrev pub ReadsModel : List ℕ → NamedModel × List ℕ → Type 0
 ReadsModel bytes f = Reads SpellsShallow bytes f
 
-mixed_joined : (bytes inside before place behind listed after end rest : List ℕ) → bytes ≡ codes "(" ++ inside → inside ≡ before ++ place → place ≡ codes "#PCDATA" ++ behind → behind ≡ listed ++ (after ++ (end ++ rest)) →
+mixed_joined : (bytes inside before place behind listed after end rest : List ℕ) → bytes ≡ codes "("
+    ++ inside → inside ≡ before ++ place → place ≡ codes "#PCDATA" ++ behind → behind ≡ listed
+    ++ (after ++ (end ++ rest)) →
     bytes ≡ (codes "(" ++ before ++ codes "#PCDATA" ++ listed ++ after ++ end) ++ rest
 mixed_joined bytes inside before place behind listed after end rest a b c d = rw (a, b, c, d) (simp append_assoc)
 
-module _ (bytes inside behind : List ℕ) (opened : bytes ≡ codes "(" ++ inside) (data_at : after_bytes (codes "#PCDATA") (after_space inside) ≡ Some behind) (listed : List (List ℕ) × List ℕ) (reads : ReadsListed behind listed) where
+module _ (bytes inside behind : List ℕ) (opened : bytes ≡ codes "(" ++ inside)
+    (data_at : after_bytes (codes "#PCDATA") (after_space inside) ≡ Some behind)
+    (listed : List (List ℕ) × List ℕ) (reads : ReadsListed behind listed) where
   mixed_ended : (end rest : List ℕ) → listed.1 ≡ end ++ rest → ((text : List ℕ) → SpellsMixed listed.0 end text → SpellsModel (mixed listed.0) text) → ReadsModel bytes (mixed listed.0, rest)
   mixed_ended end rest ends spells =
       let before = after_space_takes inside in
       let text = codes "(" ++ before.space ++ codes "#PCDATA" ++ reads.text ++ reads.after ++ end in
       record {
         text = text;
-        spelled = (spells text record { before = before.space; listed = reads.text; after = reads.after; space_before = before.optional; names_listed = reads.spelled; space_after = reads.space_after; whole = refl }, tt);
-        whole = mixed_joined bytes inside before.space (after_space inside) behind reads.text reads.after end rest opened before.whole (after_bytes_takes (codes "#PCDATA") (after_space inside) behind data_at) (reads.whole ∙ ap (λ r. reads.text ++ (reads.after ++ r)) ends);
+        spelled = (
+          spells text
+              record {
+                before = before.space;
+                listed = reads.text;
+                after = reads.after;
+                space_before = before.optional;
+                names_listed = reads.spelled;
+                space_after =
+                    reads.space_after;
+                whole = refl;
+              },
+          tt,
+        );
+        whole = mixed_joined bytes inside before.space (after_space inside) behind reads.text
+            reads.after end rest opened before.whole (after_bytes_takes (codes "#PCDATA")
+            (after_space inside) behind data_at) (reads.whole ∙ ap (λ r. reads.text
+            ++ (reads.after ++ r)) ends);
       }
 
-  after_end_reads : (names : List (List ℕ)) → names ≡ listed.0 → (close : List ℕ) → listed.1 ≡ codes ")" ++ close → (o : Option (List ℕ)) → after_bytes (codes "*") close ≡ o → (rest : List ℕ) → after_end names close o ≡ Some rest → ReadsModel bytes (mixed listed.0, rest)
+  after_end_reads : (names : List (List ℕ)) → names ≡ listed.0 → (close : List ℕ) →
+      listed.1 ≡ codes ")" ++ close → (o : Option (List ℕ)) → after_bytes (codes "*") close ≡ o →
+      (rest : List ℕ) → after_end names close o ≡ Some rest → ReadsModel bytes (mixed listed.0, rest)
   after_end_reads names same close closed (Some after) is rest e =
       let star : close ≡ codes "*" ++ rest = after_bytes_takes (codes "*") close rest (is ∙ e) in
       mixed_ended (codes ")*") rest (closed ∙ ap (λ r. codes ")" ++ r) star) (λ text s. inl s)
@@ -93,7 +115,9 @@ module _ (bytes inside behind : List ℕ) (opened : bytes ≡ codes "(" ++ insid
       mixed_ended (codes ")") rest (closed ∙ ap (λ r. codes ")" ++ r) (same_some _ _ e)) (λ text s. inr (sym same, s))
   after_end_reads (n ∷ ns) same close closed None is rest e = cc
 
-mixed_reads : (bytes inside behind : List ℕ) → bytes ≡ codes "(" ++ inside → after_bytes (codes "#PCDATA") (after_space inside) ≡ Some behind → (f : NamedModel × List ℕ) → mixed_at behind ≡ Some f → ReadsModel bytes f
+mixed_reads : (bytes inside behind : List ℕ) → bytes ≡ codes "(" ++ inside →
+    after_bytes (codes "#PCDATA") (after_space inside) ≡ Some behind → (f : NamedModel × List ℕ) →
+    mixed_at behind ≡ Some f → ReadsModel bytes f
 unfolding mixed_at
 mixed_reads bytes inside behind opened data_at f e =
     let listed = bound (listed_at (suc (length behind)) behind) _ f e in
@@ -131,7 +155,9 @@ children_read bytes inside opened f e =
       whole = r.whole;
     }
 
-group_by_reads : (bytes inside : List ℕ) → bytes ≡ codes "(" ++ inside → (f : NamedModel × List ℕ) (o : Option (List ℕ)) → after_bytes (codes "#PCDATA") (after_space inside) ≡ o → group_by bytes o ≡ Some f → ReadsModel bytes f
+group_by_reads : (bytes inside : List ℕ) → bytes ≡ codes "(" ++ inside →
+    (f : NamedModel × List ℕ) (o : Option (List ℕ)) →
+    after_bytes (codes "#PCDATA") (after_space inside) ≡ o → group_by bytes o ≡ Some f → ReadsModel bytes f
 group_by_reads bytes inside opened f (Some behind) is e = mixed_reads bytes inside behind opened is f e
 group_by_reads bytes inside opened f None is e = children_read bytes inside opened f e
 
@@ -141,7 +167,9 @@ group_reads bytes f e =
     let inside = bound (after_bytes (codes "(") bytes) _ f e in
     group_by_reads bytes inside.value (after_bytes_takes (codes "(") bytes inside.value inside.first) f (after_bytes (codes "#PCDATA") (after_space inside.value)) refl inside.others
 
-model_by_reads : (bytes : List ℕ) (f : NamedModel × List ℕ) (o q : Option (List ℕ)) → after_bytes (codes "EMPTY") bytes ≡ o → after_bytes (codes "ANY") bytes ≡ q → model_by bytes o q ≡ Some f → ReadsModel bytes f
+model_by_reads : (bytes : List ℕ) (f : NamedModel × List ℕ) (o q : Option (List ℕ)) →
+    after_bytes (codes "EMPTY") bytes ≡ o → after_bytes (codes "ANY") bytes ≡ q →
+    model_by bytes o q ≡ Some f → ReadsModel bytes f
 model_by_reads bytes f (Some rest) q is other e =
     subst (ReadsModel bytes) (same_some _ _ e) record { text = codes "EMPTY"; spelled = (refl, tt); whole = after_bytes_takes (codes "EMPTY") bytes rest is }
 model_by_reads bytes f None (Some rest) is other e =

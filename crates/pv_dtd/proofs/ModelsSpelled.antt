@@ -3,7 +3,7 @@ use Rattle.std.proofs.Common.{◌≡◌, ℕ, zero, suc, ◌≤◌, ◌<◌, inl
 use Rattle.std.proofs.lemmas.Bool.Decides.{Decides-eqb}
 use Rattle.pv_chars.specs.Spaces.{is_space, IsOptionalSpace}
 use Rattle.pv_chars.specs.Scan.{after_space, after_bytes}
-use Rattle.pv_chars.proofs.Scanning.{begins, after_space-append}
+use Rattle.pv_chars.proofs.TextScans.{begins, after_space-append}
 use Rattle.pv_chars.proofs.Beginnings.{begins_behind}
 use Rattle.pv_dtd.specs.Facts.{MAX_NESTING}
 use Rattle.pv_dtd.specs.Items.{NamedPart, name, seq, choice, opt, star, plus, NamedParts, no_parts, part, NamedModel, empty, any, mixed, children}
@@ -19,7 +19,9 @@ listed_begin : (names : List (List ℕ)) (text after rest : List ℕ) → Spells
 listed_begin [] text after rest s space = rw s (begins_behind is_name_byte names_have_no_space after (codes ")" ++ rest) space refl)
 listed_begin (n ∷ ns) text after rest s space = rw (s.7, regrouped s.0 124 s.1 n s.2 (after ++ (codes ")" ++ rest))) (begins_behind is_name_byte names_have_no_space s.0 _ s.3 refl)
 
-listed_are_read : (names : List (List ℕ)) (text : List ℕ) → SpellsListed names text → (after rest : List ℕ) (steps : ℕ) → IsOptionalSpace after → length (text ++ (after ++ (codes ")" ++ rest))) < steps →
+listed_are_read : (names : List (List ℕ)) (text : List ℕ) → SpellsListed names text →
+    (after rest : List ℕ) (steps : ℕ) → IsOptionalSpace after →
+    length (text ++ (after ++ (codes ")" ++ rest))) < steps →
     listed_at steps (text ++ (after ++ (codes ")" ++ rest))) ≡ Some (names, codes ")" ++ rest)
 unfolding listed_at
 listed_are_read names text s after rest zero space few = absurd (omega arith)
@@ -37,16 +39,22 @@ listed_are_read (n ∷ ns) text s after rest (suc steps) space few =
     let read_rest = listed_are_read ns s.2 s.6 after rest steps space shorter in
     rw (at_bar, at_name, read_name, read_rest) refl
 
-mixed_regrouped : (before listed after end rest : List ℕ) → (codes "(" ++ before ++ codes "#PCDATA" ++ listed ++ after ++ end) ++ rest ≡ 40 ∷ (before ++ (codes "#PCDATA" ++ (listed ++ (after ++ (end ++ rest)))))
+mixed_regrouped : (before listed after end rest : List ℕ) → (codes "(" ++ before ++ codes "#PCDATA"
+    ++ listed ++ after ++ end) ++ rest ≡ 40 ∷ (before ++ (codes "#PCDATA"
+    ++ (listed ++ (after ++ (end ++ rest)))))
 mixed_regrouped before listed after end rest = simp append_assoc
 
 -- a mixed model whose end, after its ')', is this
-mixed_is_read : (names : List (List ℕ)) (end text : List ℕ) (close : List ℕ) → SpellsMixed names end text → end ≡ codes ")" ++ close → (rest : List ℕ) → after_end names (close ++ rest) (after_bytes (codes "*") (close ++ rest)) ≡ Some rest →
+mixed_is_read : (names : List (List ℕ)) (end text : List ℕ) (close : List ℕ) →
+    SpellsMixed names end text → end ≡ codes ")" ++ close → (rest : List ℕ) →
+    after_end names (close ++ rest) (after_bytes (codes "*") (close ++ rest)) ≡ Some rest →
     model_at (text ++ rest) ≡ Some (mixed names, rest)
 unfolding model_at group_model_at mixed_at
 mixed_is_read names end text close s is rest ends =
     let behind = s.listed ++ (s.after ++ (codes ")" ++ (close ++ rest))) in
-    let all : text ++ rest ≡ 40 ∷ (s.before ++ (codes "#PCDATA" ++ behind)) = ap (λ u. u ++ rest) s.whole ∙ mixed_regrouped s.before s.listed s.after end rest ∙ ap (λ u. 40 ∷ (s.before ++ (codes "#PCDATA" ++ (s.listed ++ (s.after ++ (u ++ rest)))))) is in
+    let all : text ++ rest ≡ 40 ∷ (s.before ++ (codes "#PCDATA" ++ behind)) =
+    ap (λ u. u ++ rest) s.whole ∙ mixed_regrouped s.before s.listed s.after end rest
+    ∙ ap (λ u. 40 ∷ (s.before ++ (codes "#PCDATA" ++ (s.listed ++ (s.after ++ (u ++ rest)))))) is in
     let at_data : after_space (s.before ++ (codes "#PCDATA" ++ behind)) ≡ codes "#PCDATA" ++ behind = after_space-append s.before (codes "#PCDATA" ++ behind) s.space_before refl in
     let read = listed_are_read names s.listed s.names_listed s.after (close ++ rest) (suc (length behind)) s.space_after (omega arith) in
     rw (all, at_data, read, ends) refl
@@ -109,7 +117,9 @@ group_opens (opt p) text group s = more_opens text s.0 (codes "?") s.3 (group_op
 group_opens (star p) text group s = more_opens text s.0 (codes "*") s.3 (group_opens p s.0 group s.2)
 group_opens (plus p) text group s = more_opens text s.0 (codes "+") s.3 (group_opens p s.0 group s.2)
 
-children_are_read : (p : NamedPart) (text : List ℕ) → Opens text → SpellsPart p text → nesting_of p ≤ MAX_NESTING → (rest : List ℕ) → begins goes_on rest ≡ false → model_at (text ++ rest) ≡ Some (children p, rest)
+children_are_read : (p : NamedPart) (text : List ℕ) → Opens text → SpellsPart p text →
+    nesting_of p ≤ MAX_NESTING → (rest : List ℕ) → begins goes_on rest ≡ false →
+    model_at (text ++ rest) ≡ Some (children p, rest)
 unfolding model_at group_model_at children_at
 children_are_read p text o s shallow rest ends =
     let all : text ++ rest ≡ 40 ∷ (o.inside ++ rest) = ap (λ u. u ++ rest) o.opened in

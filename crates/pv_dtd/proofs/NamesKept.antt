@@ -7,7 +7,9 @@ use Rattle.std.specs.List.{list_all, list_any}
 use Rattle.std.specs.Str.{bytes_eq}
 use Rattle.pv_chars.specs.Names.{IsName}
 use Rattle.pv_dtd.specs.Facts.{AreLegalNames, is_short_name}
-use Rattle.pv_dtd.specs.Items.{NamedPart, name, seq, choice, opt, star, plus, NamedParts, no_parts, part, NamedModel, empty, any, mixed, children, DtdItem, text_declaration, element, skipped, comment, instruction, spelled_in, spelled_in_all, spelled_in_model, mentioned_by, declared_by, declared_in, model_in, models_in, mentioned_in}
+use Rattle.pv_dtd.specs.Items.{NamedPart, name, seq, choice, opt, star, plus, NamedParts, no_parts, part, NamedModel, empty, any, mixed, children}
+use Rattle.pv_dtd.specs.Items.{DtdItem, text_declaration, element, skipped, comment, instruction, spelled_in, spelled_in_all, spelled_in_model}
+use Rattle.pv_dtd.specs.Items.{mentioned_by, declared_by, declared_in, model_in, models_in, mentioned_in}
 use Rattle.pv_dtd.specs.Spelling.{SpellsPart, SpellsGroup, SpellsOthers, SpellsListed, SpellsModel}
 use Rattle.pv_dtd.specs.Numbering.{each_once}
 use Rattle.pv_dtd.specs.Kinds.{is_too_long}
@@ -18,7 +20,9 @@ pub legal-append : (xs ys : List (List ℕ)) → AreLegalNames xs → AreLegalNa
 legal-append [] ys a b = b
 legal-append (x ∷ xs) ys a b = (a.0, legal-append xs ys a.1 b)
 
-once_legal_by : (n : List ℕ) (ns seen : List (List ℕ)) (there : Bool) → IsName n → ((seen : List (List ℕ)) → AreLegalNames (each_once seen ns)) → AreLegalNames (cond there (each_once seen ns) (n ∷ each_once (n ∷ seen) ns))
+once_legal_by : (n : List ℕ) (ns seen : List (List ℕ)) (there : Bool) → IsName n →
+    ((seen : List (List ℕ)) → AreLegalNames (each_once seen ns)) →
+    AreLegalNames (cond there (each_once seen ns) (n ∷ each_once (n ∷ seen) ns))
 once_legal_by n ns seen true is below = below seen
 once_legal_by n ns seen false is below = (is, below (n ∷ seen))
 

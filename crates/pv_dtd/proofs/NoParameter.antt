@@ -14,7 +14,7 @@ use Rattle.pv_dtd.proofs.AllBytes.{PassMarks, all_inside, inside_element, elemen
 use Rattle.pv_chars.proofs.CharFacts.{comment_opens, instruction_opens}
 use Rattle.pv_chars.proofs.NameBytes.{is_name_byte, space_passes, name_passes}
 use Rattle.pv_dtd.proofs.Parameters.{parameter_is_read, declaration_is_taken, begins_otherwise}
-use Rattle.pv_dtd.proofs.Quoted.{stop_at-append, plain_before, fewer_stop}
+use Rattle.pv_dtd.proofs.QuotedText.{stop_at-append, plain_before, fewer_stop}
 
 -- a byte that is no quote, doesn't end a declaration and refers to nothing
 abbrev is_plain : ℕ → Bool
@@ -23,7 +23,9 @@ is_plain b = not (is_quote b) && not (ends_or_refers b)
 space_is_plain : (space : List ℕ) → IsOptionalSpace space → list_all is_plain space ≡ true
 space_is_plain = space_passes is_plain record { space = refl; tab = refl; return = refl; feed = refl }
 
-plain_by : (b : ℕ) (double single end refers : Bool) → (b == 34) ≡ double → (b == 39) ≡ single → nat_eq b 62 ≡ end → nat_eq b 37 ≡ refers → is_name_byte b ≡ true → (not (double || single) && not (end || (refers || false))) ≡ true
+plain_by : (b : ℕ) (double single end refers : Bool) → (b == 34) ≡ double → (b == 39) ≡ single →
+    nat_eq b 62 ≡ end → nat_eq b 37 ≡ refers → is_name_byte b ≡ true →
+    (not (double || single) && not (end || (refers || false))) ≡ true
 plain_by b true single end refers p q r t named = let at = ap is_name_byte ((Decides-eqb b 34).0 p) in cc
 plain_by b false true end refers p q r t named = let at = ap is_name_byte ((Decides-eqb b 39).0 q) in cc
 plain_by b false false true refers p q r t named = let at = ap is_name_byte ((Decides-eqb b 62).0 r) in cc
@@ -49,7 +51,9 @@ pass_plain = record {
 }
 
 -- a declaration's word, and a text that ends at the first '>' outside quotes
-declaration_refers_not : (place word inside rest : List ℕ) → (word ≡ codes "<!ELEMENT") ⊎ IsSkippedWord word → IsQuotedText ends_or_refers inside → place ≡ word ++ (inside ++ 62 ∷ rest) → parameter_at place ≡ None
+declaration_refers_not : (place word inside rest : List ℕ) → (word ≡ codes "<!ELEMENT")
+    ⊎ IsSkippedWord word → IsQuotedText ends_or_refers inside → place ≡ word
+    ++ (inside ++ 62 ∷ rest) → parameter_at place ≡ None
 unfolding parameter_at inner_parameter_at where_it_is or_else
 declaration_refers_not place word inside rest is_word is_inside whole =
     let other = begins_otherwise word (inside ++ 62 ∷ rest) is_word in
@@ -59,7 +63,9 @@ element_refers_not : (n : List ℕ) (m : NamedModel) (place text rest : List ℕ
 element_refers_not n m place text rest whole s =
     let inside = inside_element n m text s in
     let quoted : IsQuotedText ends_or_refers (inside ++ []) = plain_before ends_or_refers inside (all_inside is_plain pass_plain n m text s) (nothing refl) in
-    declaration_refers_not place (codes "<!ELEMENT") (inside ++ []) rest (inl refl) quoted (whole ∙ element_whole n m text rest s ∙ ap (λ t. codes "<!ELEMENT" ++ (t ++ 62 ∷ rest)) (sym (append-nil inside)))
+    declaration_refers_not place (codes "<!ELEMENT") (inside ++ []) rest (inl refl) quoted (whole
+    ∙ element_whole n m text rest s ∙ ap (λ t. codes "<!ELEMENT" ++ (t ++ 62 ∷ rest))
+    (sym (append-nil inside)))
 
 fewer_by : (end refers opens : Bool) → (end || (refers || (opens || false))) ≡ false → (end || (refers || false)) ≡ false
 fewer_by true refers opens e = e

@@ -1,15 +1,16 @@
 -- A text has exactly one meaning.
-use Rattle.std.proofs.Common.{◌≡◌, ◌≢◌, ◌<◌, inl, inr, ℕ, zero, suc, List, [], ◌∷◌, ◌++◌, length, codes, Bool, true, false, not, IsTrue, is_some, cond, Option, Some, None, refl, sym, ap, ◌∙◌, append-nil, length-append, subst, arith}
+use Rattle.std.proofs.Common.{◌≡◌, ◌≢◌, ◌<◌, inl, inr, ℕ, zero, suc, List, [], ◌∷◌, ◌++◌, length, codes, Bool, true, false, not, IsTrue, is_some}
+use Rattle.std.proofs.Common.{cond, Option, Some, None, refl, sym, ap, ◌∙◌, append-nil, length-append, subst, arith}
 use Rattle.std.proofs.lemmas.Bool.{cases_order}
 use Rattle.pv_chars.specs.Spaces.{is_space, IsOptionalSpace}
 use Rattle.pv_chars.specs.Scan.{after_space}
-use Rattle.pv_chars.proofs.Scanning.{begins, after_space_takes, after_space-append}
+use Rattle.pv_chars.proofs.TextScans.{begins, after_space_takes, after_space-append}
 use Rattle.pv_dtd.specs.Items.{DtdItem, text_declaration, element, skipped, comment, instruction, declared_in, models_in, parts_of_models}
 use Rattle.pv_dtd.specs.Spelling.{StandsAt, Spells, IsSkippedWord}
 use Rattle.pv_dtd.specs.Kinds.{Kind, parameter, nesting, syntax, twice, mixed_twice, limit, HasParameter, IsTooDeep, HasFault, IsFirstFault, Breaks, rank, declares_again, lists_twice, passes_limit}
 use Rattle.pv_dtd.specs.Meaning.{is_place, HasPlace, is_front, Outcome, is_dtd, faulty, DtdRestMeans, ends, item, fault}
 use Rattle.pv_dtd.specs.ItemReading.{item_at, parameter_at, is_too_deep, early_kind, broken_rule}
-use Rattle.pv_chars.proofs.Binding.{same_some}
+use Rattle.pv_chars.proofs.ReaderSteps.{same_some}
 use Rattle.pv_dtd.proofs.Parameters.{parameter_read, parameter_is_read}
 use Rattle.pv_dtd.proofs.Deep.{too_deep_read, too_deep_is_read}
 use Rattle.pv_dtd.proofs.Shallow.{begins_shallow}
@@ -55,13 +56,17 @@ all_space rest e =
 -- At most one item begins a place that isn't too deep.
 pub same_item : {front : Bool} {place : List ℕ} {i j : DtdItem} {more others : List ℕ} → (IsTooDeep place → ⊥) → StandsAt front place i more → StandsAt front place j others → (i ≡ j) × (more ≡ others)
 same_item {front} {place} {i} {j} {more} {others} shallow a b =
-    let found : Some (i, more) ≡ Some (j, others) = sym (item_is_read front place i more a (begins_shallow front place i more a shallow)) ∙ item_is_read front place j others b (begins_shallow front place j others b shallow) in
+    let found : Some (i, more) ≡ Some (j, others) =
+    sym (item_is_read front place i more a (begins_shallow front place i more a shallow))
+    ∙ item_is_read front place j others b (begins_shallow front place j others b shallow) in
     let pair : (i, more) ≡ (j, others) = same_some _ _ found in
     (ap (λ (x : DtdItem × List ℕ). x.0) pair, ap (λ (x : DtdItem × List ℕ). x.1) pair)
 
 -- Faults that are found before an item is read.
 module _ (before : List DtdItem) (front : Bool) (place : List ℕ) where
-  early_by : (o : Option (List ℕ)) (deep : Bool) → parameter_at place ≡ o → is_too_deep place ≡ deep → (kind : Kind) → cond (is_some o) (Some parameter) (cond deep (Some nesting) None) ≡ Some kind → IsFirstFault before front place kind
+  early_by : (o : Option (List ℕ)) (deep : Bool) → parameter_at place ≡ o →
+      is_too_deep place ≡ deep → (kind : Kind) → cond (is_some o) (Some parameter)
+      (cond deep (Some nesting) None) ≡ Some kind → IsFirstFault before front place kind
   early_by (Some rest) deep p d kind e = subst (IsFirstFault before front place) (same_some _ _ e) record { holds = parameter_read place rest p; first = λ earlier less h. absurd (omega arith) }
   early_by None true p d kind e = subst (IsFirstFault before front place) (same_some _ _ e) record { holds = too_deep_read place d; first = first }
     where
@@ -78,7 +83,9 @@ module _ (before : List DtdItem) (front : Bool) (place : List ℕ) where
   unfolding early_kind
   early_fault kind e = early_by (parameter_at place) (is_too_deep place) refl refl kind e
 
-no_early_by : (place : List ℕ) (o : Option (List ℕ)) (deep : Bool) → parameter_at place ≡ o → is_too_deep place ≡ deep → cond (is_some o) (Some parameter) (cond deep (Some nesting) None) ≡ None → (HasParameter place → ⊥) × (IsTooDeep place → ⊥)
+no_early_by : (place : List ℕ) (o : Option (List ℕ)) (deep : Bool) → parameter_at place ≡ o →
+    is_too_deep place ≡ deep → cond (is_some o) (Some parameter) (cond deep (Some nesting) None)
+    ≡ None → (HasParameter place → ⊥) × (IsTooDeep place → ⊥)
 no_early_by place (Some rest) deep p d e = cc
 no_early_by place None true p d e = cc
 no_early_by place None false p d e = (λ h. let some = parameter_is_read h in let none = ap is_some p in cc, λ t. let some = too_deep_is_read place t in cc)
@@ -117,7 +124,9 @@ module _ (before : List DtdItem) (front : Bool) (place : List ℕ) (early : earl
     abbrev past_limit : DtdItem → Bool
     past_limit = passes_limit (declared_in before) (parts_of_models (models_in before))
 
-    first_by : (t m l : Bool) → again i ≡ t → lists_twice i ≡ m → past_limit i ≡ l → (kind : Kind) → cond t (Some twice) (cond m (Some mixed_twice) (cond l (Some limit) None)) ≡ Some kind → IsFirstFault before front place kind
+    first_by : (t m l : Bool) → again i ≡ t → lists_twice i ≡ m → past_limit i ≡ l → (kind : Kind) →
+        cond t (Some twice) (cond m (Some mixed_twice) (cond l (Some limit) None)) ≡ Some kind →
+        IsFirstFault before front place kind
     first_by true m l a b c kind e = subst (IsFirstFault before front place) (same_some _ _ e) record { holds = breaks again a; first = none }
       where
         none : (earlier : Kind) → rank earlier < 3 → HasFault before front place earlier → ⊥
@@ -151,7 +160,9 @@ module _ (before : List DtdItem) (front : Bool) (place : List ℕ) (early : earl
     unfolding broken_rule
     rule_broken kind e = first_by (again i) (lists_twice i) (past_limit i) refl refl refl kind e
 
-    none_by : (t m l : Bool) → again i ≡ t → lists_twice i ≡ m → past_limit i ≡ l → cond t (Some twice) (cond m (Some mixed_twice) (cond l (Some limit) None)) ≡ None → (kind : Kind) → HasFault before front place kind → ⊥
+    none_by : (t m l : Bool) → again i ≡ t → lists_twice i ≡ m → past_limit i ≡ l →
+        cond t (Some twice) (cond m (Some mixed_twice) (cond l (Some limit) None)) ≡ None →
+        (kind : Kind) → HasFault before front place kind → ⊥
     none_by true m l a b c e kind h = cc
     none_by false true l a b c e kind h = cc
     none_by false false true a b c e kind h = cc
@@ -220,7 +231,9 @@ same_meaning {before} (item g i n m) (item h j q l) =
 same_meaning {before} {rest} (item g i n m) (fault {kind} h f) = absurd (n kind (subst (λ place. HasFault before (is_front before rest) place kind) (sym (same_place g h)) f.holds))
 same_meaning (fault g f) (ends b) = no_place b g
 same_meaning {before} {rest} (fault {kind} g f) (item h i n m) = absurd (n kind (subst (λ place. HasFault before (is_front before rest) place kind) (same_place g h) f.holds))
-same_meaning {before} {rest} (fault {kind} g f) (fault h e) = let kind_is = same_kind (subst (λ place. IsFirstFault before (is_front before rest) place kind) (same_place g h) f) e in ap (λ k. faulty k (length before)) kind_is
+same_meaning {before} {rest} (fault {kind} g f) (fault h e) = let kind_is =
+    same_kind (subst (λ place. IsFirstFault before (is_front before rest) place kind)
+    (same_place g h) f) e in ap (λ k. faulty k (length before)) kind_is
 
 -- And it has some meaning.
 pub record Meant (before : List DtdItem) (rest : List ℕ) : Type 0 where
@@ -250,8 +263,15 @@ goes_shorter : (rest place : List ℕ) → HasPlace rest place → (n : ℕ) →
 goes_shorter rest place g n less = omega (arith, ap length g.whole, length-append g.space place)
 
 module _ (n : ℕ) (below : (before : List DtdItem) (rest : List ℕ) → length rest < n → Meant before rest) (before : List DtdItem) (rest : List ℕ) where
-  meant_item : (place : List ℕ) → HasPlace rest place → length place < suc n → early_kind place ≡ None → (i : DtdItem) (more : List ℕ) → item_at (is_front before rest) place ≡ Some (i, more) → (o : Option Kind) → broken_rule (declared_in before) (parts_of_models (models_in before)) i ≡ o → Meant before rest
-  meant_item place g less early i more is (Some kind) broken = record { outcome = faulty kind (length before); means = fault g (rule_broken before (is_front before rest) place early i more is kind broken) }
+  meant_item : (place : List ℕ) → HasPlace rest place → length place < suc n →
+      early_kind place ≡ None → (i : DtdItem) (more : List ℕ) → item_at (is_front before rest) place
+      ≡ Some (i, more) → (o : Option Kind) →
+      broken_rule (declared_in before) (parts_of_models (models_in before)) i ≡ o → Meant before rest
+  meant_item place g less early i more is (Some kind) broken =
+      record {
+        outcome = faulty kind (length before);
+        means = fault g (rule_broken before (is_front before rest) place early i more is kind broken);
+      }
   meant_item place g less early i more is None kept =
       let begins = item_begins before (is_front before rest) place early i more is in
       let behind = below (before ++ i ∷ []) more (omega (arith, less, shorter (is_front before rest) place i more begins)) in

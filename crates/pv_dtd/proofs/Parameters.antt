@@ -1,12 +1,12 @@
 -- A reference of a parameter entity, or a conditional section: what is read as one is one, and what is one is read.
 use Rattle.std.proofs.Common.{◌≡◌, ◌⊎◌, inl, inr, ℕ, List, ◌∷◌, ◌++◌, codes, true, Some, None, is_some, refl, ◌∙◌, append_assoc}
 use Rattle.pv_chars.specs.Scan.{after_bytes}
-use Rattle.pv_chars.proofs.Scanning.{after_bytes_takes}
+use Rattle.pv_chars.proofs.TextScans.{after_bytes_takes}
 use Rattle.pv_dtd.specs.Spelling.{IsSkippedWord, ends_or_refers}
 use Rattle.pv_dtd.specs.Kinds.{HasParameter, reference, section, inside}
 use Rattle.pv_dtd.specs.ItemReading.{or_else, skipped_word, where_it_is, declaration_word, inner_parameter_at, parameter_at}
-use Rattle.pv_chars.proofs.Binding.{bound}
-use Rattle.pv_dtd.proofs.Quoted.{stop_at-append}
+use Rattle.pv_chars.proofs.ReaderSteps.{bound}
+use Rattle.pv_dtd.proofs.QuotedText.{stop_at-append}
 use Rattle.pv_dtd.proofs.ItemsRead.{either_read, word_takes, after_stop_takes}
 
 -- the word of a declaration in front

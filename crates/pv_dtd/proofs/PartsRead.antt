@@ -1,14 +1,15 @@
 -- A content particle that is read is spelled so.
-use Rattle.std.proofs.Common.{◌≡◌, ℕ, zero, suc, ◌≤◌, List, [], ◌∷◌, ◌++◌, length, codes, ◌==◌, Bool, true, false, cond, Option, Some, None, inl, inr, ◌⊎◌, refl, sym, ap, ◌∙◌, subst, append_assoc, arith}
+use Rattle.std.proofs.Common.{◌≡◌, ℕ, zero, suc, ◌≤◌, List, [], ◌∷◌, ◌++◌, length, codes, ◌==◌, Bool, true, false, cond, Option, Some, None, inl, inr}
+use Rattle.std.proofs.Common.{◌⊎◌, refl, sym, ap, ◌∙◌, subst, append_assoc, arith}
 use Rattle.std.proofs.lemmas.Bool.Decides.{Decides-eqb}
 use Rattle.pv_chars.specs.Spaces.{IsOptionalSpace}
 use Rattle.pv_chars.specs.Scan.{after_space, after_bytes}
-use Rattle.pv_chars.proofs.Scanning.{after_space_takes, after_space-append, after_bytes_takes}
+use Rattle.pv_chars.proofs.TextScans.{after_space_takes, after_space-append, after_bytes_takes}
 use Rattle.pv_chars.specs.CharReading.{name_at}
 use Rattle.pv_dtd.specs.Items.{NamedPart, name, seq, choice, opt, star, plus, NamedParts, no_parts, part}
 use Rattle.pv_dtd.specs.Spelling.{SpellsPart, SpellsGroup, SpellsOthers, IsUnrepeated, member_count, nesting_of, nesting_of_all}
 use Rattle.pv_dtd.specs.PartReading.{Reader, word_at, with_operator, more_at, others_by, others_at, separator_at, group_of, group_at, bare_by, too_deep, particle_from, bare_at, particle_at}
-use Rattle.pv_chars.proofs.Binding.{bound, same_some}
+use Rattle.pv_chars.proofs.ReaderSteps.{bound, same_some}
 use Rattle.pv_chars.proofs.NameBytes.{name_at_takes}
 
 -- What was read from the front of a text: the bytes that spell it.
@@ -41,7 +42,9 @@ push_byte bytes text b bs e = e ∙ sym (append_assoc text (b ∷ []) bs)
 
 module _ (depth : ℕ) (bytes : List ℕ) (p : NamedPart) where
   -- what stands before the operator is spelled, and the operator is one of three
-  operator_reads : (b : ℕ) (bs : List ℕ) (q : NamedPart) → ((text : List ℕ) → SpellsBare depth p text → SpellsWithin depth q (text ++ b ∷ [])) → Reads (SpellsBare depth) bytes (p, b ∷ bs) → Reads (SpellsWithin depth) bytes (q, bs)
+  operator_reads : (b : ℕ) (bs : List ℕ) (q : NamedPart) → ((text : List ℕ) →
+      SpellsBare depth p text → SpellsWithin depth q (text ++ b ∷ [])) →
+      Reads (SpellsBare depth) bytes (p, b ∷ bs) → Reads (SpellsWithin depth) bytes (q, bs)
   operator_reads b bs q spells r = record { text = r.text ++ b ∷ []; spelled = spells r.text r.spelled; whole = push_byte bytes r.text b bs r.whole }
 
   no_operator : (rest : List ℕ) → Reads (SpellsBare depth) bytes (p, rest) → Reads (SpellsWithin depth) bytes (p, rest)
@@ -107,7 +110,9 @@ module _ (depth separator : ℕ) (read : Reader NamedPart) (sound : AreParticles
   abbrev AreOthers : Reader NamedParts → Type 0
   AreOthers others = (bytes : List ℕ) (f : NamedParts × List ℕ) → others bytes ≡ Some f → ReadsOthers depth (separator ∷ []) bytes f
 
-  more_read : (others : Reader NamedParts) → AreOthers others → (bytes : List ℕ) (f : NamedParts × List ℕ) → more_at read separator others (after_space bytes) ≡ Some f → ReadsOthers depth (separator ∷ []) bytes f
+  more_read : (others : Reader NamedParts) → AreOthers others → (bytes : List ℕ) (f : NamedParts
+      × List ℕ) → more_at read separator others (after_space bytes) ≡ Some f →
+      ReadsOthers depth (separator ∷ []) bytes f
   unfolding more_at
   more_read others below bytes f e =
       let behind = bound (after_bytes (separator ∷ []) (after_space bytes)) _ f e in
@@ -151,7 +156,9 @@ separator_is [] = inr refl
 separator_is (b ∷ bs) = separator_by (b == 124)
 
 -- a group with '|' has another member
-not_alone : (depth separator : ℕ) (bytes : List ℕ) (ps : NamedParts) (rest : List ℕ) → ReadsOthers depth (separator ∷ []) bytes (ps, rest) → separator_at (after_space bytes) ≡ 124 → 1 ≤ member_count ps
+not_alone : (depth separator : ℕ) (bytes : List ℕ) (ps : NamedParts) (rest : List ℕ) →
+    ReadsOthers depth (separator ∷ []) bytes (ps, rest) → separator_at (after_space bytes) ≡ 124 →
+    1 ≤ member_count ps
 unfolding separator_at
 not_alone depth separator bytes no_parts rest r bar =
     let whole : bytes ≡ r.after ++ (codes ")" ++ rest) = r.whole ∙ ap (λ t. t ++ (r.after ++ (codes ")" ++ rest))) r.spelled in
@@ -161,11 +168,15 @@ not_alone depth separator bytes no_parts rest r bar =
 not_alone depth separator bytes (part p ps) rest r bar = omega arith
 
 -- the pieces of a group, joined
-group_joined : (bytes inside before inner first rest text after end : List ℕ) → bytes ≡ codes "(" ++ inside → inside ≡ before ++ inner → inner ≡ first ++ rest → rest ≡ text ++ (after ++ (codes ")" ++ end)) →
+group_joined : (bytes inside before inner first rest text after end : List ℕ) → bytes ≡ codes "("
+    ++ inside → inside ≡ before ++ inner → inner ≡ first ++ rest → rest ≡ text
+    ++ (after ++ (codes ")" ++ end)) →
     bytes ≡ (codes "(" ++ before ++ first ++ text ++ after ++ codes ")") ++ end
 group_joined bytes inside before inner first rest text after end a b c d = rw (a, b, c, d) (simp append_assoc)
 
-module _ (depth : ℕ) (bytes inside : List ℕ) (first : NamedPart × List ℕ) (others : NamedParts × List ℕ) (opened : bytes ≡ codes "(" ++ inside) (member : Reads (SpellsWithin depth) (after_space inside) first) where
+module _ (depth : ℕ) (bytes inside : List ℕ) (first : NamedPart × List ℕ) (others : NamedParts
+    × List ℕ) (opened : bytes ≡ codes "(" ++ inside) (member : Reads (SpellsWithin depth)
+    (after_space inside) first) where
   group_by : (separator : ℕ) (q : NamedPart) →
       ((text : List ℕ) → SpellsGroup (separator ∷ []) (part first.0 others.0) text → nesting_of first.0 ≤ depth → nesting_of_all others.0 ≤ depth → SpellsBare (suc depth) q text) →
       ReadsOthers depth (separator ∷ []) first.1 others → Reads (SpellsBare (suc depth)) bytes (q, others.1)
@@ -178,7 +189,10 @@ module _ (depth : ℕ) (bytes inside : List ℕ) (first : NamedPart × List ℕ)
         whole = group_joined bytes inside before.space (after_space inside) member.text first.1 rest.text rest.after others.1 opened before.whole member.whole rest.whole;
       }
 
-  group_made : (separator : ℕ) → IsSeparator separator → separator ≡ separator_at (after_space first.1) → ReadsOthers depth (separator ∷ []) first.1 others → Reads (SpellsBare (suc depth)) bytes (group_of separator (part first.0 others.0), others.1)
+  group_made : (separator : ℕ) → IsSeparator separator →
+      separator ≡ separator_at (after_space first.1) →
+      ReadsOthers depth (separator ∷ []) first.1 others → Reads (SpellsBare (suc depth)) bytes
+      (group_of separator (part first.0 others.0), others.1)
   group_made separator (inl bar) is rest =
       let more = not_alone depth separator first.1 others.0 others.1 rest (sym is ∙ bar) in
       let made = group_by 124 (choice (part first.0 others.0)) (λ text s n m. ((omega arith, s), omega arith, tt)) in
@@ -187,7 +201,9 @@ module _ (depth : ℕ) (bytes inside : List ℕ) (first : NamedPart × List ℕ)
       let made = group_by 44 (seq (part first.0 others.0)) (λ text s n m. (s, omega arith, tt)) in
       rw comma (made (rw comma at rest))
 
-groups : (depth : ℕ) (read : Reader NamedPart) → AreParticles depth read → (bytes inside : List ℕ) (f : NamedPart × List ℕ) → bytes ≡ codes "(" ++ inside → group_at read inside ≡ Some f → Reads (SpellsBare (suc depth)) bytes f
+groups : (depth : ℕ) (read : Reader NamedPart) → AreParticles depth read →
+    (bytes inside : List ℕ) (f : NamedPart × List ℕ) → bytes ≡ codes "(" ++ inside →
+    group_at read inside ≡ Some f → Reads (SpellsBare (suc depth)) bytes f
 unfolding group_at
 groups depth read sound bytes inside f opened e =
     let first = bound (read (after_space inside)) _ f e in

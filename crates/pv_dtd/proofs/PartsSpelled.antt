@@ -3,7 +3,7 @@ use Rattle.std.proofs.Common.{◌≡◌, ℕ, zero, suc, ◌≤◌, ◌<◌, Lis
 use Rattle.std.proofs.lemmas.Bool.{or_parts}
 use Rattle.pv_chars.specs.Spaces.{is_space, IsOptionalSpace}
 use Rattle.pv_chars.specs.Scan.{after_space}
-use Rattle.pv_chars.proofs.Scanning.{begins, after_space-append}
+use Rattle.pv_chars.proofs.TextScans.{begins, after_space-append}
 use Rattle.pv_chars.proofs.Beginnings.{HasNoSpace, begins_behind}
 use Rattle.pv_chars.specs.Names.{IsName}
 use Rattle.pv_dtd.specs.Items.{NamedPart, name, seq, choice, opt, star, plus, NamedParts, no_parts, part}
@@ -69,7 +69,9 @@ unfolding particle_from
 bare_is_part p text read depth rest deep ends = rw (read depth rest deep (name_ends rest ends), no_operator p rest ends) refl
 
 -- with one
-operated_is_part : (p q : NamedPart) (text inner : List ℕ) (b : ℕ) → nesting_of q ≡ nesting_of p → is_name_byte b ≡ false → ((rest : List ℕ) → with_operator p (b ∷ rest) ≡ (q, rest)) → text ≡ inner ++ b ∷ [] → BareIsRead p inner → PartIsRead q text
+operated_is_part : (p q : NamedPart) (text inner : List ℕ) (b : ℕ) → nesting_of q ≡ nesting_of p →
+    is_name_byte b ≡ false → ((rest : List ℕ) → with_operator p (b ∷ rest) ≡ (q, rest)) →
+    text ≡ inner ++ b ∷ [] → BareIsRead p inner → PartIsRead q text
 unfolding particle_from
 operated_is_part p q text inner b deep_as other turns whole read depth rest deep ends =
     let all : text ++ rest ≡ inner ++ b ∷ rest = ap (λ t. t ++ rest) whole ∙ append_assoc inner (b ∷ []) rest in
@@ -87,16 +89,24 @@ comma = record { no_white = refl; no_close = refl; ends = refl }
 bar : IsMark 124
 bar = record { no_white = refl; no_close = refl; ends = refl }
 
-pub regrouped : (before : List ℕ) (separator : ℕ) (space next others end : List ℕ) → (before ++ (separator ∷ []) ++ space ++ next ++ others) ++ end ≡ before ++ separator ∷ (space ++ (next ++ (others ++ end)))
+pub regrouped : (before : List ℕ) (separator : ℕ) (space next others end : List ℕ) →
+    (before ++ (separator ∷ []) ++ space ++ next ++ others) ++ end ≡ before ++ separator ∷ (space
+    ++ (next ++ (others ++ end)))
 regrouped before separator space next others end = simp append_assoc
 
-group_regrouped : (before first others after rest : List ℕ) → (codes "(" ++ before ++ first ++ others ++ after ++ codes ")") ++ rest ≡ 40 ∷ (before ++ (first ++ (others ++ (after ++ (codes ")" ++ rest)))))
+group_regrouped : (before first others after rest : List ℕ) → (codes "(" ++ before ++ first
+    ++ others ++ after ++ codes ")") ++ rest ≡ 40 ∷ (before
+    ++ (first ++ (others ++ (after ++ (codes ")" ++ rest)))))
 group_regrouped before first others after rest = simp append_assoc
 
 -- nothing goes on with a particle that other members or the end follow
-others_begin : (separator : ℕ) → IsMark separator → (ps : NamedParts) (text after rest : List ℕ) → SpellsOthers (separator ∷ []) ps text → IsOptionalSpace after → begins goes_on (text ++ (after ++ (codes ")" ++ rest))) ≡ false
+others_begin : (separator : ℕ) → IsMark separator → (ps : NamedParts) (text after rest : List ℕ) →
+    SpellsOthers (separator ∷ []) ps text → IsOptionalSpace after →
+    begins goes_on (text ++ (after ++ (codes ")" ++ rest))) ≡ false
 others_begin separator mark no_parts text after rest s space = rw s (begins_behind goes_on particles_have_no_space after (codes ")" ++ rest) space refl)
-others_begin separator mark (part p ps) text after rest s space = rw (s.8, regrouped s.0 separator s.1 s.2 s.3 (after ++ (codes ")" ++ rest))) (begins_behind goes_on particles_have_no_space s.0 _ s.4 mark.ends)
+others_begin separator mark (part p ps) text after rest s space =
+    rw (s.8, regrouped s.0 separator s.1 s.2 s.3 (after ++ (codes ")" ++ rest)))
+    (begins_behind goes_on particles_have_no_space s.0 _ s.4 mark.ends)
 
 abbrev OthersAreRead : ℕ → NamedParts → List ℕ → Type 0
 OthersAreRead separator ps text = (depth : ℕ) (after rest : List ℕ) (steps : ℕ) → nesting_of_all ps ≤ depth → IsOptionalSpace after → length (text ++ (after ++ (codes ")" ++ rest))) < steps →
@@ -107,7 +117,10 @@ unfolding others_at
 none_are_read separator text none depth after rest zero deep space few = absurd (omega arith)
 none_are_read separator text none depth after rest (suc steps) deep space few = rw (none, after_space-append after (codes ")" ++ rest) space refl) refl
 
-others_are_read : (separator : ℕ) → IsMark separator → (p : NamedPart) (ps : NamedParts) (text before space next others : List ℕ) → IsOptionalSpace before → IsOptionalSpace space → SpellsPart p next → SpellsOthers (separator ∷ []) ps others → text ≡ before ++ (separator ∷ []) ++ space ++ next ++ others →
+others_are_read : (separator : ℕ) → IsMark separator → (p : NamedPart) (ps : NamedParts)
+    (text before space next others : List ℕ) → IsOptionalSpace before → IsOptionalSpace space →
+    SpellsPart p next → SpellsOthers (separator ∷ []) ps others → text ≡ before ++ (separator ∷ [])
+    ++ space ++ next ++ others →
     PartIsRead p next → OthersAreRead separator ps others → OthersAreRead separator (part p ps) text
 unfolding others_at more_at
 others_are_read separator mark p ps text before space next others b c s t whole first below depth after rest zero deep d few = absurd (omega arith)
@@ -129,15 +142,32 @@ others_are_read separator mark p ps text before space next others b c s t whole 
 comma_stands : (ps : NamedParts) (others after rest : List ℕ) → SpellsOthers (44 ∷ []) ps others → IsOptionalSpace after → separator_at (after_space (others ++ (after ++ (codes ")" ++ rest)))) ≡ 44
 unfolding separator_at
 comma_stands no_parts others after rest s space = rw (s, after_space-append after (codes ")" ++ rest) space refl) refl
-comma_stands (part p ps) others after rest s space = rw (s.8, regrouped s.0 44 s.1 s.2 s.3 (after ++ (codes ")" ++ rest)), after_space-append s.0 (44 ∷ (s.1 ++ (s.2 ++ (s.3 ++ (after ++ (codes ")" ++ rest)))))) s.4 refl) refl
+comma_stands (part p ps) others after rest s space =
+    rw (
+      s.8,
+      regrouped s.0 44 s.1 s.2 s.3 (after ++ (codes ")" ++ rest)),
+      after_space-append s.0
+          (44 ∷ (s.1 ++ (s.2 ++ (s.3 ++ (after ++ (codes ")" ++ rest)))))) s.4 refl,
+    ) refl
 
 bar_stands : (ps : NamedParts) (others after rest : List ℕ) → 1 ≤ member_count ps → SpellsOthers (124 ∷ []) ps others → separator_at (after_space (others ++ (after ++ (codes ")" ++ rest)))) ≡ 124
 unfolding separator_at
 bar_stands no_parts others after rest some s = absurd (omega arith)
-bar_stands (part p ps) others after rest some s = rw (s.8, regrouped s.0 124 s.1 s.2 s.3 (after ++ (codes ")" ++ rest)), after_space-append s.0 (124 ∷ (s.1 ++ (s.2 ++ (s.3 ++ (after ++ (codes ")" ++ rest)))))) s.4 refl) refl
+bar_stands (part p ps) others after rest some s =
+    rw (
+      s.8,
+      regrouped s.0 124 s.1 s.2 s.3 (after ++ (codes ")" ++ rest)),
+      after_space-append s.0
+          (124 ∷ (s.1 ++ (s.2 ++ (s.3 ++ (after ++ (codes ")" ++ rest)))))) s.4 refl,
+    ) refl
 
-module _ (separator : ℕ) (p : NamedPart) (ps : NamedParts) (text before first others after : List ℕ) (whole : text ≡ codes "(" ++ before ++ first ++ others ++ after ++ codes ")") (b : IsOptionalSpace before) (s : SpellsPart p first) (t : SpellsOthers (separator ∷ []) ps others) (a : IsOptionalSpace after)
-    (mark : IsMark separator) (stands : (rest : List ℕ) → separator_at (after_space (others ++ (after ++ (codes ")" ++ rest)))) ≡ separator) (member : PartIsRead p first) (more : OthersAreRead separator ps others) where
+module _ (separator : ℕ) (p : NamedPart) (ps : NamedParts) (text before first others after : List ℕ)
+    (whole : text ≡ codes "(" ++ before ++ first ++ others ++ after ++ codes ")")
+    (b : IsOptionalSpace before) (s : SpellsPart p first) (t : SpellsOthers (separator ∷ []) ps
+    others) (a : IsOptionalSpace after)
+    (mark : IsMark separator) (stands : (rest : List ℕ) →
+    separator_at (after_space (others ++ (after ++ (codes ")" ++ rest)))) ≡ separator)
+    (member : PartIsRead p first) (more : OthersAreRead separator ps others) where
   group_is_read : (depth : ℕ) (rest : List ℕ) → nesting_of p ≤ depth → nesting_of_all ps ≤ depth → bare_at (suc depth) (text ++ rest) ≡ Some (group_of separator (part p ps), rest)
   unfolding bare_at group_at
   group_is_read depth rest shallow shallow_rest =
@@ -180,13 +210,17 @@ mutual
   seq_is_read no_parts text s = absurd s
   seq_is_read (part p ps) text s =
       group_is_bare (seq (part p ps)) text (omega arith) (λ depth rest deep.
-      group_is_read 44 p ps text s.0 s.1 s.2 s.3 s.8 s.4 s.5 s.6 s.7 comma (λ rest. comma_stands ps s.2 s.3 rest s.6 s.7) (part_is_read p s.1 s.5) (others_are_all_read 44 comma ps s.2 s.6) depth rest (omega arith) (omega arith))
+      group_is_read 44 p ps text s.0 s.1 s.2 s.3 s.8 s.4 s.5 s.6 s.7 comma
+      (λ rest. comma_stands ps s.2 s.3 rest s.6 s.7) (part_is_read p s.1 s.5)
+      (others_are_all_read 44 comma ps s.2 s.6) depth rest (omega arith) (omega arith))
 
   choice_is_read : (ps : NamedParts) (text : List ℕ) → 2 ≤ member_count ps → SpellsGroup (codes "|") ps text → BareIsRead (choice ps) text
   choice_is_read no_parts text two s = absurd s
   choice_is_read (part p ps) text two s =
       group_is_bare (choice (part p ps)) text (omega arith) (λ depth rest deep.
-      group_is_read 124 p ps text s.0 s.1 s.2 s.3 s.8 s.4 s.5 s.6 s.7 bar (λ rest. bar_stands ps s.2 s.3 rest (omega arith) s.6) (part_is_read p s.1 s.5) (others_are_all_read 124 bar ps s.2 s.6) depth rest (omega arith) (omega arith))
+      group_is_read 124 p ps text s.0 s.1 s.2 s.3 s.8 s.4 s.5 s.6 s.7 bar
+      (λ rest. bar_stands ps s.2 s.3 rest (omega arith) s.6) (part_is_read p s.1 s.5)
+      (others_are_all_read 124 bar ps s.2 s.6) depth rest (omega arith) (omega arith))
 
   others_are_all_read : (separator : ℕ) → IsMark separator → (ps : NamedParts) (text : List ℕ) → SpellsOthers (separator ∷ []) ps text → OthersAreRead separator ps text
   others_are_all_read separator mark no_parts text s = none_are_read separator text s

@@ -28,7 +28,9 @@ place-position x (n ∷ ns) = at_first x n ns (bytes_eq x n) refl (place-positio
 pub place-keys : (x : List ℕ) (keys : List (Vec ℕ Global)) → place_of (map (λ v. v.items) keys) x ≡ position (λ v. bytes_eq x v.items) keys
 place-keys x keys = place-position x _ ∙ position-map (λ v. v.items) (bytes_eq x) keys
 
-pub place-seen : (x : List ℕ) (keys : List (Vec ℕ Global)) (names : List (List ℕ)) → map (λ v. v.items) keys ≡ names → (place : Option ℕ) → place ≡ position (λ v. bytes_eq x v.items) keys → place ≡ place_of names x
+pub place-seen : (x : List ℕ) (keys : List (Vec ℕ Global)) (names : List (List ℕ)) →
+    map (λ v. v.items) keys ≡ names → (place : Option ℕ) →
+    place ≡ position (λ v. bytes_eq x v.items) keys → place ≡ place_of names x
 place-seen x keys names seen place is = is ∙ sym (place-keys x keys) ∙ ap (λ ns. place_of ns x) seen
 
 -- a name that is there keeps its number, and a new one has the next
@@ -62,8 +64,11 @@ next_number n keys x names is seen new = is ∙ sym (length-map keys (λ (v : Ve
 pub holds_name : (x : List ℕ) (keys : List (Vec ℕ Global)) (names : List (List ℕ)) → map (λ v. v.items) keys ≡ names → list_any (λ k. bytes_eq x k.items) keys ≡ is_some (place_of names x)
 holds_name x keys names seen = sym (list_any-map (λ v. v.items) (bytes_eq x) keys) ∙ ap (list_any (bytes_eq x)) seen ∙ sym (is_some-place x names)
 
--- a new name goes at the end the keys
-pub name_inserted : (keys after : List (Vec ℕ Global)) (v : Vec ℕ Global) (x : List ℕ) (names : List (List ℕ)) → map (λ v. v.items) keys ≡ names → v.items ≡ x → None ≡ place_of names x → after ≡ cond (list_any (λ k. bytes_eq v.items k.items) keys) keys (keys ++ v ∷ []) → map (λ v. v.items) after ≡ names_with names x
+-- a new name goes at the end of the keys
+pub name_inserted : (keys after : List (Vec ℕ Global)) (v : Vec ℕ Global) (x : List ℕ)
+    (names : List (List ℕ)) → map (λ v. v.items) keys ≡ names → v.items ≡ x →
+    None ≡ place_of names x → after ≡ cond (list_any (λ k. bytes_eq v.items k.items) keys) keys
+    (keys ++ v ∷ []) → map (λ v. v.items) after ≡ names_with names x
 name_inserted keys after v x names seen is new inserted =
     let any : list_any (λ k. bytes_eq v.items k.items) keys ≡ false = rw is (holds_name x keys names seen ∙ ap is_some (sym new)) in
     let put : after ≡ keys ++ v ∷ [] = inserted ∙ ap (λ b. cond b keys (keys ++ v ∷ [])) any in

@@ -12,7 +12,7 @@ use Rattle.pv_dtd.specs.PlainForms.{plain_dtd}
 use Rattle.pv_dtd.specs.Proper.{AreFullParts, IsFull, IsFullModel, IsProperDtd}
 use Rattle.pv_dtd.specs.declared.dtd.Dtd.{Dtd}
 use Rattle.pv_dtd.proofs.Apart.{apart_from_distinct}
-use Rattle.pv_dtd.proofs.Naming.{get-place}
+use Rattle.pv_dtd.proofs.NameSequences.{get-place}
 
 some_members : (ps : PlainParts) → nat_le 1 (members ps) ≡ true → ps ≢ no_parts
 some_members no_parts e f = absurd cc

@@ -8,7 +8,8 @@ use Rattle.std.proofs.lemmas.Bool.Decides.{Decides-eqb}
 use Rattle.pv_chars.specs.Spaces.{IsOptionalSpace}
 use Rattle.pv_chars.specs.Names.{IsName}
 use Rattle.pv_dtd.specs.Facts.{MAX_NESTING}
-use Rattle.pv_dtd.specs.Items.{NamedPart, name, seq, choice, opt, star, plus, NamedParts, no_parts, part, NamedModel, empty, any, mixed, children, DtdItem, text_declaration, element, skipped, comment, instruction}
+use Rattle.pv_dtd.specs.Items.{NamedPart, name, seq, choice, opt, star, plus, NamedParts, no_parts, part, NamedModel, empty, any, mixed, children}
+use Rattle.pv_dtd.specs.Items.{DtdItem, text_declaration, element, skipped, comment, instruction}
 use Rattle.pv_dtd.specs.Spelling.{StandsAt, SpellsPart, SpellsGroup, SpellsOthers, SpellsElement, nesting_of, nesting_of_all}
 use Rattle.pv_chars.specs.Declarations.{is_one_of}
 use Rattle.pv_dtd.specs.Kinds.{IsTooDeep, how_many}
@@ -36,7 +37,9 @@ pub how_many-append : (byte : ℕ) (a b : List ℕ) → how_many byte (a ++ b) �
 how_many-append byte [] b = omega arith
 how_many-append byte (x ∷ xs) b = by (x == byte) (how_many-append byte xs b)
   where
-    by : (is : Bool) → how_many byte (xs ++ b) ≡ how_many byte xs + how_many byte b → cond is (suc (how_many byte (xs ++ b))) (how_many byte (xs ++ b)) ≡ cond is (suc (how_many byte xs)) (how_many byte xs) + how_many byte b
+    by : (is : Bool) → how_many byte (xs ++ b) ≡ how_many byte xs + how_many byte b →
+        cond is (suc (how_many byte (xs ++ b))) (how_many byte (xs ++ b))
+        ≡ cond is (suc (how_many byte xs)) (how_many byte xs) + how_many byte b
     by true e = omega (arith, e)
     by false e = e
 
@@ -133,13 +136,17 @@ mutual
   group_level separator no_parts text plain s = absurd s
   group_level separator (part p ps) text plain s =
       rw (s.8, group_regrouped s.0 s.1 s.2 s.3) (opened_level (s.0 ++ (s.1 ++ (s.2 ++ s.3)))
-      (level-append s.0 (s.1 ++ (s.2 ++ s.3)) (space_level s.0 s.4) (level-append s.1 (s.2 ++ s.3) (part_level p s.1 s.5) (level-append s.2 s.3 (others_level separator ps s.2 plain s.6) (space_level s.3 s.7)))))
+      (level-append s.0 (s.1 ++ (s.2 ++ s.3)) (space_level s.0 s.4) (level-append s.1 (s.2 ++ s.3)
+      (part_level p s.1 s.5) (level-append s.2 s.3 (others_level separator ps s.2 plain s.6)
+      (space_level s.3 s.7)))))
 
   pub others_level : (separator : List ℕ) (ps : NamedParts) (text : List ℕ) → list_all (λ b. not (is_mark b)) separator ≡ true → SpellsOthers separator ps text → IsLevel text
   others_level separator no_parts text plain s = rw s record { unclosed = refl; level = refl }
   others_level separator (part p ps) text plain s =
       rw (s.8, others_regrouped s.0 separator s.1 s.2 s.3) (level-append s.0 (separator ++ (s.1 ++ (s.2 ++ s.3))) (space_level s.0 s.4)
-      (level-append separator (s.1 ++ (s.2 ++ s.3)) (separator_level separator plain) (level-append s.1 (s.2 ++ s.3) (space_level s.1 s.5) (level-append s.2 s.3 (part_level p s.2 s.6) (others_level separator ps s.3 plain s.7)))))
+      (level-append separator (s.1 ++ (s.2 ++ s.3)) (separator_level separator plain)
+      (level-append s.1 (s.2 ++ s.3) (space_level s.1 s.5) (level-append s.2 s.3
+      (part_level p s.2 s.6) (others_level separator ps s.3 plain s.7)))))
 
 mutual
   part_rises : (p : NamedPart) (text : List ℕ) → SpellsPart p text → Rises (nesting_of p) text
@@ -155,9 +162,13 @@ mutual
   group_rises separator (part p ps) text plain s =
       let behind = s.2 ++ s.3 in
       let first : Rises (nesting_of p) (s.1 ++ behind) = rises_before (nesting_of p) s.1 behind (part_rises p s.1 s.5) in
-      let others : Rises (nesting_of_all ps) (s.1 ++ behind) = rises_behind (nesting_of_all ps) s.1 behind (part_level p s.1 s.5) (rises_before (nesting_of_all ps) s.2 s.3 (others_rise separator ps s.2 plain s.6)) in
+      let others : Rises (nesting_of_all ps) (s.1 ++ behind) = rises_behind (nesting_of_all ps) s.1
+      behind (part_level p s.1 s.5) (rises_before (nesting_of_all ps) s.2 s.3
+      (others_rise separator ps s.2 plain s.6)) in
       let all = rises_behind (max (nesting_of p) (nesting_of_all ps)) s.0 (s.1 ++ behind) (space_level s.0 s.4) (rises_to (nesting_of p) (nesting_of_all ps) (s.1 ++ behind) first others) in
-      rw (s.8, group_regrouped s.0 s.1 s.2 s.3) (rises_in (max (nesting_of p) (nesting_of_all ps)) ((s.0 ++ (s.1 ++ behind)) ++ codes ")") (rises_before (max (nesting_of p) (nesting_of_all ps)) (s.0 ++ (s.1 ++ behind)) (codes ")") all))
+      rw (s.8, group_regrouped s.0 s.1 s.2 s.3) (rises_in (max (nesting_of p) (nesting_of_all ps))
+      ((s.0 ++ (s.1 ++ behind)) ++ codes ")") (rises_before (max (nesting_of p)
+      (nesting_of_all ps)) (s.0 ++ (s.1 ++ behind)) (codes ")") all))
 
   others_rise : (separator : List ℕ) (ps : NamedParts) (text : List ℕ) → list_all (λ b. not (is_mark b)) separator ≡ true → SpellsOthers separator ps text → Rises (nesting_of_all ps) text
   others_rise separator no_parts text plain s = no_rise text
@@ -166,13 +177,18 @@ mutual
       let others : Rises (nesting_of_all ps) (s.2 ++ s.3) = rises_behind (nesting_of_all ps) s.2 s.3 (part_level p s.2 s.6) (others_rise separator ps s.3 plain s.7) in
       let both = rises_to (nesting_of p) (nesting_of_all ps) (s.2 ++ s.3) first others in
       let n = max (nesting_of p) (nesting_of_all ps) in
-      rw (s.8, others_regrouped s.0 separator s.1 s.2 s.3) (rises_behind n s.0 (separator ++ (s.1 ++ (s.2 ++ s.3))) (space_level s.0 s.4) (rises_behind n separator (s.1 ++ (s.2 ++ s.3)) (separator_level separator plain) (rises_behind n s.1 (s.2 ++ s.3) (space_level s.1 s.5) both)))
+      rw (s.8, others_regrouped s.0 separator s.1 s.2 s.3) (rises_behind n s.0 (separator
+      ++ (s.1 ++ (s.2 ++ s.3))) (space_level s.0 s.4) (rises_behind n separator (s.1
+      ++ (s.2 ++ s.3)) (separator_level separator plain) (rises_behind n s.1 (s.2 ++ s.3)
+      (space_level s.1 s.5) both)))
 
 not_false : (test : Bool) → test ≡ false → not test ≡ true
 not_false test e = rw e refl
 
 -- where no place is too deep, no group is
-element_regrouped : (before n between spec after rest : List ℕ) → (codes "<!ELEMENT" ++ before ++ n ++ between ++ spec ++ after ++ codes ">") ++ rest ≡ codes "<!ELEMENT" ++ ((before ++ (n ++ (between ++ spec))) ++ (after ++ (codes ">" ++ rest)))
+element_regrouped : (before n between spec after rest : List ℕ) → (codes "<!ELEMENT" ++ before ++ n
+    ++ between ++ spec ++ after ++ codes ">") ++ rest ≡ codes "<!ELEMENT"
+    ++ ((before ++ (n ++ (between ++ spec))) ++ (after ++ (codes ">" ++ rest)))
 element_regrouped before n between spec after rest = simp append_assoc
 
 deep_by : (n : List ℕ) (p : NamedPart) (place text rest : List ℕ) → place ≡ text ++ rest → (s : SpellsElement n (children p) text) → MAX_NESTING < nesting_of p → IsTooDeep place
@@ -183,7 +199,9 @@ deep_by n p place text rest whole s deep =
     record {
       before = rises.before;
       rest = rises.rest ++ (s.after ++ (codes ">" ++ rest));
-      whole = whole ∙ ap (λ t. t ++ rest) s.whole ∙ element_regrouped s.before_name n s.before_spec s.spec s.after rest ∙ ap (λ t. codes "<!ELEMENT" ++ (t ++ (s.after ++ (codes ">" ++ rest)))) rises.whole ∙ simp append_assoc;
+      whole = whole ∙ ap (λ t. t ++ rest) s.whole ∙ element_regrouped s.before_name n s.before_spec
+          s.spec s.after rest ∙ ap (λ t. codes "<!ELEMENT"
+          ++ (t ++ (s.after ++ (codes ">" ++ rest)))) rises.whole ∙ simp append_assoc;
       unclosed = not_false (is_one_of rises.before 62) rises.unclosed;
       deep = omega (arith, rises.deep, deep);
     }

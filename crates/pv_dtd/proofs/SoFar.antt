@@ -22,7 +22,7 @@ use Rattle.pv_dtd.specs.Plain.{place_of}
 use Rattle.pv_dtd.proofs.Places.{is_some-place}
 use Rattle.pv_dtd.proofs.Distinct.{bytes_eq-swap}
 use Rattle.pv_dtd.proofs.ItemsRead.{item_read}
-use Rattle.pv_dtd.proofs.Breaking.{Keeps, kept}
+use Rattle.pv_dtd.proofs.BrokenRules.{Keeps, kept}
 use Rattle.pv_dtd.proofs.OneMeaning.{goes_to, all_space, no_item, rule_broken, no_rule_broken, early_fault, item_begins}
 
 -- Behind so many items, which declare these names, models and parts, the rest means what the text means.
@@ -95,7 +95,9 @@ pub joined : {A : Type 0} (f : DtdItem → List A) (before : List DtdItem) (i : 
 joined f before i = flat_map-append f before (i ∷ []) ∙ ap (λ xs. flat_map f before ++ xs) (append-nil (f i))
 
 -- ruled items, and after them one that keeps the rules
-pub ruled_more : (before : List DtdItem) (i : DtdItem) → AreRuled before → {front : Bool} {place rest : List ℕ} → StandsAt front place i rest → IsShallowItem i → Keeps (declared_in before) (parts_of_models (models_in before)) i → AreRuled (before ++ i ∷ [])
+pub ruled_more : (before : List DtdItem) (i : DtdItem) → AreRuled before →
+    {front : Bool} {place rest : List ℕ} → StandsAt front place i rest → IsShallowItem i →
+    Keeps (declared_in before) (parts_of_models (models_in before)) i → AreRuled (before ++ i ∷ [])
 ruled_more before i r b shallow k =
     let long = or_parts (list_any is_too_long (declared_by i)) (list_any is_too_long (mentioned_by i)) (sym (list_any-append is_too_long (declared_by i) (mentioned_by i)) ∙ k.short) in
     record {
@@ -105,7 +107,9 @@ ruled_more before i r b shallow k =
       few_parts = omega (arith, ap parts_of_models (joined model_in before i), parts-append (models_in before) (model_in i), parts_of_item i, k.few_parts);
     }
 
-module _ (bytes : List ℕ) (count : ℕ) (names : List (List ℕ)) (models : List NamedModel) (parts : ℕ) (rest : List ℕ) (s : AreSoFar bytes count names models parts rest) (place : List ℕ) (at : place ≡ after_space rest) where
+module _ (bytes : List ℕ) (count : ℕ) (names : List (List ℕ)) (models : List NamedModel) (parts : ℕ)
+    (rest : List ℕ) (s : AreSoFar bytes count names models parts rest) (place : List ℕ) (at : place
+    ≡ after_space rest) where
   pub all_read : place ≡ [] → (items : List DtdItem) × DtdRestMeans [] bytes (is_dtd (dtd_of_items items)) × Declares names models parts items
   all_read none = (s.before, s.behind (is_dtd (dtd_of_items s.before)) (ends (all_space rest (sym at ∙ none))), s.declares)
 
@@ -136,7 +140,9 @@ module _ (bytes : List ℕ) (count : ℕ) (names : List (List ℕ)) (models : Li
       neither = rw (no_reference, not_deep) refl
 
       pub no_item_stands : None ≡ item_at (nat_eq count 0 && is_place rest) place → DtdRestMeans [] bytes (faulty syntax count)
-      no_item_stands none = faulty_is syntax (fault (goes_to rest place at some) (no_item s.before front place neither (ap (λ f. item_at f place) (sym (front_is s.before rest count s.counted)) ∙ sym none)))
+      no_item_stands none = faulty_is syntax (fault (goes_to rest place at some)
+          (no_item s.before front place neither (ap (λ f. item_at f place)
+          (sym (front_is s.before rest count s.counted)) ∙ sym none)))
 
       module _ (i : DtdItem) (more : List ℕ) (read : Some (i, more) ≡ item_at (nat_eq count 0 && is_place rest) place) where
         is_read : item_at front place ≡ Some (i, more)
@@ -151,14 +157,24 @@ module _ (bytes : List ℕ) (count : ℕ) (names : List (List ℕ)) (models : Li
         pub few_more : None ≡ broken_rule names parts i → parts + parts_by i ≤ MAX_PARTS
         few_more keeps = (kept names parts i keeps).few_parts
 
-        pub one_more : None ≡ broken_rule names parts i → (after : List (List ℕ)) → after ≡ with_names names (declared_by i) → (all : List NamedModel) → all ≡ models ++ model_in i → (sum : ℕ) → sum ≡ parts + parts_by i →
+        pub one_more : None ≡ broken_rule names parts i → (after : List (List ℕ)) →
+            after ≡ with_names names (declared_by i) → (all : List NamedModel) → all ≡ models
+            ++ model_in i → (sum : ℕ) → sum ≡ parts + parts_by i →
             length more < length place → length place ≤ length rest → AreSoFar bytes (count + 1) after all sum more
         one_more keeps after is_after all is_all sum is_sum shorter within =
             let k = kept names parts i keeps in
             let begun = item_read front place (i, more) is_read in
             let behind = subst (λ n. Keeps (declared_in s.before) n i) s.declares.parts_are (subst (λ ns. Keeps ns parts i) s.declares.names_are k) in
             let names_are : names ++ declared_by i ≡ declared_in (s.before ++ i ∷ []) = ap (λ ns. ns ++ declared_by i) s.declares.names_are ∙ sym (joined declared_by s.before i) in
-            let parts_are : sum ≡ parts_of_models (models_in (s.before ++ i ∷ [])) = is_sum ∙ omega (arith, s.declares.parts_are, ap parts_of_models (joined model_in s.before i), parts-append (models_in s.before) (model_in i), parts_of_item i) in
+            let parts_are : sum ≡ parts_of_models (models_in (s.before ++ i ∷ [])) = is_sum
+            ∙ omega (
+              arith,
+              s.declares.parts_are,
+              ap parts_of_models (joined model_in s.before i),
+              parts-append (models_in s.before)
+                  (model_in i),
+              parts_of_item i,
+            ) in
             record {
               before = s.before ++ i ∷ [];
               counted = omega (arith, s.counted, length-append s.before (i ∷ []));
@@ -169,5 +185,7 @@ module _ (bytes : List ℕ) (count : ℕ) (names : List (List ℕ)) (models : Li
                 parts_are = parts_are;
               };
               within = omega (arith, s.within, shorter, within);
-              behind = λ o m. s.behind o (item (goes_to rest place at some) (item_begins s.before front place neither i more is_read) (no_rule_broken s.before front place neither i more is_read (rules_are ∙ sym keeps)) m);
+              behind = λ o m. s.behind o (item (goes_to rest place at some)
+                  (item_begins s.before front place neither i more is_read)
+                  (no_rule_broken s.before front place neither i more is_read (rules_are ∙ sym keeps)) m);
             }

@@ -58,7 +58,17 @@ read {before} {rest} (item {place} {more} {i} at begins none m) g e r =
     let behind = read m g e (ruled_more before i r begins shallow (keeps before (is_front before rest) place i more begins none)) in
     record {
       items = i ∷ behind.items;
-      spelled = (at.space, begins.text, more, at.is_space, begins.may_stand, begins.spelled, to_declarations _ behind.items more (not_front before i more) behind.spelled, at.whole ∙ ap (λ t. at.space ++ t) begins.whole ∙ sym (append_assoc at.space begins.text more));
+      spelled = (
+        at.space,
+        begins.text,
+        more,
+        at.is_space,
+        begins.may_stand,
+        begins.spelled,
+        to_declarations _ behind.items more (not_front before i more) behind.spelled,
+        at.whole
+            ∙ ap (λ t. at.space ++ t) begins.whole ∙ sym (append_assoc at.space begins.text more),
+      );
       ruled = subst AreRuled (append_assoc before (i ∷ []) behind.items) behind.ruled;
       is_dtd = behind.is_dtd ∙ ap dtd_of_items (append_assoc before (i ∷ []) behind.items);
     }
@@ -77,7 +87,9 @@ item_is_place skipped text rest s = by s.word s.is_word s.whole
 item_is_place comment text rest s = rw (comment_opens text s).1 refl
 item_is_place instruction text rest s = rw (instruction_opens text s).1 refl
 
-pub means : (items before : List DtdItem) (rest : List ℕ) → SpellsRest (is_front before rest) items rest → AreRuled (before ++ items) → DtdRestMeans before rest (is_dtd (dtd_of_items (before ++ items)))
+pub means : (items before : List DtdItem) (rest : List ℕ) →
+    SpellsRest (is_front before rest) items rest → AreRuled (before ++ items) →
+    DtdRestMeans before rest (is_dtd (dtd_of_items (before ++ items)))
 means [] before rest s r = subst (λ is. DtdRestMeans before rest (is_dtd (dtd_of_items is))) (sym (append-nil before)) (ends s)
 means (i ∷ items) before rest s r =
     let place = s.1 ++ s.2 in

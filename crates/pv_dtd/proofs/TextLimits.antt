@@ -6,13 +6,14 @@ use Rattle.std.proofs.lemmas.List.{length-map}
 use Rattle.std.proofs.lemmas.List.Folds.{list_all-append}
 use Rattle.pv_model.specs.Plain.{PlainModel}
 use Rattle.pv_dtd.specs.Facts.{are_distinct, is_short_name, MAX_NESTING, MAX_DTD_BYTES}
-use Rattle.pv_dtd.specs.Items.{NamedModel, empty, any, mixed, children, DtdItem, text_declaration, element, skipped, comment, instruction, declared_by, declared_in, models_in, mentioned_by, mentioned_in}
+use Rattle.pv_dtd.specs.Items.{NamedModel, empty, any, mixed, children, DtdItem, text_declaration, element, skipped, comment, instruction}
+use Rattle.pv_dtd.specs.Items.{declared_by, declared_in, models_in, mentioned_by, mentioned_in}
 use Rattle.pv_dtd.specs.Spelling.{Spells}
 use Rattle.pv_dtd.specs.Kinds.{is_too_long}
 use Rattle.pv_dtd.specs.Numbering.{dtd_of_items, names_of, number_among, model_with_numbers}
 use Rattle.pv_dtd.specs.DtdTexts.{SpellsDeclarations, SpellsSubset, plain, behind_declaration, ListNoneTwice, nesting_in, KeepsLimits}
 use Rattle.pv_dtd.specs.SoFar.{IsShallow, IsShallowItem, AreSoundItems, AreRuled}
-use Rattle.pv_dtd.proofs.Numbered.{nesting_numbered, parts_numbered}
+use Rattle.pv_dtd.proofs.NumbersForNames.{nesting_numbered, parts_numbered}
 use Rattle.pv_dtd.proofs.NamesKept.{mentioned_more}
 use Rattle.pv_dtd.proofs.Kept.{as_many, short_kept, types_kept}
 use Rattle.pv_dtd.proofs.Once.{all_once}
@@ -61,7 +62,10 @@ module _ (f : List ℕ → ℕ) where
   first_shallow comment items s = (tt, s)
   first_shallow instruction items s = (tt, s)
 
-  sound : (items : List DtdItem) → AllByRecursion IsSpelled items → ListNoneTwice items → list_all is_short_name (declared_in items) ≡ true → list_all is_short_name (mentioned_in (models_in items)) ≡ true → AreShallow (map (model_with_numbers f) (models_in items)) → AreSoundItems items
+  sound : (items : List DtdItem) → AllByRecursion IsSpelled items → ListNoneTwice items →
+      list_all is_short_name (declared_in items) ≡ true →
+      list_all is_short_name (mentioned_in (models_in items)) ≡ true →
+      AreShallow (map (model_with_numbers f) (models_in items)) → AreSoundItems items
   sound [] a b c d e = tt
   sound (i ∷ items) a b c d e =
       let names = all_parts is_short_name (declared_by i) (declared_in items) c in
@@ -95,7 +99,9 @@ limits_kept bytes items few r = record {
   shallow = all_shallow (number_among (names_of items)) items r.sound;
 }
 
-pub ruled : (bytes text : List ℕ) (items : List DtdItem) → SpellsSubset items text → are_distinct (declared_in items) ≡ true → ListNoneTwice items → KeepsLimits bytes (dtd_of_items items) → AreRuled items
+pub ruled : (bytes text : List ℕ) (items : List DtdItem) → SpellsSubset items text →
+    are_distinct (declared_in items) ≡ true → ListNoneTwice items →
+    KeepsLimits bytes (dtd_of_items items) → AreRuled items
 ruled bytes text items s once listed k =
     let f = number_among (names_of items) in
     let short = all_parts is_short_name (declared_in items) (mentioned_in (models_in items)) (all_once is_short_name (declared_in items ++ mentioned_in (models_in items)) [] refl k.short_names) in

@@ -12,15 +12,16 @@ use Rattle.pv_dtd.specs.Items.{DtdItem, text_declaration, element, skipped, comm
 use Rattle.pv_dtd.specs.Kinds.{Kind, parameter, nesting, syntax, twice, mixed_twice, limit, HasFault, Breaks, declares_again, lists_twice, is_too_long, passes_limit}
 use Rattle.pv_dtd.specs.SoFar.{IsShallowItem, IsSoundItem, AreSoundItems, AreRuled}
 use Rattle.pv_dtd.specs.Spelling.{StandsAt}
-use Rattle.pv_dtd.proofs.Bounded.{begins_not_deep}
-use Rattle.pv_dtd.proofs.Breaking.{Keeps, kept_by}
+use Rattle.pv_dtd.proofs.OpenParentheses.{begins_not_deep}
+use Rattle.pv_dtd.proofs.BrokenRules.{Keeps, kept_by}
 use Rattle.pv_dtd.proofs.Distinct.{bytes_eq-swap}
 use Rattle.pv_dtd.proofs.NoParameter.{begins_no_parameter}
 use Rattle.pv_dtd.proofs.OneMeaning.{same_item}
 use Rattle.pv_dtd.proofs.SoFar.{joined, parts-append, parts_of_item}
 
 -- an item of which no kind of fault holds keeps the rules
-module _ (before : List DtdItem) (front : Bool) (place : List ℕ) (i : DtdItem) (rest : List ℕ) (begins : StandsAt front place i rest) (none : (kind : Kind) → HasFault before front place kind → ⊥) where
+module _ (before : List DtdItem) (front : Bool) (place : List ℕ) (i : DtdItem) (rest : List ℕ)
+    (begins : StandsAt front place i rest) (none : (kind : Kind) → HasFault before front place kind → ⊥) where
   kept_rule : (rule : DtdItem → Bool) → (Breaks front place rule → ⊥) → rule i ≡ false
   kept_rule rule unbroken = by (rule i) refl
     where
@@ -93,7 +94,14 @@ module _ (before : List DtdItem) (i : DtdItem) (r : AreRuled (before ++ i ∷ []
   within =
       let long : list_any is_too_long (declared_by i ++ mentioned_by i) ≡ false = list_any-append is_too_long (declared_by i) (mentioned_by i) ∙ rw (last.short, last.mentions_short) refl in
       let types : nat_le (length (declared_in before ++ declared_by i)) MAX_TYPES ≡ true = le-leb _ _ (omega (arith, r.few_types, ap length (joined declared_by before i))) in
-      let parts : nat_le (parts_of_models (models_in before) + parts_by i) MAX_PARTS ≡ true = le-leb _ _ (omega (arith, r.few_parts, ap parts_of_models (joined model_in before i), parts-append (models_in before) (model_in i), parts_of_item i)) in
+      let parts : nat_le (parts_of_models (models_in before) + parts_by i) MAX_PARTS ≡ true =
+      le-leb _ _ (omega (
+        arith,
+        r.few_parts,
+        ap parts_of_models (joined model_in before i),
+        parts-append (models_in before) (model_in i),
+        parts_of_item i,
+      )) in
       rw (long, types, parts) refl
 
   module _ (front : Bool) (place rest : List ℕ) (begins : StandsAt front place i rest) where

@@ -10,8 +10,8 @@ use Rattle.pv_edit.specs.Effects.{change_of}
 use Rattle.pv_edit.specs.Reasons.{goes_too_deep, is_top}
 use Rattle.pv_edit.specs.declared.edits.Edit.TheVariants.{Wrap, Insert}
 use Rattle.pv_edit.proofs.Levels.{forest-trees}
-use Rattle.pv_edit.proofs.Standing.{NodeAt}
-use Rattle.pv_edit.proofs.Listing.{ListAt, top, inside}
+use Rattle.pv_edit.proofs.NodePlaces.{NodeAt}
+use Rattle.pv_edit.proofs.ListPlaces.{ListAt, top, inside}
 use Rattle.pv_edit.proofs.Depths.{IsDeeper, deeper, node-depth, middle-depth, splice-deeper}
 
 -- of the root after a change of the list of an element
@@ -36,7 +36,9 @@ both false b h = absurd cc
 pub whole_range : (from to : ℕ) → not ((from == 0) && (to == 1)) ≡ false → (from ≡ 0) × (to ≡ 1)
 whole_range from to h = let b = both (from == 0) (to == 1) h in ((Decides-eqb from 0).0 b.0, (Decides-eqb to 1).0 b.1)
 
-pub wrap-deep : {M : Type 0} (blank : M) (from to : ℕ) (name : List ℕ) (path : List ℕ) (root : Tree M) (ts : List (Tree M)) → ListAt path root ts → from ≤ to → (is_top path && not ((from == 0) && (to == 1))) ≡ false → depth_of root ≤ MAX_DEPTH
+pub wrap-deep : {M : Type 0} (blank : M) (from to : ℕ) (name : List ℕ) (path : List ℕ)
+    (root : Tree M) (ts : List (Tree M)) → ListAt path root ts → from ≤ to →
+    (is_top path && not ((from == 0) && (to == 1))) ≡ false → depth_of root ≤ MAX_DEPTH
     → nat_lt MAX_DEPTH (length path + 1 + depth_of_all (forest_of (between from to ts))) ≡ goes_too_deep (change_of blank root (Wrap path from to name)) root
 wrap-deep blank from to name path root ts (inside n) h t d =
     ap (nat_lt MAX_DEPTH) (omega arith) ∙ sym (same_limit _ _ _ MAX_DEPTH (inside-deeper (change_of blank root (Wrap path from to name)) h n) d)

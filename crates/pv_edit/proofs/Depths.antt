@@ -4,7 +4,7 @@ use Rattle.std.proofs.lemmas.List.Edits.{split_between}
 use Rattle.std.specs.List.{between, splice}
 use Rattle.pv_tree.specs.Plain.{Tree, Forest, forest_of, depth_of, depth_of_all}
 use Rattle.pv_edit.specs.Changes.{change_kid, change_below}
-use Rattle.pv_edit.proofs.Standing.{KidAt, first, later, NodeAt, here, down}
+use Rattle.pv_edit.proofs.NodePlaces.{KidAt, first, later, NodeAt, here, down}
 
 -- the greater of what stays, no greater than before, and of what changes
 pub record IsDeeper (old new changed : ℕ) : Type 0 where
@@ -36,7 +36,9 @@ depth-append [] ys = omega arith
 depth-append (x ∷ xs) ys = omega (arith, depth-append xs ys)
 
 -- of a list that is spliced
-pub splice-deeper : {M : Type 0} (ts new : List (Tree M)) (from to : ℕ) → from ≤ to → IsDeeper (depth_of_all (forest_of ts)) (depth_of_all (forest_of (splice ts from to new))) (depth_of_all (forest_of new))
+pub splice-deeper : {M : Type 0} (ts new : List (Tree M)) (from to : ℕ) → from ≤ to →
+    IsDeeper (depth_of_all (forest_of ts)) (depth_of_all (forest_of (splice ts from to new)))
+    (depth_of_all (forest_of new))
 splice-deeper ts new from to h =
     let whole = ap (λ l. depth_of_all (forest_of l)) (split_between ts from to h) in
     let a = depth-append (take from ts) (between from to ts ++ drop to ts) in

@@ -5,7 +5,7 @@ use Rattle.std.proofs.lemmas.List.Edits.{split_between}
 use Rattle.pv_tree.specs.Plain.{Ending, Tree, element, text_node, cdata_node, misc_node, Forest, no_trees, tree, forest_of, is_element}
 use Rattle.pv_edit.specs.Changes.{Change, in_place_of, list_after, ending_after, owner_after, change_kid, change_below, root_after}
 use Rattle.pv_edit.proofs.Levels.{forest-trees}
-use Rattle.pv_edit.proofs.Standing.{KidAt, first, later, NodeAt, here, down}
+use Rattle.pv_edit.proofs.NodePlaces.{KidAt, first, later, NodeAt, here, down}
 use Rattle.pv_edit.proofs.Whole.{whole, Owner, Made, after-whole}
 
 abbrev mutual
@@ -25,7 +25,9 @@ pub record StaysAbove {M : Type 0} (P : Tree M → Type 0) : Type 0 where
   pub stays : (x attrs : List ℕ) (e : Ending) (m : M) {i : ℕ} {kids : Forest M} {k : Tree M} (g : Tree M → Tree M) → KidAt i kids k → is_element k ≡ true → is_element (g k) ≡ true
       → P (element x attrs e kids m) → P (element x attrs e (change_kid g i kids) m)
 
-kid-replaced : {M : Type 0} (P : Tree M → Type 0) {i : ℕ} {kids : Forest M} {k : Tree M} (g : Tree M → Tree M) → KidAt i kids k → EachNode P (g k) → EachNodes P kids → EachNodes P (change_kid g i kids)
+kid-replaced : {M : Type 0} (P : Tree M → Type 0) {i : ℕ} {kids : Forest M} {k : Tree M}
+    (g : Tree M → Tree M) → KidAt i kids k → EachNode P (g k) → EachNodes P kids →
+    EachNodes P (change_kid g i kids)
 kid-replaced P g first h w = (h, w.1)
 kid-replaced P g (later q) h w = (w.0, kid-replaced P g q h w.1)
 
@@ -38,11 +40,15 @@ each-node P here w = w
 each-node P (down k n) w = each-node P n (each-kid P k w.1)
 
 -- an element below an element, and what it becomes
-pub elements-below : {M : Type 0} {path : List ℕ} {t u : Tree M} (g : Tree M → Tree M) → NodeAt path t u → is_element u ≡ true → is_element (g u) ≡ true → (is_element t ≡ true) × (is_element (change_below path g t) ≡ true)
+pub elements-below : {M : Type 0} {path : List ℕ} {t u : Tree M} (g : Tree M → Tree M) →
+    NodeAt path t u → is_element u ≡ true → is_element (g u) ≡ true → (is_element t ≡ true)
+    × (is_element (change_below path g t) ≡ true)
 elements-below g here h k = (h, k)
 elements-below g (down q n) h k = (refl, refl)
 
-each-changed : {M : Type 0} (P : Tree M → Type 0) → StaysAbove P → {path : List ℕ} {t u : Tree M} (g : Tree M → Tree M) → NodeAt path t u → is_element u ≡ true → is_element (g u) ≡ true → EachNode P (g u) → EachNode P t → EachNode P (change_below path g t)
+each-changed : {M : Type 0} (P : Tree M → Type 0) → StaysAbove P →
+    {path : List ℕ} {t u : Tree M} (g : Tree M → Tree M) → NodeAt path t u → is_element u ≡ true →
+    is_element (g u) ≡ true → EachNode P (g u) → EachNode P t → EachNode P (change_below path g t)
 each-changed P s g here hu hg h w = h
 each-changed P s g (down {path = path} {x = x} {attrs = attrs} {e = e} {m = m} k n) hu hg h w =
     let b = elements-below g n hu hg in
@@ -68,7 +74,9 @@ pub each-old : {M : Type 0} (P : Tree M → Type 0) (ts : List (Tree M)) (from t
 each-old P ts from to h w = each-left P (between from to ts) (drop to ts) (each-right P (take from ts) (between from to ts ++ drop to ts) (in-parts P ts from to h w))
 
 -- of the list after others came in their place
-pub each-spliced : {M : Type 0} (P : Tree M → Type 0) (ts new : List (Tree M)) (from to : ℕ) → from ≤ to → EachNodes P (forest_of ts) → EachNodes P (forest_of new) → EachNodes P (forest_of (take from ts ++ (new ++ drop to ts)))
+pub each-spliced : {M : Type 0} (P : Tree M → Type 0) (ts new : List (Tree M)) (from to : ℕ) →
+    from ≤ to → EachNodes P (forest_of ts) → EachNodes P (forest_of new) →
+    EachNodes P (forest_of (take from ts ++ (new ++ drop to ts)))
 each-spliced P ts new from to h w n =
     let p = in-parts P ts from to h w in
     each-joined P (take from ts) (new ++ drop to ts) (each-left P (take from ts) (between from to ts ++ drop to ts) p)

@@ -1,5 +1,6 @@
 -- What comes in place of what in an edit, for the facts that a document keeps.
-use Rattle.std.proofs.Common.{◌≡◌, ◌≢◌, ◌∙◌, ap, sym, refl, ℕ, zero, suc, ◌+◌, ◌<◌, ◌≤◌, true, false, not, ◌&&◌, List, [], ◌∷◌, ◌++◌, length, take, drop, map, None, arith, subst, length-append, length-drop}
+use Rattle.std.proofs.Common.{◌≡◌, ◌≢◌, ◌∙◌, ap, sym, refl, ℕ, zero, suc, ◌+◌, ◌<◌, ◌≤◌, true, false, not, ◌&&◌, List, [], ◌∷◌, ◌++◌, length, take}
+use Rattle.std.proofs.Common.{drop, map, None, arith, subst, length-append, length-drop}
 use Rattle.std.specs.List.{between, list_all, list_any}
 use Rattle.std.proofs.lemmas.Bool.{and_parts, not-false}
 use Rattle.std.proofs.lemmas.List.{append-nil, take-append-drop, length-take-le}
@@ -17,12 +18,13 @@ use Rattle.pv_edit.specs.Reasons.{is_top, is_one_element, kids_at, lacks_element
 use Rattle.pv_edit.specs.declared.edits.Edit.TheVariants.{Wrap, Insert, Unwrap, Rename, Split, Join, SetText, AddText, DelText}
 use Rattle.pv_edit.proofs.Deep.{whole_range}
 use Rattle.pv_edit.proofs.Levels.{forest-trees}
-use Rattle.pv_edit.proofs.Cutting.{between-kid, between-kids}
+use Rattle.pv_edit.proofs.CutParts.{between-kid, between-kids}
 use Rattle.pv_edit.proofs.EachNode.{EachNodes}
 use Rattle.pv_edit.proofs.Kept.{Named, Formed, United, Lawful, no-attributes}
 use Rattle.pv_edit.proofs.Unbroken.{Unbroken, back-none, front-only, element-between, texts-joined}
-use Rattle.pv_edit.proofs.Passing.{text-at, element-at, next-kid, text-inside, WrapPasses, wrap-passes, insert-passes, UnwrapPasses, unwrap-passes, rename-passes, split-passes, join-passes, set-passes, add-passes, del-passes}
-use Rattle.pv_edit.proofs.Making.{never}
+use Rattle.pv_edit.proofs.PassedEdits.{text-at, element-at, next-kid, text-inside, WrapPasses, wrap-passes, insert-passes, UnwrapPasses}
+use Rattle.pv_edit.proofs.PassedEdits.{unwrap-passes, rename-passes, split-passes, join-passes, set-passes, add-passes, del-passes}
+use Rattle.pv_edit.proofs.MadeChanges.{never}
 use Rattle.pv_edit.proofs.Texts.{units-tested, tested-units, tested-text}
 
 -- What comes in place has what a document keeps, where what gives way has it.
@@ -37,14 +39,20 @@ pub record Fresh {M : Type 0} (c : Change M) (list : List ℕ) (ts : List (Tree 
   pub nodes : nodes_in_all (forest_of (in_place_of c.filling (between c.from c.to ts))) ≤ nodes_in_all (forest_of (between c.from c.to ts)) + 1
   pub root : is_top list ≡ true → is_one_element (list_after c ts) ≡ true
 
-in-parts : {M : Type 0} (ts : List (Tree M)) (from to : ℕ) → from ≤ to → spells_close_mark (forest_of ts) ≡ false → spells_close_mark (forest_of (take from ts ++ (between from to ts ++ drop to ts))) ≡ false
+in-parts : {M : Type 0} (ts : List (Tree M)) (from to : ℕ) → from ≤ to →
+    spells_close_mark (forest_of ts) ≡ false →
+    spells_close_mark (forest_of (take from ts ++ (between from to ts ++ drop to ts))) ≡ false
 in-parts ts from to h s = subst (λ l. spells_close_mark (forest_of l) ≡ false) (split_between ts from to h) s
 
-wrap-root : {M : Type 0} (blank : M) (root : Tree M) (path : List ℕ) (from to : ℕ) (name : List ℕ) → WrapPasses blank root path from to name → is_top path ≡ true → is_one_element (list_after (change_of blank root (Wrap path from to name)) (kids_at path root)) ≡ true
+wrap-root : {M : Type 0} (blank : M) (root : Tree M) (path : List ℕ) (from to : ℕ) (name : List ℕ) →
+    WrapPasses blank root path from to name → is_top path ≡ true →
+    is_one_element (list_after (change_of blank root (Wrap path from to name)) (kids_at path root)) ≡ true
 wrap-root blank root [] from to name p t = let r = whole_range from to p.top in rw (r.0, r.1) refl
 wrap-root blank root (i ∷ path) from to name p t = absurd cc
 
-pub wrap-fresh : {M : Type 0} (blank : M) (root : Tree M) (path : List ℕ) (from to : ℕ) (name : List ℕ) → reason_of blank root (Wrap path from to name) ≡ None → Fresh (change_of blank root (Wrap path from to name)) path (kids_at path root)
+pub wrap-fresh : {M : Type 0} (blank : M) (root : Tree M) (path : List ℕ) (from to : ℕ)
+    (name : List ℕ) → reason_of blank root (Wrap path from to name) ≡ None →
+    Fresh (change_of blank root (Wrap path from to name)) path (kids_at path root)
 wrap-fresh blank root path from to name h =
     let p = wrap-passes blank root path from to name h in
     let ts = kids_at path root in
@@ -60,7 +68,9 @@ wrap-fresh blank root path from to name h =
       root = wrap-root blank root path from to name p;
     }
 
-pub insert-fresh : {M : Type 0} (blank : M) (root : Tree M) (path : List ℕ) (at : ℕ) (name : List ℕ) → reason_of blank root (Insert path at name) ≡ None → Fresh (change_of blank root (Insert path at name)) path (kids_at path root)
+pub insert-fresh : {M : Type 0} (blank : M) (root : Tree M) (path : List ℕ) (at : ℕ)
+    (name : List ℕ) → reason_of blank root (Insert path at name) ≡ None →
+    Fresh (change_of blank root (Insert path at name)) path (kids_at path root)
 insert-fresh blank root path at name h =
     let p = insert-passes blank root path at name h in
     let ts = kids_at path root in
@@ -77,7 +87,9 @@ insert-fresh blank root path at name h =
     }
 
 -- the kids of an element, in its place
-kids-each : {M : Type 0} (P : Tree M → Type 0) (old : List (Tree M)) (x attrs : List ℕ) (e : Ending) (kids : Forest M) (m : M) → old ≡ element x attrs e kids m ∷ [] → EachNodes P (forest_of old) → EachNodes P (forest_of (all_kids old))
+kids-each : {M : Type 0} (P : Tree M → Type 0) (old : List (Tree M)) (x attrs : List ℕ) (e : Ending)
+    (kids : Forest M) (m : M) → old ≡ element x attrs e kids m ∷ [] → EachNodes P (forest_of old) →
+    EachNodes P (forest_of (all_kids old))
 kids-each P old x attrs e kids m o w =
     let v : EachNodes P (forest_of (element x attrs e kids m ∷ [])) = subst (λ l. EachNodes P (forest_of l)) o w in
     let k : kids ≡ forest_of (all_kids (element x attrs e kids m ∷ [])) = sym (ap forest_of (append-nil (trees_of kids)) ∙ forest-trees kids) in
@@ -89,23 +101,31 @@ one-kid (text_node units) h = absurd cc
 one-kid (cdata_node bytes) h = absurd cc
 one-kid (misc_node bytes) h = absurd cc
 
-unwrap-root : {M : Type 0} (blank : M) (root : Tree M) (path : List ℕ) → UnwrapPasses blank root path → is_top (parent_of path) ≡ true → is_one_element (list_after (change_of blank root (Unwrap path)) (kids_at (parent_of path) root)) ≡ true
+unwrap-root : {M : Type 0} (blank : M) (root : Tree M) (path : List ℕ) →
+    UnwrapPasses blank root path → is_top (parent_of path) ≡ true →
+    is_one_element (list_after (change_of blank root (Unwrap path)) (kids_at (parent_of path) root)) ≡ true
 unwrap-root blank root [] p t = let h = p.elem in absurd cc
 unwrap-root blank root (zero ∷ []) p t = ap is_one_element (append-nil (kids_of root ++ [])) ∙ one-kid root p.one
 unwrap-root blank root (suc i ∷ []) p t = let h = p.elem in absurd cc
 unwrap-root blank root (i ∷ j ∷ path) p t = absurd cc
 
-kids-nodes : {M : Type 0} (old : List (Tree M)) (x attrs : List ℕ) (e : Ending) (kids : Forest M) (m : M) → old ≡ element x attrs e kids m ∷ [] → nodes_in_all (forest_of (all_kids old)) ≤ nodes_in_all (forest_of old) + 1
+kids-nodes : {M : Type 0} (old : List (Tree M)) (x attrs : List ℕ) (e : Ending) (kids : Forest M)
+    (m : M) → old ≡ element x attrs e kids m ∷ [] → nodes_in_all (forest_of (all_kids old))
+    ≤ nodes_in_all (forest_of old) + 1
 kids-nodes old x attrs e kids m o =
     let k : nodes_in_all (forest_of (trees_of kids ++ [])) ≡ nodes_in_all kids = ap nodes_in_all (ap forest_of (append-nil (trees_of kids)) ∙ forest-trees kids) in
     rw o (omega (arith, k))
 
-pub kids-depth : {M : Type 0} (old : List (Tree M)) (x attrs : List ℕ) (e : Ending) (kids : Forest M) (m : M) → old ≡ element x attrs e kids m ∷ [] → depth_of_all (forest_of (all_kids old)) ≤ depth_of_all (forest_of old)
+pub kids-depth : {M : Type 0} (old : List (Tree M)) (x attrs : List ℕ) (e : Ending)
+    (kids : Forest M) (m : M) → old ≡ element x attrs e kids m ∷ [] →
+    depth_of_all (forest_of (all_kids old)) ≤ depth_of_all (forest_of old)
 kids-depth old x attrs e kids m o =
     let k : depth_of_all (forest_of (trees_of kids ++ [])) ≡ depth_of_all kids = ap depth_of_all (ap forest_of (append-nil (trees_of kids)) ∙ forest-trees kids) in
     rw o (omega (arith, k))
 
-pub unwrap-fresh : {M : Type 0} (blank : M) (root : Tree M) (path : List ℕ) → reason_of blank root (Unwrap path) ≡ None → Fresh (change_of blank root (Unwrap path)) (parent_of path) (kids_at (parent_of path) root)
+pub unwrap-fresh : {M : Type 0} (blank : M) (root : Tree M) (path : List ℕ) →
+    reason_of blank root (Unwrap path) ≡ None → Fresh (change_of blank root (Unwrap path))
+    (parent_of path) (kids_at (parent_of path) root)
 unwrap-fresh blank root path h =
     let p = unwrap-passes blank root path h in
     let e = element-at path root p.elem in
@@ -137,13 +157,18 @@ named-root name (text_node units) h = absurd cc
 named-root name (cdata_node bytes) h = absurd cc
 named-root name (misc_node bytes) h = absurd cc
 
-rename-root : {M : Type 0} (blank : M) (root : Tree M) (path name : List ℕ) → lacks_element path root ≡ false → is_top (parent_of path) ≡ true → is_one_element (list_after (change_of blank root (Rename path name)) (kids_at (parent_of path) root)) ≡ true
+rename-root : {M : Type 0} (blank : M) (root : Tree M) (path name : List ℕ) →
+    lacks_element path root ≡ false → is_top (parent_of path) ≡ true →
+    is_one_element (list_after (change_of blank root (Rename path name))
+    (kids_at (parent_of path) root)) ≡ true
 rename-root blank root [] name h t = absurd cc
 rename-root blank root (zero ∷ []) name h t = named-root name root (not-false (is_element root) h)
 rename-root blank root (suc i ∷ []) name h t = absurd cc
 rename-root blank root (i ∷ j ∷ path) name h t = absurd cc
 
-pub rename-fresh : {M : Type 0} (blank : M) (root : Tree M) (path name : List ℕ) → reason_of blank root (Rename path name) ≡ None → Fresh (change_of blank root (Rename path name)) (parent_of path) (kids_at (parent_of path) root)
+pub rename-fresh : {M : Type 0} (blank : M) (root : Tree M) (path name : List ℕ) →
+    reason_of blank root (Rename path name) ≡ None → Fresh (change_of blank root (Rename path name))
+    (parent_of path) (kids_at (parent_of path) root)
 rename-fresh blank root path name h =
     let p = rename-passes blank root path name h in
     let e = element-at path root p.elem in
@@ -165,7 +190,9 @@ rename-fresh blank root path name h =
       root = rename-root blank root path name p.elem;
     }
 
-pub named-depth : {M : Type 0} (name : List ℕ) (old : List (Tree M)) (x attrs : List ℕ) (e : Ending) (kids : Forest M) (m : M) → old ≡ element x attrs e kids m ∷ [] → depth_of_all (forest_of (map (with_name name) old)) ≤ depth_of_all (forest_of old)
+pub named-depth : {M : Type 0} (name : List ℕ) (old : List (Tree M)) (x attrs : List ℕ) (e : Ending)
+    (kids : Forest M) (m : M) → old ≡ element x attrs e kids m ∷ [] →
+    depth_of_all (forest_of (map (with_name name) old)) ≤ depth_of_all (forest_of old)
 named-depth name old x attrs e kids m o = rw o (omega arith)
 
 -- ---- texts
@@ -178,7 +205,9 @@ no-units (u ∷ us) h = absurd (omega arith)
 
 parts-units : (n : ℕ) (us : List (List ℕ)) → AllUnits us → AllUnits (take n us) × AllUnits (drop n us)
 parts-units n us all =
-    let e : (list_all is_unit (take n us) && list_all is_unit (drop n us)) ≡ true = sym (list_all-append is_unit (take n us) (drop n us)) ∙ ap (list_all is_unit) (take-append-drop n us) ∙ units-tested us all in
+    let e : (list_all is_unit (take n us) && list_all is_unit (drop n us)) ≡ true =
+    sym (list_all-append is_unit (take n us) (drop n us)) ∙ ap (list_all is_unit)
+    (take-append-drop n us) ∙ units-tested us all in
     let p = and_parts (list_all is_unit (take n us)) (list_all is_unit (drop n us)) e in
     (tested-units (take n us) p.0, tested-units (drop n us) p.1)
 
@@ -188,10 +217,14 @@ given-units text h =
     (t.all, λ e. t.some (t.whole ∙ ap joined e))
 
 -- of a text that gives way
-old-text : {M : Type 0} (P : Tree M → Type 0) (old : List (Tree M)) (us : List (List ℕ)) (more : List (Tree M)) → old ≡ text_node us ∷ more → EachNodes P (forest_of old) → P (text_node us) × EachNodes P (forest_of more)
+old-text : {M : Type 0} (P : Tree M → Type 0) (old : List (Tree M)) (us : List (List ℕ))
+    (more : List (Tree M)) → old ≡ text_node us ∷ more → EachNodes P (forest_of old) →
+    P (text_node us) × EachNodes P (forest_of more)
 old-text P old us more o w = subst (λ l. EachNodes P (forest_of l)) o w
 
-pub split-fresh : {M : Type 0} (blank : M) (root : Tree M) (path : List ℕ) (at : ℕ) → is_element root ≡ true → reason_of blank root (Split path at) ≡ None → Fresh (change_of blank root (Split path at)) (parent_of path) (kids_at (parent_of path) root)
+pub split-fresh : {M : Type 0} (blank : M) (root : Tree M) (path : List ℕ) (at : ℕ) →
+    is_element root ≡ true → reason_of blank root (Split path at) ≡ None →
+    Fresh (change_of blank root (Split path at)) (parent_of path) (kids_at (parent_of path) root)
 split-fresh blank root path at r h =
     let p = split-passes blank root path at h in
     let e = text-at path root p.text in
@@ -215,7 +248,9 @@ split-fresh blank root path at r h =
       root = λ t. never (parent_of path) (text-inside path root r p.text) t;
     }
 
-pub join-fresh : {M : Type 0} (blank : M) (root : Tree M) (path : List ℕ) → is_element root ≡ true → reason_of blank root (Join path) ≡ None → Fresh (change_of blank root (Join path)) (parent_of path) (kids_at (parent_of path) root)
+pub join-fresh : {M : Type 0} (blank : M) (root : Tree M) (path : List ℕ) → is_element root ≡ true →
+    reason_of blank root (Join path) ≡ None → Fresh (change_of blank root (Join path))
+    (parent_of path) (kids_at (parent_of path) root)
 join-fresh blank root path r h =
     let p = join-passes blank root path h in
     let e = text-at path root p.text in
@@ -240,7 +275,9 @@ join-fresh blank root path r h =
       root = λ t. never (parent_of path) (text-inside path root r p.text) t;
     }
 
-pub set-fresh : {M : Type 0} (blank : M) (root : Tree M) (path text : List ℕ) → is_element root ≡ true → reason_of blank root (SetText path text) ≡ None → Fresh (change_of blank root (SetText path text)) (parent_of path) (kids_at (parent_of path) root)
+pub set-fresh : {M : Type 0} (blank : M) (root : Tree M) (path text : List ℕ) →
+    is_element root ≡ true → reason_of blank root (SetText path text) ≡ None →
+    Fresh (change_of blank root (SetText path text)) (parent_of path) (kids_at (parent_of path) root)
 set-fresh blank root path text r h =
     let p = set-passes blank root path text h in
     let g = given-units text p.given in
@@ -256,7 +293,9 @@ set-fresh blank root path text r h =
       root = λ t. never (parent_of path) (text-inside path root r p.text) t;
     }
 
-pub add-fresh : {M : Type 0} (blank : M) (root : Tree M) (path : List ℕ) (at : ℕ) (text : List ℕ) → reason_of blank root (AddText path at text) ≡ None → Fresh (change_of blank root (AddText path at text)) path (kids_at path root)
+pub add-fresh : {M : Type 0} (blank : M) (root : Tree M) (path : List ℕ) (at : ℕ) (text : List ℕ) →
+    reason_of blank root (AddText path at text) ≡ None →
+    Fresh (change_of blank root (AddText path at text)) path (kids_at path root)
 add-fresh blank root path at text h =
     let p = add-passes blank root path at text h in
     let g = given-units text p.given in
@@ -272,7 +311,9 @@ add-fresh blank root path at text h =
       root = λ t. never path p.top t;
     }
 
-pub del-fresh : {M : Type 0} (blank : M) (root : Tree M) (path : List ℕ) → is_element root ≡ true → reason_of blank root (DelText path) ≡ None → Fresh (change_of blank root (DelText path)) (parent_of path) (kids_at (parent_of path) root)
+pub del-fresh : {M : Type 0} (blank : M) (root : Tree M) (path : List ℕ) → is_element root ≡ true →
+    reason_of blank root (DelText path) ≡ None → Fresh (change_of blank root (DelText path))
+    (parent_of path) (kids_at (parent_of path) root)
 del-fresh blank root path r h =
     let p = del-passes blank root path h in
     record {

@@ -10,7 +10,7 @@ use Rattle.pv_tree.specs.Plain.{Ending, short, tagged, Tree, element, text_node,
 use Rattle.pv_tree.specs.Legal.{fits_kids, is_formed, are_formed, has_names, have_names, IsLegalEnding, IsLegal, AreLegal}
 use Rattle.pv_tree.specs.Units.{HasUnits, HaveUnits}
 use Rattle.pv_edit.specs.Changes.{ending_after, change_kid}
-use Rattle.pv_edit.proofs.Standing.{KidAt, first, later}
+use Rattle.pv_edit.proofs.NodePlaces.{KidAt, first, later}
 use Rattle.pv_edit.proofs.EachNode.{EachNode, EachNodes, StaysAbove}
 
 -- the name of an element is a Name

@@ -19,21 +19,34 @@ use Rattle.pv_edit.specs.declared.edits.Edit.TheVariants.{Wrap, Insert, Unwrap, 
 use Rattle.pv_edit.specs.declared.inverses.Inverse.{Inverse}
 use Rattle.pv_edit.specs.declared.inverses.Inverse.TheVariants.{TakeOut, PutBack, Name, Merge, Divide, Text, Discard, Restore}
 use Rattle.pv_edit.proofs.KeptLists.{first-path, text-alone, text-either, not-top}
-use Rattle.pv_edit.proofs.Leading.{given-reason}
-use Rattle.pv_edit.proofs.Listing.{top, inside}
-use Rattle.pv_edit.proofs.Passing.{element-at, unwrap-passes, rename-passes}
+use Rattle.pv_edit.proofs.InverseLeads.{given-reason}
+use Rattle.pv_edit.proofs.ListPlaces.{top, inside}
+use Rattle.pv_edit.proofs.PassedEdits.{element-at, unwrap-passes, rename-passes}
 use Rattle.pv_edit.proofs.Paths.{parent-kid, path-parts}
-use Rattle.pv_edit.proofs.Reverting.{Backs, backs}
-use Rattle.pv_edit.proofs.Standing.{node_at}
-use Rattle.pv_edit.proofs.Staying.{HaveNoKids, Brings, get-one}
-use Rattle.pv_edit.proofs.Unchanged.{change-keeps}
+use Rattle.pv_edit.proofs.RevertedDocuments.{Backs, backs}
+use Rattle.pv_edit.proofs.NodePlaces.{node_at}
+use Rattle.pv_edit.proofs.StayingLists.{HaveNoKids, Brings, get-one}
+use Rattle.pv_edit.proofs.UnchangedLists.{change-keeps}
 use Rattle.pv_edit.proofs.Whole.{owner-of, Made}
 
 -- a change that can be made
-inside-made : {M : Type 0} (m : M) (path : List ℕ) (c : Change M) (root : Tree M) (o : Option (Tree M)) → node_below path root ≡ o → IsSomeAnd o (TakesChange c) → (ts : List (Tree M)) × Made m (zero ∷ path) c root ts
+inside-made : {M : Type 0} (m : M) (path : List ℕ) (c : Change M) (root : Tree M)
+    (o : Option (Tree M)) → node_below path root ≡ o → IsSomeAnd o (TakesChange c) →
+    (ts : List (Tree M)) × Made m (zero ∷ path) c root ts
 inside-made m path c root None n h = absurd h
-inside-made m path c root (Some (element x attrs e kids k)) n h =
-    (trees_of kids, record { owner = owner-of m (inside (node_at path root (element x attrs e kids k) n)); order = h.suits.order; within = h.suits.within; fits = h.suits.fits; one = λ t. absurd cc; unshort = λ t. absurd cc })
+inside-made m path c root (Some (element x attrs e kids k)) n h = (
+  trees_of kids,
+  record {
+    owner = owner-of m
+        (inside (node_at path root (element x attrs e kids k) n));
+    order = h.suits.order;
+    within =
+        h.suits.within;
+    fits = h.suits.fits;
+    one = λ t. absurd cc;
+    unshort = λ t. absurd cc;
+  },
+)
 inside-made m path c root (Some (text_node units)) n h = let e = h.elem in absurd cc
 inside-made m path c root (Some (cdata_node bytes)) n h = let e = h.elem in absurd cc
 inside-made m path c root (Some (misc_node bytes)) n h = let e = h.elem in absurd cc
@@ -58,20 +71,36 @@ one-named name ts i k v w s =
     let n = slice_get_within (map (with_name name) (between i (i + 1) ts)) k v s in
     omega (arith, n, length-map (between i (i + 1) ts) (with_name name), length-between ts i (i + 1) w)
 
-back-keeps : {M : Type 0} (blank : M) (doc : PlainDoc M) (inverse : Inverse) → CanChange (change_back blank doc.root inverse).list (change_back blank doc.root inverse) doc.root → (is_top (change_back blank doc.root inverse).list ≡ true → (change_back blank doc.root inverse).shorten ≡ false)
+back-keeps : {M : Type 0} (blank : M) (doc : PlainDoc M) (inverse : Inverse) →
+    CanChange (change_back blank doc.root inverse).list (change_back blank doc.root inverse)
+    doc.root → (is_top (change_back blank doc.root inverse).list ≡ true →
+    (change_back blank doc.root inverse).shorten ≡ false)
     → (path : List ℕ) (kids : List (Tree M)) → list_at path (doc_back blank doc inverse).root ≡ Some kids → (path ≡ (change_back blank doc.root inverse).list → ⊥)
-    → ((ts : List (Tree M)) → Made doc.mark (change_back blank doc.root inverse).list (change_back blank doc.root inverse) doc.root ts → (k : ℕ) (v : Tree M) → Brings (change_back blank doc.root inverse).filling
+    → ((ts : List (Tree M)) → Made doc.mark (change_back blank doc.root inverse).list
+    (change_back blank doc.root inverse) doc.root ts → (k : ℕ) (v : Tree M) →
+    Brings (change_back blank doc.root inverse).filling
     → path ≡ (change_back blank doc.root inverse).list ++ ((change_back blank doc.root inverse).from + k) ∷ []
-    → slice_get (in_place_of (change_back blank doc.root inverse).filling (between (change_back blank doc.root inverse).from (change_back blank doc.root inverse).to ts)) k ≡ Some v → is_element v ≡ true → ⊥)
+    → slice_get (in_place_of (change_back blank doc.root inverse).filling
+    (between (change_back blank doc.root inverse).from (change_back blank doc.root inverse).to
+    ts)) k ≡ Some v → is_element v ≡ true → ⊥)
     → IsKeptList (change_back blank doc.root inverse) doc (doc_back blank doc inverse) path
 back-keeps blank doc inverse can unshort path kids l other none =
     let d = can-made doc.mark (change_back blank doc.root inverse).list (change_back blank doc.root inverse) doc.root can unshort in
     change-keeps (change_back blank doc.root inverse) doc d.0 d.1 (back-new blank doc.root inverse) path kids l other (none d.0 d.1)
 
-undo-keeps : {M : Type 0} (blank : M) (doc : PlainDoc M) (before : Tree Unit) (edit : Edit) → reason_of tt before edit ≡ None → (b : Backs blank doc.root (inverse_of before edit) before) → (path : List ℕ) (kids : List (Tree M))
-    → list_at path (doc_back blank doc (inverse_of before edit)).root ≡ Some kids → IsNone path (changed_lists (undoes edit)) → IsKeptList (change_back blank doc.root (inverse_of before edit)) doc (doc_back blank doc (inverse_of before edit)) path
-undo-keeps blank doc before (Wrap list from to name) h b path kids l none = back-keeps blank doc (inverse_of before (Wrap list from to name)) b.can b.unshort path kids l (λ p. none.0 (p ∙ parent-kid list from)) (λ ts d k v br p s e. br)
-undo-keeps blank doc before (Insert list at name) h b path kids l none = back-keeps blank doc (inverse_of before (Insert list at name)) b.can b.unshort path kids l (λ p. none.0 (p ∙ parent-kid list at)) (λ ts d k v br p s e. br)
+undo-keeps : {M : Type 0} (blank : M) (doc : PlainDoc M) (before : Tree Unit) (edit : Edit) →
+    reason_of tt before edit ≡ None → (b : Backs blank doc.root (inverse_of before edit) before) →
+    (path : List ℕ) (kids : List (Tree M))
+    → list_at path (doc_back blank doc (inverse_of before edit)).root ≡ Some kids →
+    IsNone path (changed_lists (undoes edit)) →
+    IsKeptList (change_back blank doc.root (inverse_of before edit)) doc (doc_back blank doc
+    (inverse_of before edit)) path
+undo-keeps blank doc before (Wrap list from to name) h b path kids l none =
+    back-keeps blank doc (inverse_of before (Wrap list from to name)) b.can b.unshort path kids l
+    (λ p. none.0 (p ∙ parent-kid list from)) (λ ts d k v br p s e. br)
+undo-keeps blank doc before (Insert list at name) h b path kids l none =
+    back-keeps blank doc (inverse_of before (Insert list at name)) b.can b.unshort path kids l
+    (λ p. none.0 (p ∙ parent-kid list at)) (λ ts d k v br p s e. br)
 undo-keeps {M = M} blank doc before (Unwrap node) h b path kids l none =
     let q = (unwrap-passes tt before node h).elem in
     let e = element-at node before q in
@@ -83,7 +112,9 @@ undo-keeps {M = M} blank doc before (Unwrap node) h b path kids l none =
     (λ ts d k v br p s t. none.1.0 (first-path path (parent_of node) (kid_place node) k p (get-one _ v k s).0 ∙ sym (path-parts node (not-top node before q)))))
 undo-keeps blank doc before (Rename node name) h b path kids l none =
     back-keeps blank doc (inverse_of before (Rename node name)) b.can b.unshort path kids l none.0
-    (λ ts d k v br p s t. none.1.0 (first-path path (parent_of node) (kid_place node) k p (one-named _ ts (kid_place node) k v d.within s) ∙ sym (path-parts node (not-top node before (rename-passes tt before node name h).elem))))
+    (λ ts d k v br p s t. none.1.0 (first-path path (parent_of node) (kid_place node) k p
+    (one-named _ ts (kid_place node) k v d.within s)
+    ∙ sym (path-parts node (not-top node before (rename-passes tt before node name h).elem))))
 undo-keeps blank doc before (Split node at) h b path kids l none =
     back-keeps blank doc (inverse_of before (Split node at)) b.can b.unshort path kids l none.0 (λ ts d k v br p s t. text-alone (units_at node doc.root ++ units_at (next_of node) doc.root) k v s t)
 undo-keeps blank doc before (Join node) h b path kids l none =
@@ -96,7 +127,9 @@ undo-keeps blank doc before (AddText list at text) h b path kids l none =
 undo-keeps blank doc before (DelText node) h b path kids l none =
     back-keeps blank doc (inverse_of before (DelText node)) b.can b.unshort path kids l none.0 (λ ts d k v br p s t. text-alone (units_at node before) k v s t)
 
-pub undone-lists : {M : Type 0} (blank : M) (inverse : Inverse) (doc : PlainDoc M) (before : PlainDoc Unit) (l : LeadsBack inverse doc before) → (path : List ℕ) (kids : List (Tree M)) → list_at path (doc_back blank doc inverse).root ≡ Some kids
+pub undone-lists : {M : Type 0} (blank : M) (inverse : Inverse) (doc : PlainDoc M)
+    (before : PlainDoc Unit) (l : LeadsBack inverse doc before) →
+    (path : List ℕ) (kids : List (Tree M)) → list_at path (doc_back blank doc inverse).root ≡ Some kids
     → IsNone path (changed_lists (undoes l.edit)) → IsKeptList (change_back blank doc.root inverse) doc (doc_back blank doc inverse) path
 undone-lists blank inverse doc before l path kids at none =
     let reason = given-reason (reason_of tt before.root l.edit) _ _ l.is_edited in

@@ -1,5 +1,6 @@
 -- One level of a change in a tree.
-use Rattle.std.proofs.Common.{◌≡◌, ℕ, zero, suc, ◌+◌, ◌-◌, ◌<◌, ◌≤◌, List, [], ◌∷◌, ◌++◌, length, take, drop, get_or, Option, Some, None, slice_get, slice_set, sym, ap, ◌∙◌, arith, refl, subst, IsTrue}
+use Rattle.std.proofs.Common.{◌≡◌, ℕ, zero, suc, ◌+◌, ◌-◌, ◌<◌, ◌≤◌, List, [], ◌∷◌, ◌++◌, length, take, drop, get_or, Option, Some, None, slice_get}
+use Rattle.std.proofs.Common.{slice_set, sym, ap, ◌∙◌, arith, refl, subst, IsTrue}
 use Rattle.std.specs.Prelude.{IsSomeAnd, Result, Ok, Err, OnErr}
 use Rattle.std.specs.Option.{option_map, option_and_then}
 use Rattle.std.proofs.Math.ListN.{get_or-map}
@@ -39,14 +40,21 @@ kid_changed f i [] d h = absurd (omega arith)
 kid_changed f zero (t ∷ ts) d h = refl
 kid_changed f (suc i) (t ∷ ts) d h = ap (tree t) (kid_changed f i ts d (omega arith))
 
-step_changed : {M : Type 0} (path : List ℕ) (f : Tree M → Tree M) (i : ℕ) (t d : Tree M) → i < length (kids_of t) → with_kids (slice_set (kids_of t) i (change_below path f (get_or (kids_of t) i d))) t ≡ change_below (i ∷ path) f t
-step_changed path f i (element x attrs e k m) d h = ap (λ l. element x attrs e l m) (sym (kid_changed (change_below path f) i (trees_of k) d h) ∙ ap (change_kid (change_below path f) i) (forest-trees k))
+step_changed : {M : Type 0} (path : List ℕ) (f : Tree M → Tree M) (i : ℕ) (t d : Tree M) →
+    i < length (kids_of t) →
+    with_kids (slice_set (kids_of t) i (change_below path f (get_or (kids_of t) i d))) t
+    ≡ change_below (i ∷ path) f t
+step_changed path f i (element x attrs e k m) d h = ap (λ l. element x attrs e l m)
+    (sym (kid_changed (change_below path f) i (trees_of k) d h)
+    ∙ ap (change_kid (change_below path f) i) (forest-trees k))
 step_changed path f i (text_node u) d h = absurd (omega arith)
 step_changed path f i (cdata_node u) d h = absurd (omega arith)
 step_changed path f i (misc_node u) d h = absurd (omega arith)
 
 -- a change below, put back
-below_changed : (path : List ℕ) (f : Tree Mark → Tree Mark) (i : ℕ) (t : Tree Mark) (ks : List Node) (d kid : Node) → plain_all ks ≡ kids_of t → i < length ks → plain kid ≡ change_below path f (plain (get_or ks i d))
+below_changed : (path : List ℕ) (f : Tree Mark → Tree Mark) (i : ℕ) (t : Tree Mark) (ks : List Node)
+    (d kid : Node) → plain_all ks ≡ kids_of t → i < length ks →
+    plain kid ≡ change_below path f (plain (get_or ks i d))
     → with_kids (plain_all (slice_set ks i kid)) t ≡ change_below (i ∷ path) f t
 below_changed path f i t ks d kid e h k =
     let within : i < length (kids_of t) = omega (arith, ap length e, length-map ks plain) in
@@ -119,6 +127,8 @@ too_many : (b : Node) (bs : List Node) (first : Node) (ts : List (Tree Mark)) �
 too_many b bs first ts e n = let m : length (plain_all (bs ++ first ∷ [])) ≡ length bs + 1 = simp (length-map, length-append) (omega arith) in omega (arith, m, ap length e)
 
 -- the only tree of a list
-pub top_first : (root : Tree Mark) (items before : List Node) (first : Node) (ts : List (Tree Mark)) → items ≡ before ++ first ∷ [] → plain_all items ≡ ts → length ts ≡ 1 → plain first ≡ first_tree root ts
+pub top_first : (root : Tree Mark) (items before : List Node) (first : Node)
+    (ts : List (Tree Mark)) → items ≡ before ++ first ∷ [] → plain_all items ≡ ts → length ts ≡ 1 →
+    plain first ≡ first_tree root ts
 top_first root items [] first ts s p n = ap (first_tree root) (sym (ap plain_all s) ∙ p)
 top_first root items (b ∷ bs) first ts s p n = absurd (too_many b bs first ts (sym (ap plain_all s) ∙ p) n)

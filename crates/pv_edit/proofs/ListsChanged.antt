@@ -10,8 +10,8 @@ use Rattle.pv_edit.specs.declared.edits.Edit.{Edit}
 use Rattle.pv_edit.specs.declared.edits.Edit.TheVariants.{Wrap, Insert, Unwrap, Rename, Split, Join, SetText, AddText, DelText}
 use Rattle.pv_edit.specs.declared.inverses.Inverse.{Inverse}
 use Rattle.pv_edit.proofs.KeptLists.{not-top}
-use Rattle.pv_edit.proofs.Leading.{given-reason}
-use Rattle.pv_edit.proofs.Passing.{element-at, unwrap-passes, rename-passes}
+use Rattle.pv_edit.proofs.InverseLeads.{given-reason}
+use Rattle.pv_edit.proofs.PassedEdits.{element-at, unwrap-passes, rename-passes}
 use Rattle.pv_edit.proofs.Paths.{parent-kid, path-parts}
 
 -- an element's list, and its own
@@ -35,7 +35,9 @@ edit-lists blank doc made edit h = edit-lists-at blank doc.root edit (given-reas
 only-parent : (path : List ℕ) (i : ℕ) → parent_of (path ++ i ∷ []) ∷ [] ≡ path ∷ []
 only-parent path i = ap (λ p. p ∷ []) (parent-kid path i)
 
-inverse-lists-at : {M N : Type 0} (blank : M) (root : Tree M) (old : N) (before : Tree N) (edit : Edit) → reason_of old before edit ≡ None → lists_changed (change_back blank root (inverse_of before edit)) ≡ changed_lists (undoes edit)
+inverse-lists-at : {M N : Type 0} (blank : M) (root : Tree M) (old : N) (before : Tree N)
+    (edit : Edit) → reason_of old before edit ≡ None →
+    lists_changed (change_back blank root (inverse_of before edit)) ≡ changed_lists (undoes edit)
 inverse-lists-at blank root old before (Wrap path from to name) h = only-parent path from
 inverse-lists-at blank root old before (Insert path at name) h = only-parent path at
 inverse-lists-at blank root old before (Unwrap path) h =

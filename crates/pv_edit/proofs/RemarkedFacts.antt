@@ -3,12 +3,14 @@ use Rattle.std.proofs.Common.{◌≡◌, ◌∙◌, ap, sym, refl, suc, ◌+◌,
 use Rattle.std.proofs.Math.Logic.{∥∥₁_map}
 use Rattle.pv_chars.specs.Names.{is_name}
 use Rattle.pv_chars.specs.Texts.{holds_close_mark}
-use Rattle.pv_tree.specs.Plain.{Ending, short, tagged, Tree, element, text_node, cdata_node, misc_node, Forest, no_trees, tree, forest_of, map_marks, map_marks_all, depth_of, depth_of_all, nodes_in, nodes_in_all}
-use Rattle.pv_tree.specs.Legal.{fits_kids, is_formed, are_formed, has_names, have_names, IsLegal, AreLegal, front_units, is_open, has_no_close_mark, have_no_close_mark, starts_no_close_mark, MAX_DEPTH, MAX_NODES}
+use Rattle.pv_tree.specs.Plain.{Ending, short, tagged, Tree, element, text_node, cdata_node, misc_node, Forest, no_trees, tree, forest_of, map_marks}
+use Rattle.pv_tree.specs.Plain.{map_marks_all, depth_of, depth_of_all, nodes_in, nodes_in_all}
+use Rattle.pv_tree.specs.Legal.{fits_kids, is_formed, are_formed, has_names, have_names, IsLegal, AreLegal, front_units, is_open, has_no_close_mark}
+use Rattle.pv_tree.specs.Legal.{have_no_close_mark, starts_no_close_mark, MAX_DEPTH, MAX_NODES}
 use Rattle.pv_tree.specs.Units.{HasUnits, HaveUnits}
 use Rattle.pv_edit.specs.Inverses.{IsKept}
 use Rattle.pv_edit.specs.Reasons.{spells_close_mark}
-use Rattle.pv_edit.proofs.Remarked.{element-as, forest-as}
+use Rattle.pv_edit.proofs.RemarkedChanges.{element-as, forest-as}
 
 fits-kids-as : {M N : Type 0} (f : M → N) (e : Ending) (kids : Forest M) → fits_kids e (map_marks_all f kids) ≡ fits_kids e kids
 fits-kids-as f short no_trees = refl
@@ -135,7 +137,9 @@ list-front-as f ts = ap front_units (forest-as f ts) ∙ front-as f (forest_of t
 pub spells-as : {M N : Type 0} (f : M → N) (ts : List (Tree M)) → spells_close_mark (forest_of (map (map_marks f) ts)) ≡ spells_close_mark (forest_of ts)
 spells-as f [] = refl
 spells-as f (t ∷ ts) =
-    ap (λ l. holds_close_mark l || spells_close_mark (forest_of (map (map_marks f) ts))) (list-front-as f (t ∷ ts)) ∙ ap (λ b. holds_close_mark (front_units (forest_of (t ∷ ts))) || b) (spells-as f ts)
+    ap (λ l. holds_close_mark l || spells_close_mark (forest_of (map (map_marks f) ts)))
+    (list-front-as f (t ∷ ts)) ∙ ap (λ b. holds_close_mark (front_units (forest_of (t ∷ ts))) ||
+    b) (spells-as f ts)
 
 pub kept-from : {M N : Type 0} (f : M → N) (t : Tree M) → IsKept (map_marks f t) → IsKept t
 kept-from f t k = record {

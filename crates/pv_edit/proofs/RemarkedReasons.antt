@@ -13,14 +13,15 @@ use Rattle.pv_edit.specs.Effects.{change_of, next_of, parent_of, kid_place}
 use Rattle.pv_edit.specs.Given.{is_new_name}
 use Rattle.pv_edit.specs.Laws.{MarksDontCount, unmarked_outcome}
 use Rattle.pv_edit.specs.Inverses.{IsKept, LeadsBack, ends_short, name_on, end_of, put_back, inverse_of}
-use Rattle.pv_edit.specs.Reasons.{is_given, is_spot, is_root, is_one_element, items_of, kids_at, lacks_node, lacks_list, lacks_element, lacks_text, goes_too_deep, makes_close_mark, spells_close_mark, unless, reason_of, edit_outcome, outcome, gives}
+use Rattle.pv_edit.specs.Reasons.{is_given, is_spot, is_root, is_one_element, items_of, kids_at, lacks_node, lacks_list, lacks_element, lacks_text}
+use Rattle.pv_edit.specs.Reasons.{goes_too_deep, makes_close_mark, spells_close_mark, unless, reason_of, edit_outcome, outcome, gives}
 use Rattle.pv_edit.specs.declared.reasons.Reason.{Reason}
 use Rattle.pv_edit.specs.declared.reasons.Reason.TheVariants.{NoNode, NotElement, NotText, Range, BadName, BadText, RootShape, Deep, CloseMark}
 use Rattle.pv_edit.specs.declared.edits.Edit.{Edit}
 use Rattle.pv_edit.specs.declared.edits.Edit.TheVariants.{Wrap, Insert, Unwrap, Rename, Split, Join, SetText, AddText, DelText}
 use Rattle.pv_edit.specs.declared.inverses.Inverse.TheVariants.{TakeOut, PutBack, Name, Divide, Text, Discard, Restore}
-use Rattle.pv_edit.proofs.Leading.{given-reason, given-doc}
-use Rattle.pv_edit.proofs.Remarked.{change_as, spot_as, trees-as, node-as, spot-as, units-as, text-as, one-as, element-as, list-as, root-as}
+use Rattle.pv_edit.proofs.InverseLeads.{given-reason, given-doc}
+use Rattle.pv_edit.proofs.RemarkedChanges.{change_as, spot_as, trees-as, node-as, spot-as, units-as, text-as, one-as, element-as, list-as, root-as}
 use Rattle.pv_edit.proofs.RemarkedFacts.{depth-as, spells-as, kept-to}
 
 given-as : {A B : Type 0} (g : A → B) (o : Option A) → is_given (option_map g o) ≡ is_given o
@@ -75,16 +76,22 @@ change-of-as f blank root (SetText path text) = refl
 change-of-as f blank root (AddText path at text) = refl
 change-of-as f blank root (DelText path) = refl
 
-deep-as : {M N : Type 0} (f : M → N) (blank : M) (root : Tree M) (edit : Edit) → goes_too_deep (change_of (f blank) (map_marks f root) edit) (map_marks f root) ≡ goes_too_deep (change_of blank root edit) root
+deep-as : {M N : Type 0} (f : M → N) (blank : M) (root : Tree M) (edit : Edit) →
+    goes_too_deep (change_of (f blank) (map_marks f root) edit) (map_marks f root) ≡ goes_too_deep
+    (change_of blank root edit) root
 deep-as f blank root edit =
     let c = change_of blank root edit in
     ap (λ d. goes_too_deep d (map_marks f root)) (sym (change-of-as f blank root edit)) ∙ ap (nat_lt MAX_DEPTH) (ap depth_of (root-as f c.list c root) ∙ depth-as f (root_after c.list c root))
 
-mark-as : {M N : Type 0} (f : M → N) (blank : M) (root : Tree M) (edit : Edit) → makes_close_mark (change_of (f blank) (map_marks f root) edit) (map_marks f root) ≡ makes_close_mark (change_of blank root edit) root
+mark-as : {M N : Type 0} (f : M → N) (blank : M) (root : Tree M) (edit : Edit) →
+    makes_close_mark (change_of (f blank) (map_marks f root) edit) (map_marks f root)
+    ≡ makes_close_mark (change_of blank root edit) root
 mark-as f blank root edit =
     let c = change_of blank root edit in
     ap (λ d. makes_close_mark d (map_marks f root)) (sym (change-of-as f blank root edit))
-    ∙ ap (λ ts. spells_close_mark (forest_of (list_after (change_as f c) ts))) (kids-at-as f c.list root) ∙ ap (λ ts. spells_close_mark (forest_of ts)) (list-as f c (kids_at c.list root)) ∙ spells-as f (list_after c (kids_at c.list root))
+    ∙ ap (λ ts. spells_close_mark (forest_of (list_after (change_as f c) ts)))
+    (kids-at-as f c.list root) ∙ ap (λ ts. spells_close_mark (forest_of ts))
+    (list-as f c (kids_at c.list root)) ∙ spells-as f (list_after c (kids_at c.list root))
 
 unless-as : {a b : Bool} (r : Reason) {x y : Option Reason} → a ≡ b → x ≡ y → unless a r x ≡ unless b r y
 unless-as {b = b} r {x = x} e g = ap (λ t. unless t r x) e ∙ ap (unless b r) g
@@ -99,9 +106,13 @@ reason-as f blank root (Insert path at name) =
 reason-as f blank root (Unwrap path) =
     unless-as NoNode (lacks-node-as f path root) (unless-as NotElement (lacks-element-as f path root)
     (unless-as RootShape (ap (λ b. is_root path && not b) (ap is_one_element (kids-at-as f path root) ∙ one-as f (kids_at path root))) (unless-as CloseMark (mark-as f blank root (Unwrap path)) refl)))
-reason-as f blank root (Rename path name) = unless-as NoNode (lacks-node-as f path root) (unless-as NotElement (lacks-element-as f path root) (unless-as {a = not (is_new_name name)} BadName {x = None} refl refl))
+reason-as f blank root (Rename path name) = unless-as NoNode (lacks-node-as f path root)
+    (unless-as NotElement (lacks-element-as f path root) (unless-as {a = not (is_new_name name)}
+    BadName {x = None} refl refl))
 reason-as f blank root (Split path at) =
-    unless-as NoNode (lacks-node-as f path root) (unless-as NotText (text-as f path root) (unless-as Range (ap (λ (us : List (List ℕ)). (at == 0) || nat_le (length us) at) (units-as f path root)) refl))
+    unless-as NoNode (lacks-node-as f path root) (unless-as NotText (text-as f path root)
+    (unless-as Range (ap (λ (us : List (List ℕ)). (at == 0) || nat_le (length us) at)
+    (units-as f path root)) refl))
 reason-as f blank root (Join path) =
     unless-as NoNode (lacks-node-as f path root)
     (unless-as NotText (ap (λ b. b || lacks_text (next_of path) (map_marks f root)) (text-as f path root) ∙ ap (λ b. lacks_text path root || b) (text-as f (next_of path) root)) refl)
@@ -150,13 +161,17 @@ inverse-as f root (SetText path text) = ap (Text path) (units-as f path root)
 inverse-as f root (AddText path at text) = ap (Discard (path ++ at ∷ [])) (short-as f path root)
 inverse-as f root (DelText path) = ap (Restore path) (units-as f path root)
 
-root-edited : {M N : Type 0} (f : M → N) (blank : M) (root : Tree M) (edit : Edit) → root_after (change_of (f blank) (map_marks f root) edit).list (change_of (f blank) (map_marks f root) edit) (map_marks f root) ≡ map_marks f (root_after (change_of blank root edit).list (change_of blank root edit) root)
+root-edited : {M N : Type 0} (f : M → N) (blank : M) (root : Tree M) (edit : Edit) →
+    root_after (change_of (f blank) (map_marks f root) edit).list (change_of (f blank)
+    (map_marks f root) edit) (map_marks f root) ≡ map_marks f
+    (root_after (change_of blank root edit).list (change_of blank root edit) root)
 root-edited {N = N} f blank root edit =
     let c = change_of blank root edit in
     ap (λ (d : Change N). root_after d.list d (map_marks f root)) (sym (change-of-as f blank root edit)) ∙ root-as f c.list c root
 
 -- the inverse of an edit leads back
-pub made-leads : {M : Type 0} (blank : M) (doc made : PlainDoc M) (edit : Edit) → IsKept doc.root → edit_outcome blank doc edit ≡ gives made → LeadsBack (inverse_of doc.root edit) made (unmarked_doc doc)
+pub made-leads : {M : Type 0} (blank : M) (doc made : PlainDoc M) (edit : Edit) → IsKept doc.root →
+    edit_outcome blank doc edit ≡ gives made → LeadsBack (inverse_of doc.root edit) made (unmarked_doc doc)
 made-leads {M = M} blank doc made edit k h =
     let f : M → Unit = λ _. tt in
     let reason = given-reason (reason_of blank doc.root edit) _ made h in

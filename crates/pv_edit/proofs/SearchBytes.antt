@@ -62,10 +62,15 @@ literal-searched s c (inl h) _ _ = rw (one_byte c h) (one-searched s c)
 literal-searched s c (inr l) (inl h) _ =
     quiet-searched s (encode c) _ _ (two_bytes c l h) (and_from _ _ (high-quiet (192 + c / 64) (omega arith)) (and_from _ true (high-quiet (next c) (omega arith)) refl))
 literal-searched s c (inr _) (inr l) (inl h) =
-    quiet-searched s (encode c) _ _ (three_bytes c l h) (and_from _ _ (high-quiet (224 + c / 4096) (omega arith)) (and_from _ _ (high-quiet (next (c / 64)) (omega arith)) (and_from _ true (high-quiet (next c) (omega arith)) refl)))
+    quiet-searched s (encode c) _ _ (three_bytes c l h) (and_from _ _ (high-quiet (224 + c / 4096)
+    (omega arith)) (and_from _ _ (high-quiet (next (c / 64)) (omega arith)) (and_from _ true
+    (high-quiet (next c) (omega arith)) refl)))
 literal-searched s c (inr _) (inr _) (inr l) =
     quiet-searched s (encode c) _ _ (four_bytes c l)
-    (and_from _ _ (high-quiet (240 + c / 262144) (omega arith)) (and_from _ _ (high-quiet (next (c / 4096)) (omega arith)) (and_from _ _ (high-quiet (next (c / 64)) (omega arith)) (and_from _ true (high-quiet (next c) (omega arith)) refl))))
+    (and_from _ _ (high-quiet (240 + c / 262144) (omega arith))
+    (and_from _ _ (high-quiet (next (c / 4096)) (omega arith))
+    (and_from _ _ (high-quiet (next (c / 64)) (omega arith)) (and_from _ true
+    (high-quiet (next c) (omega arith)) refl))))
 
 all-both : (p : ℕ → Bool) (xs ys : List ℕ) → list_all p xs ≡ true → list_all p ys ≡ true → list_all p (xs ++ ys) ≡ true
 all-both p xs ys h k = list_all-append p xs ys ∙ and_from (list_all p xs) (list_all p ys) h k
@@ -74,7 +79,10 @@ digits-quiet : (base : ℕ) (digits : List ℕ) → base ≤ 16 → list_all (λ
 digits-quiet base [] known all = refl
 digits-quiet base (d ∷ ds) known all =
     let p = and_parts (is_digit d base) (list_all (λ k. is_digit k base) ds) all in
-    let apart = λ (n : ℕ) (high : 16 ≤ digit_value n) (same : d ≡ n). let low : digit_value n < base = ltb-true (digit_value n) base (let P : ℕ → Type 0 = λ k. is_digit k base ≡ true in subst P same p.0) in let no : ⊥ = omega arith in no in
+    let apart = λ (n : ℕ) (high : 16 ≤ digit_value n) (same : d ≡ n). let low : digit_value n
+    < base = ltb-true (digit_value n) base
+    (let P : ℕ → Type 0 = λ k. is_digit k base ≡ true in subst P same p.0) in let no : ⊥ =
+    omega arith in no in
     and_from (is_quiet d) (list_all is_quiet ds) (is-quiet d (apart 93 (omega arith)) (apart 62 (omega arith))) (digits-quiet base ds known p.1)
 
 name-quiet : (name : List ℕ) → IsPredefined name → list_all is_quiet name ≡ true
@@ -86,8 +94,12 @@ name-quiet name (inr (inr (inr (inr e)))) = rw e refl
 
 unit-searched : (s : Brackets) (u : List ℕ) → IsUnit u → after_unit s u ≡ search_bytes s u
 unit-searched s u (inl is) = rw is.whole (literal-searched s is.code (cases_lt is.code 128) (cases_lt is.code 2048) (cases_lt is.code 65536))
-unit-searched s u (inr (inl (inl is))) = quiet-searched s u 38 (35 ∷ (is.digits ++ codes ";")) is.whole (all-both is_quiet is.digits (codes ";") (digits-quiet 10 is.digits (omega arith) is.are_digits) refl)
-unit-searched s u (inr (inl (inr is))) = quiet-searched s u 38 (35 ∷ 120 ∷ (is.digits ++ codes ";")) is.whole (all-both is_quiet is.digits (codes ";") (digits-quiet 16 is.digits (omega arith) is.are_digits) refl)
+unit-searched s u (inr (inl (inl is))) = quiet-searched s u 38 (35 ∷ (is.digits ++ codes ";"))
+    is.whole (all-both is_quiet is.digits (codes ";") (digits-quiet 10 is.digits (omega arith)
+    is.are_digits) refl)
+unit-searched s u (inr (inl (inr is))) = quiet-searched s u 38 (35 ∷ 120 ∷ (is.digits ++ codes ";"))
+    is.whole (all-both is_quiet is.digits (codes ";") (digits-quiet 16 is.digits (omega arith)
+    is.are_digits) refl)
 unit-searched s u (inr (inr is)) = quiet-searched s u 38 (is.name ++ codes ";") is.is_reference.whole (all-both is_quiet is.name (codes ";") (name-quiet is.name is.is_predefined) refl)
 
 bytes-on : (s : Brackets) (xs ys : List ℕ) → search_bytes s (xs ++ ys) ≡ option_and_then (λ c. search_bytes c ys) (search_bytes s xs)

@@ -9,11 +9,11 @@ use Rattle.pv_tree.specs.Places.{at_node as at_spot}
 use Rattle.pv_tree.proofs.Levels.{trees-forest}
 use Rattle.pv_edit.specs.Effects.{parent_of, kid_place}
 use Rattle.pv_edit.specs.Reasons.{kids_at}
-use Rattle.pv_edit.proofs.Listing.{has_parent}
+use Rattle.pv_edit.proofs.ListPlaces.{has_parent}
 use Rattle.pv_edit.specs.Changes.{Change, in_place_of, list_after, owner_after, change_kid, change_below, root_after}
 use Rattle.pv_edit.proofs.Depths.{deeper, node-depth, splice-deeper, middle-depth}
 use Rattle.pv_edit.proofs.Levels.{forest-trees}
-use Rattle.pv_edit.proofs.Standing.{KidAt, first, later, kid_at, NodeAt, here, down}
+use Rattle.pv_edit.proofs.NodePlaces.{KidAt, first, later, kid_at, NodeAt, here, down}
 use Rattle.pv_edit.proofs.Whole.{whole, Owner, owner-of, Made, after-whole}
 
 kid-nodes : {M : Type 0} {i : ℕ} {kids : Forest M} {k : Tree M} (f : Tree M → Tree M) → KidAt i kids k → nodes_in_all (change_kid f i kids) + nodes_in k ≡ nodes_in_all kids + nodes_in (f k)
@@ -28,7 +28,9 @@ nodes-append : {M : Type 0} (xs ys : List (Tree M)) → nodes_in_all (forest_of 
 nodes-append [] ys = omega arith
 nodes-append (x ∷ xs) ys = omega (arith, nodes-append xs ys)
 
-nodes-spliced : {M : Type 0} (ts new : List (Tree M)) (from to : ℕ) → from ≤ to → nodes_in_all (forest_of (take from ts ++ (new ++ drop to ts))) + nodes_in_all (forest_of (between from to ts)) ≡ nodes_in_all (forest_of ts) + nodes_in_all (forest_of new)
+nodes-spliced : {M : Type 0} (ts new : List (Tree M)) (from to : ℕ) → from ≤ to →
+    nodes_in_all (forest_of (take from ts ++ (new ++ drop to ts))) + nodes_in_all
+    (forest_of (between from to ts)) ≡ nodes_in_all (forest_of ts) + nodes_in_all (forest_of new)
 nodes-spliced ts new from to h =
     let whole = ap (λ l. nodes_in_all (forest_of l)) (split_between ts from to h) in
     let a = nodes-append (take from ts) (between from to ts ++ drop to ts) in

@@ -1,5 +1,6 @@
 -- The texts that may be put into a document are those that mean units.
-use Rattle.std.proofs.Common.{◌≡◌, ◌≢◌, ◌∙◌, ap, sym, refl, ℕ, ◌-◌, ◌<◌, ◌≤◌, Bool, true, false, not, ◌&&◌, ◌||◌, ◌⊎◌, inl, inr, List, [], ◌∷◌, ◌++◌, length, Result, Ok, Err, arith, subst, append_assoc, length-append}
+use Rattle.std.proofs.Common.{◌≡◌, ◌≢◌, ◌∙◌, ap, sym, refl, ℕ, ◌-◌, ◌<◌, ◌≤◌, Bool, true, false, not, ◌&&◌, ◌||◌, ◌⊎◌, inl, inr, List, [], ◌∷◌, ◌++◌}
+use Rattle.std.proofs.Common.{length, Result, Ok, Err, arith, subst, append_assoc, length-append}
 use Rattle.std.specs.Prelude.{codes, ◌↔◌, IsTrue}
 use Rattle.std.proofs.lemmas.Bool.{and_parts, and_from, or_parts, not-true, not_from_false, false_from_ne_true}
 use Rattle.std.proofs.lemmas.List.{append-nil}
@@ -63,7 +64,14 @@ tested-ref base front u is =
     let p = and_parts (are_char_digits base (inner_part front u)) (bytes_eq u (front ++ (inner_part front u ++ codes ";"))) is in
     let d = and_parts (is_some_bytes (inner_part front u) && list_all (λ d. is_digit d base) (inner_part front u)) (is_char (number base (inner_part front u))) p.0 in
     let s = and_parts (is_some_bytes (inner_part front u)) (list_all (λ d. is_digit d base) (inner_part front u)) d.0 in
-    record { digits = inner_part front u; some = tested-some (inner_part front u) s.0; are_digits = s.1; is_char = d.1; whole = (bytes_eq-Decides u (front ++ (inner_part front u ++ codes ";"))).0 p.1 }
+    record {
+      digits = inner_part front u;
+      some = tested-some (inner_part front u) s.0;
+      are_digits = s.1;
+      is_char = d.1;
+      whole =
+          (bytes_eq-Decides u (front ++ (inner_part front u ++ codes ";"))).0 p.1;
+    }
 
 abbrev predefined_refs : List (List ℕ)
 predefined_refs = codes "&lt;" ∷ codes "&gt;" ∷ codes "&amp;" ∷ codes "&apos;" ∷ codes "&quot;" ∷ []
@@ -80,9 +88,20 @@ predefined-tested u name (inr (inr (inr (inl e)))) is = rw (same-ref u name is (
 predefined-tested u name (inr (inr (inr (inr e)))) is = rw (same-ref u name is (codes "quot") e) refl
 
 known-ref : (u name : List ℕ) → IsPredefined name → IsName name → bytes_eq u (codes "&" ++ (name ++ codes ";")) ≡ true → IsUnit u
-known-ref u name known named e = inr (inr (record { name = name; is_predefined = known; is_reference = record { is_name = named; whole = (bytes_eq-Decides u (codes "&" ++ (name ++ codes ";"))).0 e } }))
+known-ref u name known named e =
+    inr (inr (record {
+      name = name;
+      is_predefined = known;
+      is_reference = record {
+        is_name = named;
+        whole = (bytes_eq-Decides u (codes "&"
+            ++ (name ++ codes ";"))).0 e;
+      };
+    }))
 
-tested-predefined : (u : List ℕ) (lt gt amp apos quot : Bool) → bytes_eq u (codes "&lt;") ≡ lt → bytes_eq u (codes "&gt;") ≡ gt → bytes_eq u (codes "&amp;") ≡ amp → bytes_eq u (codes "&apos;") ≡ apos → bytes_eq u (codes "&quot;") ≡ quot
+tested-predefined : (u : List ℕ) (lt gt amp apos quot : Bool) → bytes_eq u (codes "&lt;") ≡ lt →
+    bytes_eq u (codes "&gt;") ≡ gt → bytes_eq u (codes "&amp;") ≡ amp → bytes_eq u (codes "&apos;")
+    ≡ apos → bytes_eq u (codes "&quot;") ≡ quot
     → (lt || (gt || (amp || (apos || (quot || false))))) ≡ true → IsUnit u
 unfolding is_utf8 chars encode
 tested-predefined u true gt amp apos quot a b c d e h = known-ref u (codes "lt") (inl refl) (IsName-is_name (codes "lt") refl) a
@@ -105,9 +124,14 @@ unit-tested u (inl is) = or_left _ _ (literal-tested u is)
 unit-tested u (inr (inl (inl is))) = or_second (is_utf8 u && is_one_literal (chars u)) _ (or_left _ _ (ref-tested 10 (codes "&#") u is))
 unit-tested u (inr (inl (inr is))) = or_second (is_utf8 u && is_one_literal (chars u)) _ (or_second (is_char_ref_in 10 (codes "&#") u) _ (or_left _ _ (ref-tested 16 (codes "&#x") u is)))
 unit-tested u (inr (inr is)) =
-    or_second (is_utf8 u && is_one_literal (chars u)) _ (or_second (is_char_ref_in 10 (codes "&#") u) _ (or_second (is_char_ref_in 16 (codes "&#x") u) _ (predefined-tested u is.name is.is_predefined is.is_reference)))
+    or_second (is_utf8 u && is_one_literal (chars u)) _
+    (or_second (is_char_ref_in 10 (codes "&#") u) _
+    (or_second (is_char_ref_in 16 (codes "&#x") u) _ (predefined-tested u is.name
+    is.is_predefined is.is_reference)))
 
-tested-by : (u : List ℕ) (a b c d : Bool) → (is_utf8 u && is_one_literal (chars u)) ≡ a → is_char_ref_in 10 (codes "&#") u ≡ b → is_char_ref_in 16 (codes "&#x") u ≡ c → list_any (bytes_eq u) predefined_refs ≡ d → (a || (b || (c || d))) ≡ true → IsUnit u
+tested-by : (u : List ℕ) (a b c d : Bool) → (is_utf8 u && is_one_literal (chars u)) ≡ a →
+    is_char_ref_in 10 (codes "&#") u ≡ b → is_char_ref_in 16 (codes "&#x") u ≡ c →
+    list_any (bytes_eq u) predefined_refs ≡ d → (a || (b || (c || d))) ≡ true → IsUnit u
 tested-by u true b c d e f g i h =
     let p = and_parts (is_utf8 u) (is_one_literal (chars u)) e in
     inl (literal-of u (chars u) (sym (encodes-chars u (IsUtf8-from_is_utf8 u p.0))) p.1)
@@ -136,7 +160,9 @@ one-literal b low other u more rest (inr (inl (inl is))) e = let h = ap (λ (l :
 one-literal b low other u more rest (inr (inl (inr is))) e = let h = ap (λ (l : List ℕ). l ++ more) (sym is.whole) ∙ e in absurd (other cc)
 one-literal b low other u more rest (inr (inr is)) e = let h = ap (λ (l : List ℕ). l ++ more) (sym is.is_reference.whole) ∙ e in absurd (other cc)
 
-first-literal : (b : ℕ) → b < 128 → (38 ≡ b → ⊥) → (us : List (List ℕ)) (rest : List ℕ) → AllUnits us → joined us ≡ b ∷ rest → (vs : List (List ℕ)) × (us ≡ (b ∷ []) ∷ vs) × (joined vs ≡ rest) × AllUnits vs
+first-literal : (b : ℕ) → b < 128 → (38 ≡ b → ⊥) → (us : List (List ℕ)) (rest : List ℕ) →
+    AllUnits us → joined us ≡ b ∷ rest → (vs : List (List ℕ)) × (us ≡ (b ∷ []) ∷ vs)
+    × (joined vs ≡ rest) × AllUnits vs
 first-literal b low other [] rest all e = absurd cc
 first-literal b low other (u ∷ us) rest all e = let s = one-literal b low other u (joined us) rest all.0 e in (us, ap (λ (v : List ℕ). v ∷ us) s.0, s.1, all.1)
 
@@ -183,7 +209,9 @@ units-meant {before} {rest} (ends e) out s = let k : out ≡ before = cc in reco
 units-meant {before} {rest} (unit u more b r) out s =
     let t = units-meant r out s in
     let bytes : rest ≡ joined (u ∷ t.us) = b.whole ∙ ap (λ (l : List ℕ). u ++ l) t.bytes in
-    let none : begins_close_mark (u ∷ t.us) ≡ false = false_from_ne_true (begins_close_mark (u ∷ t.us)) (λ m. b.no_close_mark (subst (λ (l : List ℕ). BeginsCloseMark l) (sym bytes) (begins-mark (u ∷ t.us) m))) in
+    let none : begins_close_mark (u ∷ t.us) ≡ false =
+    false_from_ne_true (begins_close_mark (u ∷ t.us)) (λ m. b.no_close_mark
+    (subst (λ (l : List ℕ). BeginsCloseMark l) (sym bytes) (begins-mark (u ∷ t.us) m))) in
     record {
       us = u ∷ t.us;
       whole = t.whole ∙ append_assoc before (u ∷ []) t.us;
@@ -221,7 +249,9 @@ tested-text bytes h =
 text-tested : (bytes : List ℕ) → IsText bytes → is_character_data bytes ≡ true
 text-tested bytes t =
     let us = units_in bytes in
-    and_from _ _ (and_from _ _ (and_from (is_some_bytes bytes) (list_all is_unit us) (some-tested bytes t.some) (units-tested us t.all)) ((bytes_eq-Decides (joined us) bytes).1 (sym t.whole))) (not_from_false (holds_close_mark us) t.no_mark)
+    and_from _ _ (and_from _ _ (and_from (is_some_bytes bytes) (list_all is_unit us)
+    (some-tested bytes t.some) (units-tested us t.all)) ((bytes_eq-Decides (joined us) bytes).1
+    (sym t.whole))) (not_from_false (holds_close_mark us) t.no_mark)
 
 pub meant-tested : (bytes : List ℕ) (out : List (List ℕ)) → TextMeans bytes (Ok out) → (is_character_data bytes ≡ true) × (out ≡ units_in bytes)
 meant-tested bytes out m = let t = meant-text bytes out m in (text-tested bytes t.0, t.1)

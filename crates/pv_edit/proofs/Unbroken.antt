@@ -10,8 +10,8 @@ use Rattle.pv_edit.specs.CloseMarks.{after_unit, search_units, search_trees}
 use Rattle.pv_edit.specs.Reasons.{spells_close_mark}
 use Rattle.pv_edit.specs.declared.close_marks.Brackets.{Brackets}
 use Rattle.pv_edit.specs.declared.close_marks.Brackets.TheVariants.{Zero}
-use Rattle.pv_edit.proofs.Searching.{run_searched, searched_on}
-use Rattle.pv_edit.proofs.Standing.{KidAt, first, later}
+use Rattle.pv_edit.proofs.CloseMarkSearch.{run_searched, searched_on}
+use Rattle.pv_edit.proofs.NodePlaces.{KidAt, first, later}
 use Rattle.pv_edit.proofs.EachNode.{EachNode, EachNodes, StaysAbove}
 
 -- no run of texts in the list of an element spells it
@@ -34,11 +34,15 @@ front-same (text_node units) rest other h = ap (λ l. units ++ l) h
 front-same (cdata_node bytes) rest other h = refl
 front-same (misc_node bytes) rest other h = refl
 
-fronts-stay : {M : Type 0} {i : ℕ} {kids : Forest M} {k : Tree M} (g : Tree M → Tree M) → KidAt i kids k → is_element k ≡ true → is_element (g k) ≡ true → front_units (change_kid g i kids) ≡ front_units kids
+fronts-stay : {M : Type 0} {i : ℕ} {kids : Forest M} {k : Tree M} (g : Tree M → Tree M) →
+    KidAt i kids k → is_element k ≡ true → is_element (g k) ≡ true →
+    front_units (change_kid g i kids) ≡ front_units kids
 fronts-stay g (first {t = t} {rest = rest}) h p = front-element (g t) rest p ∙ sym (front-element t rest h)
 fronts-stay g (later {t = t} q) h p = front-same t _ _ (fronts-stay g q h p)
 
-spells-stay : {M : Type 0} {i : ℕ} {kids : Forest M} {k : Tree M} (g : Tree M → Tree M) → KidAt i kids k → is_element k ≡ true → is_element (g k) ≡ true → spells_close_mark (change_kid g i kids) ≡ spells_close_mark kids
+spells-stay : {M : Type 0} {i : ℕ} {kids : Forest M} {k : Tree M} (g : Tree M → Tree M) →
+    KidAt i kids k → is_element k ≡ true → is_element (g k) ≡ true →
+    spells_close_mark (change_kid g i kids) ≡ spells_close_mark kids
 spells-stay g (first {t = t} {rest = rest}) h p = ap (λ l. holds_close_mark l || spells_close_mark rest) (fronts-stay g (first {t = t} {rest = rest}) h p)
 spells-stay g (later {i = i} {t = t} {rest = rest} q) h p =
     ap (λ l. holds_close_mark l || spells_close_mark (change_kid g i rest)) (fronts-stay g (later {t = t} q) h p) ∙ ap (λ b. holds_close_mark (front_units (tree t rest)) || b) (spells-stay g q h p)
@@ -121,11 +125,16 @@ pub front-only : {M : Type 0} (xs ys : List (Tree M)) → spells_close_mark (for
 front-only xs ys h = let f = front-search xs ys h in sym (run_searched xs) ∙ ap is_none f.1
 
 -- an element in place of anything
-pub element-between : {M : Type 0} (front old back : List (Tree M)) (t : Tree M) → is_element t ≡ true → spells_close_mark (forest_of (front ++ (old ++ back))) ≡ false → spells_close_mark (forest_of (front ++ t ∷ back)) ≡ false
+pub element-between : {M : Type 0} (front old back : List (Tree M)) (t : Tree M) →
+    is_element t ≡ true → spells_close_mark (forest_of (front ++ (old ++ back))) ≡ false →
+    spells_close_mark (forest_of (front ++ t ∷ back)) ≡ false
 element-between front old back (element x attrs e kids m) k h =
     let f = front-search front (old ++ back) h in
     let b = back-none old back (back-none front (old ++ back) h) in
-    sym (run_searched (front ++ element x attrs e kids m ∷ back)) ∙ ap is_none (searched_on Zero front (element x attrs e kids m ∷ back) ∙ ap (option_and_then (λ c. search_trees c (element x attrs e kids m ∷ back))) f.1) ∙ run_searched back ∙ b
+    sym (run_searched (front ++ element x attrs e kids m ∷ back))
+    ∙ ap is_none (searched_on Zero front (element x attrs e kids m ∷ back)
+    ∙ ap (option_and_then (λ c. search_trees c (element x attrs e kids m ∷ back))) f.1)
+    ∙ run_searched back ∙ b
 element-between front old back (text_node units) k h = absurd cc
 element-between front old back (cdata_node bytes) k h = absurd cc
 element-between front old back (misc_node bytes) k h = absurd cc
@@ -139,11 +148,16 @@ units-on b (u ∷ us) vs =
 
 texts-search : {M : Type 0} (b : Brackets) (us vs : List (List ℕ)) (back : List (Tree M)) → search_trees b (text_node us ∷ text_node vs ∷ back) ≡ search_trees b (text_node (us ++ vs) ∷ back)
 texts-search b us vs back =
-    (elim (search_units b us) as (λ o. option_and_then (λ c. option_and_then (λ d. search_trees d back) (search_units c vs)) o ≡ option_and_then (λ d. search_trees d back) (option_and_then (λ c. search_units c vs) o))
+    (elim (search_units b us) as (λ o. option_and_then (λ c. option_and_then
+    (λ d. search_trees d back) (search_units c vs)) o ≡ option_and_then
+    (λ d. search_trees d back) (option_and_then (λ c. search_units c vs) o))
     [ None ↦ refl | Some c ↦ refl ])
     ∙ ap (option_and_then (λ d. search_trees d back)) (sym (units-on b us vs))
 
-pub texts-joined : {M : Type 0} (front : List (Tree M)) (us vs : List (List ℕ)) (back : List (Tree M)) → spells_close_mark (forest_of (front ++ text_node us ∷ text_node vs ∷ back)) ≡ spells_close_mark (forest_of (front ++ text_node (us ++ vs) ∷ back))
+pub texts-joined : {M : Type 0} (front : List (Tree M)) (us vs : List (List ℕ))
+    (back : List (Tree M)) →
+    spells_close_mark (forest_of (front ++ text_node us ∷ text_node vs ∷ back)) ≡ spells_close_mark
+    (forest_of (front ++ text_node (us ++ vs) ∷ back))
 texts-joined front us vs back =
     let two = text_node us ∷ text_node vs ∷ back in
     let one = text_node (us ++ vs) ∷ back in

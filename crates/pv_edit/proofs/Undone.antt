@@ -24,14 +24,14 @@ use Rattle.pv_edit.specs.declared.edits.Edit.TheVariants.{Wrap, Insert, Unwrap, 
 use Rattle.pv_edit.specs.declared.inverses.Inverse.{Inverse}
 use Rattle.pv_edit.specs.declared.inverses.Inverse.TheVariants.{PutBack, Name, Merge, Divide, Text, Restore}
 use Rattle.pv_edit.proofs.Levels.{forest-trees}
-use Rattle.pv_edit.proofs.Listing.{spot-kid, spot-parent}
-use Rattle.pv_edit.proofs.Parted.{get-front, get-more}
+use Rattle.pv_edit.proofs.ListPlaces.{spot-kid, spot-parent}
+use Rattle.pv_edit.proofs.ThreeParts.{get-front, get-more}
 use Rattle.pv_edit.proofs.Paths.{parent-kid, place-kid}
 use Rattle.pv_edit.proofs.Whole.{Made, owner-kids}
-use Rattle.pv_edit.proofs.Cutting.{between-kid, between-kids, between-none, front-length}
-use Rattle.pv_edit.proofs.Passing.{text-at, element-at, next-kid, text-inside, unwrap-passes, rename-passes, split-passes, join-passes, set-passes, del-passes}
-use Rattle.pv_edit.proofs.Making.{never, wrap-made, insert-made, unwrap-made, rename-made, split-made, join-made, set-made, add-made, del-made}
-use Rattle.pv_edit.proofs.Undoing.{Undoes, owner-changed, back-made, root-back, short-owner, ends-same, ends-owner, top-unshort}
+use Rattle.pv_edit.proofs.CutParts.{between-kid, between-kids, between-none, front-length}
+use Rattle.pv_edit.proofs.PassedEdits.{text-at, element-at, next-kid, text-inside, unwrap-passes, rename-passes, split-passes, join-passes, set-passes, del-passes}
+use Rattle.pv_edit.proofs.MadeChanges.{never, wrap-made, insert-made, unwrap-made, rename-made, split-made, join-made, set-made, add-made, del-made}
+use Rattle.pv_edit.proofs.UndoneChanges.{Undoes, owner-changed, back-made, root-back, short-owner, ends-same, ends-owner, top-unshort}
 
 -- The second change can be made after the first, and leads back.
 pub record Returns (root : Tree Unit) (edit : Edit) (inverse : Inverse) : Type 0 where
@@ -39,7 +39,9 @@ pub record Returns (root : Tree Unit) (edit : Edit) (inverse : Inverse) : Type 0
   pub ts : List (Tree Unit)
   pub same : (change_back tt (root_after (change_of tt root edit).list (change_of tt root edit) root) inverse).list ≡ path
   pub made : Made tt path (change_back tt (root_after (change_of tt root edit).list (change_of tt root edit) root) inverse) (root_after (change_of tt root edit).list (change_of tt root edit) root) ts
-  pub back : root_after path (change_back tt (root_after (change_of tt root edit).list (change_of tt root edit) root) inverse) (root_after (change_of tt root edit).list (change_of tt root edit) root) ≡ root
+  pub back : root_after path (change_back tt (root_after (change_of tt root edit).list
+      (change_of tt root edit) root) inverse) (root_after (change_of tt root edit).list
+      (change_of tt root edit) root) ≡ root
   pub ready : HasTexts (root_after (change_of tt root edit).list (change_of tt root edit) root) inverse
 
 -- the root after the edit
@@ -53,7 +55,9 @@ returns root edit inverse ts made u ready =
     let d = change_back tt (edited root edit) inverse in
     record { path = c.list; ts = list_after c ts; same = u.same; made = back-made c.list c d root ts made u; back = root-back c.list c d root ts made u; ready = ready }
 
-wrap-returns : (root : Tree Unit) (path : List ℕ) (from to : ℕ) (name : List ℕ) → reason_of tt root (Wrap path from to name) ≡ None → Returns root (Wrap path from to name) (inverse_of root (Wrap path from to name))
+wrap-returns : (root : Tree Unit) (path : List ℕ) (from to : ℕ) (name : List ℕ) →
+    reason_of tt root (Wrap path from to name) ≡ None → Returns root (Wrap path from to name)
+    (inverse_of root (Wrap path from to name))
 wrap-returns root path from to name h =
     let ts = kids_at path root in
     let made = wrap-made tt tt root path from to name h in
@@ -68,7 +72,9 @@ wrap-returns root path from to name h =
       unshort = top-unshort path root;
     }) tt
 
-insert-returns : (root : Tree Unit) (path : List ℕ) (at : ℕ) (name : List ℕ) → reason_of tt root (Insert path at name) ≡ None → Returns root (Insert path at name) (inverse_of root (Insert path at name))
+insert-returns : (root : Tree Unit) (path : List ℕ) (at : ℕ) (name : List ℕ) →
+    reason_of tt root (Insert path at name) ≡ None → Returns root (Insert path at name)
+    (inverse_of root (Insert path at name))
 insert-returns root path at name h =
     let ts = kids_at path root in
     let made = insert-made tt tt root path at name h in
@@ -83,7 +89,9 @@ insert-returns root path at name h =
       unshort = top-unshort path root;
     }) tt
 
-add-returns : (root : Tree Unit) (path : List ℕ) (at : ℕ) (text : List ℕ) → reason_of tt root (AddText path at text) ≡ None → Returns root (AddText path at text) (inverse_of root (AddText path at text))
+add-returns : (root : Tree Unit) (path : List ℕ) (at : ℕ) (text : List ℕ) →
+    reason_of tt root (AddText path at text) ≡ None → Returns root (AddText path at text)
+    (inverse_of root (AddText path at text))
 add-returns root path at text h =
     let ts = kids_at path root in
     let made = add-made tt tt root path at text h in
@@ -154,12 +162,17 @@ not-top [] root h = absurd cc
 not-top (i ∷ path) root h = refl
 
 -- a text of the changed list, and the one after it
-spot-first : (path : List ℕ) (root : Tree Unit) (front back : List (Tree Unit)) (u : List (List ℕ)) → is_top path ≡ false → kids_at (parent_of path) root ≡ front ++ text_node u ∷ back → length front ≡ kid_place path → spot_at path root ≡ Some (at_spot (text_node u))
+spot-first : (path : List ℕ) (root : Tree Unit) (front back : List (Tree Unit))
+    (u : List (List ℕ)) → is_top path ≡ false → kids_at (parent_of path) root ≡ front
+    ++ text_node u ∷ back → length front ≡ kid_place path → spot_at path root ≡ Some (at_spot (text_node u))
 spot-first path root front back u t k n =
     spot-parent path root t ∙ ap (λ l. option_map at_spot (slice_get l (kid_place path))) k ∙ ap (λ i. option_map at_spot (slice_get (front ++ text_node u ∷ back) i)) (sym n)
     ∙ ap (option_map at_spot) (get-front front back (text_node u))
 
-spot-next : (path : List ℕ) (root : Tree Unit) (front back : List (Tree Unit)) (u v : List (List ℕ)) → kids_at (parent_of path) root ≡ front ++ text_node u ∷ text_node v ∷ back → length front ≡ kid_place path → spot_at (next_of path) root ≡ Some (at_spot (text_node v))
+spot-next : (path : List ℕ) (root : Tree Unit) (front back : List (Tree Unit))
+    (u v : List (List ℕ)) → kids_at (parent_of path) root ≡ front
+    ++ text_node u ∷ text_node v ∷ back → length front ≡ kid_place path →
+    spot_at (next_of path) root ≡ Some (at_spot (text_node v))
 spot-next path root front back u v k n =
     spot-kid (parent_of path) (kid_place path + 1) root ∙ ap (λ l. option_map at_spot (slice_get l (kid_place path + 1))) k
     ∙ ap (λ i. option_map at_spot (slice_get (front ++ text_node u ∷ text_node v ∷ back) (i + 1))) (sym n)
@@ -172,7 +185,9 @@ some-length : (us : List (List ℕ)) → us ≢ [] → 0 < length us
 some-length [] h = absurd (h refl)
 some-length (u ∷ us) h = omega arith
 
-split-returns : (root : Tree Unit) (path : List ℕ) (at : ℕ) → is_element root ≡ true → is_formed root ≡ true → reason_of tt root (Split path at) ≡ None → Returns root (Split path at) (inverse_of root (Split path at))
+split-returns : (root : Tree Unit) (path : List ℕ) (at : ℕ) → is_element root ≡ true →
+    is_formed root ≡ true → reason_of tt root (Split path at) ≡ None →
+    Returns root (Split path at) (inverse_of root (Split path at))
 split-returns root path at r f h =
     let list = parent_of path in
     let i = kid_place path in
@@ -201,7 +216,9 @@ split-returns root path at r f h =
     })
     (ap is_lacking spot, ap is_lacking next)
 
-join-returns : (root : Tree Unit) (path : List ℕ) → is_element root ≡ true → is_formed root ≡ true → HasUnits root → reason_of tt root (Join path) ≡ None → Returns root (Join path) (inverse_of root (Join path))
+join-returns : (root : Tree Unit) (path : List ℕ) → is_element root ≡ true → is_formed root ≡ true →
+    HasUnits root → reason_of tt root (Join path) ≡ None →
+    Returns root (Join path) (inverse_of root (Join path))
 join-returns root path r f units h =
     let list = parent_of path in
     let i = kid_place path in
@@ -221,20 +238,28 @@ join-returns root path r f units h =
     let kids = owner-kids (owner-changed list c root ts made) in
     let spot = spot-first path (edited root (Join path)) (take i ts) (drop (i + 2) ts) (u ++ v) (not-top path root p.text) kids n in
     let first = ap units_on spot in
-    let whole : mid ≡ text_node u ∷ text_node v ∷ [] = old ∙ ap (λ (a : List (List ℕ)). text_node a ∷ text_node g.units ∷ []) (sym e.are) ∙ ap (λ (b : List (List ℕ)). text_node u ∷ text_node b ∷ []) (sym g.are) in
-    let some : (u ≢ []) × EachNodes (United {M = Unit}) (forest_of (text_node v ∷ [])) = subst (λ (l : List (Tree Unit)). EachNodes United (forest_of l)) whole (each-old United ts i (i + 2) made.order (each-of-list United made.owner (tt, (units-each root units, tt)))) in
+    let whole : mid ≡ text_node u ∷ text_node v ∷ [] = old
+    ∙ ap (λ (a : List (List ℕ)). text_node a ∷ text_node g.units ∷ []) (sym e.are)
+    ∙ ap (λ (b : List (List ℕ)). text_node u ∷ text_node b ∷ []) (sym g.are) in
+    let some : (u ≢ []) × EachNodes (United {M = Unit}) (forest_of (text_node v ∷ [])) =
+    subst (λ (l : List (Tree Unit)). EachNodes United (forest_of l)) whole (each-old United ts i
+    (i + 2) made.order (each-of-list United made.owner (tt, (units-each root units, tt)))) in
     returns root (Join path) (Divide path (length u)) ts made (record {
       same = refl;
       from = refl;
       to = refl;
       fits = tt;
-      back = rw (first, take-append_seam u v, drop-append_seam u v) (ap (λ (a : List (List ℕ)). text_node a ∷ text_node v ∷ []) e.are ∙ ap (λ (b : List (List ℕ)). text_node e.units ∷ text_node b ∷ []) g.are ∙ sym old);
+      back = rw (first, take-append_seam u v, drop-append_seam u v)
+          (ap (λ (a : List (List ℕ)). text_node a ∷ text_node v ∷ []) e.are
+          ∙ ap (λ (b : List (List ℕ)). text_node e.units ∷ text_node b ∷ []) g.are ∙ sym old);
       ends = ends-owner made.owner (list_after c ts) f i w;
       unshort = λ t. never list (text-inside path root r p.text) t;
     })
     (ap is_lacking spot, some-length u some.0, omega (arith, ap length first, length-append u v, some-length v some.1.0))
 
-set-returns : (root : Tree Unit) (path text : List ℕ) → is_element root ≡ true → is_formed root ≡ true → reason_of tt root (SetText path text) ≡ None → Returns root (SetText path text) (inverse_of root (SetText path text))
+set-returns : (root : Tree Unit) (path text : List ℕ) → is_element root ≡ true →
+    is_formed root ≡ true → reason_of tt root (SetText path text) ≡ None →
+    Returns root (SetText path text) (inverse_of root (SetText path text))
 set-returns root path text r f h =
     let list = parent_of path in
     let i = kid_place path in
@@ -255,7 +280,8 @@ set-returns root path text r f h =
       unshort = λ t. never list (text-inside path root r p.text) t;
     }) tt
 
-del-returns : (root : Tree Unit) (path : List ℕ) → is_element root ≡ true → is_formed root ≡ true → reason_of tt root (DelText path) ≡ None → Returns root (DelText path) (inverse_of root (DelText path))
+del-returns : (root : Tree Unit) (path : List ℕ) → is_element root ≡ true → is_formed root ≡ true →
+    reason_of tt root (DelText path) ≡ None → Returns root (DelText path) (inverse_of root (DelText path))
 del-returns root path r f h =
     let list = parent_of path in
     let i = kid_place path in

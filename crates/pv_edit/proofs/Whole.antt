@@ -8,8 +8,8 @@ use Rattle.pv_tree.specs.Places.{at_node as at_spot}
 use Rattle.pv_edit.specs.Changes.{Change, list_after, ending_after, owner_after, change_below, first_tree, root_after}
 use Rattle.pv_edit.specs.Fitting.{CanFill, SuitsChange, CanChange}
 use Rattle.pv_edit.specs.Reasons.{is_top, items_of, kids_at}
-use Rattle.pv_edit.proofs.Standing.{NodeAt, here, down, at_node, first}
-use Rattle.pv_edit.proofs.Listing.{ListAt, top, inside}
+use Rattle.pv_edit.proofs.NodePlaces.{NodeAt, here, down, at_node, first}
+use Rattle.pv_edit.proofs.ListPlaces.{ListAt, top, inside}
 
 abbrev pub whole : {M : Type 0} → M → Tree M → Tree M
 whole m root = element (100 ∷ []) [] (tagged []) (tree root no_trees) m
@@ -63,7 +63,9 @@ ending-kept : {M : Type 0} (b : Bool) (ts : List (Tree M)) → b ≡ false → e
 ending-kept false ts h = refl
 ending-kept true ts h = absurd cc
 
-pub after-whole : {M : Type 0} {m : M} (list : List ℕ) (c : Change M) (root : Tree M) (ts : List (Tree M)) → Made m list c root ts → whole m (root_after list c root) ≡ change_below list (owner_after c) (whole m root)
+pub after-whole : {M : Type 0} {m : M} (list : List ℕ) (c : Change M) (root : Tree M)
+    (ts : List (Tree M)) → Made m list c root ts → whole m (root_after list c root)
+    ≡ change_below list (owner_after c) (whole m root)
 after-whole {m = m} [] c root ts d =
     let k = top-kids d.owner in
     let n : length (list_after c (root ∷ [])) ≡ 1 = rw (← k) (d.one refl) in

@@ -26,7 +26,7 @@ pub enum Filling {
     Around { name: Bytes, attrs: Bytes, end: End },
     /// Their own kids.
     Inner,
-    /// Their own kids, under another name.
+    /// The kid itself, under another name.
     Named(Bytes),
 }
 

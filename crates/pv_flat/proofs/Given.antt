@@ -9,7 +9,7 @@ use Rattle.pv_read.specs.Items.{HasKnownReferences, Item, xml_declaration, docty
 use Rattle.pv_read.specs.Kinds.{entity}
 use Rattle.pv_read.specs.Left.{Left, Open, closed_element, empty_element, in_content, joined_to, just_opened, left_by, with_kid}
 use Rattle.pv_read.specs.Steps.{TakesItem}
-use Rattle.pv_read.proofs.Decided.{known_is_decided}
+use Rattle.pv_read.proofs.DecidedReferences.{known_is_decided}
 use Rattle.pv_read.proofs.DocumentFacts.{data_joined}
 use Rattle.pv_flat.specs.Plain.{PlainEvent, begin_element, cdata_here, end_element, events_in, events_of, events_of_all, events_so_far, misc_here, text_here}
 
@@ -23,7 +23,9 @@ with-kid e t outer =
     ∙ sym (append_assoc (events_in outer) (begin_element e.name e.attrs ∷ events_of_all (forest_of e.kids)) (events_of t))
 
 -- an element that ends
-pub closed : (before : List ℕ) (e : Open Mark) (outer : List (Open Mark)) (gap : List ℕ) → events_so_far (joined_to before outer (closed_element blank_mark e gap)) ≡ events_in (e ∷ outer) ++ end_element ∷ []
+pub closed : (before : List ℕ) (e : Open Mark) (outer : List (Open Mark)) (gap : List ℕ) →
+    events_so_far (joined_to before outer (closed_element blank_mark e gap)) ≡ events_in (e ∷ outer)
+    ++ end_element ∷ []
 closed before e [] gap = refl
 closed before e (o ∷ os) gap =
     with-kid o (closed_element blank_mark e gap) os
@@ -49,7 +51,9 @@ given_by (end_tag name gap) = end_element ∷ []
 given_by (text_run bytes) = text_here bytes ∷ []
 
 -- after an item in the root
-pub one-more : (before : List ℕ) (inner : Open Mark) (outer : List (Open Mark)) (i : Item) (next : Left Mark) → HasKnownReferences i → left_by blank_mark (in_content before inner outer) i ≡ Some next → events_so_far next ≡ events_in (inner ∷ outer) ++ given_by i
+pub one-more : (before : List ℕ) (inner : Open Mark) (outer : List (Open Mark)) (i : Item)
+    (next : Left Mark) → HasKnownReferences i → left_by blank_mark (in_content before inner outer) i
+    ≡ Some next → events_so_far next ≡ events_in (inner ∷ outer) ++ given_by i
 one-more before inner outer (xml_declaration bytes) next known e = absurd (cc)
 one-more before inner outer (doctype name bytes) next known e = absurd (cc)
 one-more before inner outer (comment_or_instruction bytes) next known e =

@@ -1,7 +1,7 @@
 -- of this crate:
 pub mod Given
-pub mod Moving
+pub mod StateMoves
 pub mod Openings
-pub mod Refused
+pub mod RootRefusals
 pub mod States
-pub mod Entered
+pub mod EnteredRoot

@@ -22,8 +22,8 @@ use Rattle.pv_flat.specs.declared.state.Stage.{Stage}
 use Rattle.pv_flat.specs.declared.state.Stage.TheVariants as stage
 use Rattle.pv_flat.proofs.Given.{given_by, names-push}
 use Rattle.pv_flat.specs.Steps.{open_names_behind}
-use Rattle.pv_flat.proofs.Moving.{inside}
-use Rattle.pv_flat.proofs.Refused.{place-is, refused-inside}
+use Rattle.pv_flat.proofs.StateMoves.{inside}
+use Rattle.pv_flat.proofs.RootRefusals.{place-is, refused-inside}
 
 pub comes-by : (s : Events) (at : Stage) → s.stage ≡ at → (es : List PlainEvent) (end : TextEnd) → ComesAt at s es end → EventsCome s es end
 comes-by s at is es end c = subst (λ st. ComesAt st s es end) (sym is) c
@@ -39,12 +39,16 @@ passed old new i more at some taken root before rest count names es end c =
     (inside old.root old.before.now old.rest.now (open_names old) old.count i more some taken es end
     (λ left h.
     let there = subst (λ b. IsIn b (open_names new) left) (sym before) (subst (λ ns. IsIn old.before.now ns left) (sym names) h) in
-    subst (λ x. RestComes x (suc old.count) left more es end) root (subst (λ k. RestComes new.root k left more es end) count (subst (λ l. RestComes new.root new.count left l es end) rest (c left there)))))
+    subst (λ x. RestComes x (suc old.count) left more es end) root
+    (subst (λ k. RestComes new.root k left more es end) count
+    (subst (λ l. RestComes new.root new.count left l es end) rest (c left there)))))
 
 pub same-names : (old new : List (Bor (List ℕ))) → new ≡ old → reverse (map (λ (b : Bor (List ℕ)). b.now) new) ≡ reverse (map (λ (b : Bor (List ℕ)). b.now) old)
 same-names old new is = ap (λ xs. reverse (map (λ (b : Bor (List ℕ)). b.now) xs)) is
 
-pub pushed-names : (old pushed new : List (Bor (List ℕ))) (x : Bor (List ℕ)) → pushed ≡ old ++ x ∷ [] → new ≡ pushed → reverse (map (λ (b : Bor (List ℕ)). b.now) new) ≡ x.now ∷ reverse (map (λ (b : Bor (List ℕ)). b.now) old)
+pub pushed-names : (old pushed new : List (Bor (List ℕ))) (x : Bor (List ℕ)) → pushed ≡ old
+    ++ x ∷ [] → new ≡ pushed → reverse (map (λ (b : Bor (List ℕ)). b.now) new) ≡ x.now ∷ reverse
+    (map (λ (b : Bor (List ℕ)). b.now) old)
 pushed-names old pushed new x is same = same-names pushed new same ∙ same-names (old ++ x ∷ []) pushed is ∙ names-push old x
 
 -- no name is left out
@@ -53,13 +57,17 @@ no-more [] e = refl
 no-more (x ∷ xs) e = absurd (omega arith)
 
 pub popped-names : (old popped new : List (Bor (List ℕ))) (r : Option (Bor (List ℕ))) (name gap : List ℕ) → old ≡ popped ++ option_to_list r → new ≡ popped → (r ≡ None → length old ≡ 0) →
-    (reverse (map (λ (b : Bor (List ℕ)). b.now) old) ≡ [] → ⊥) → reverse (map (λ (b : Bor (List ℕ)). b.now) new) ≡ open_names_behind (end_tag name gap) (reverse (map (λ (b : Bor (List ℕ)). b.now) old))
+    (reverse (map (λ (b : Bor (List ℕ)). b.now) old) ≡ [] → ⊥) →
+    reverse (map (λ (b : Bor (List ℕ)). b.now) new) ≡ open_names_behind (end_tag name gap)
+    (reverse (map (λ (b : Bor (List ℕ)). b.now) old))
 popped-names old popped new None name gap is same none some = absurd (some (no-more old (none refl)))
 popped-names old popped new (Some x) name gap is same none some =
     same-names popped new same ∙ sym (ap (open_names_behind (end_tag name gap)) (same-names (popped ++ x ∷ []) old is ∙ names-push popped x))
 
 -- the last of the elements is the innermost
-pub last-name : (items : List (Bor (List ℕ))) (x : Bor (List ℕ)) → slice_get items (length items - 1) ≡ Some x → (outer : List (List ℕ)) × (reverse (map (λ (b : Bor (List ℕ)). b.now) items) ≡ x.now ∷ outer)
+pub last-name : (items : List (Bor (List ℕ))) (x : Bor (List ℕ)) →
+    slice_get items (length items - 1) ≡ Some x → (outer : List (List ℕ))
+    × (reverse (map (λ (b : Bor (List ℕ)). b.now) items) ≡ x.now ∷ outer)
 last-name [] x e = absurd (cc)
 last-name (y ∷ ys) x e =
     let items = y ∷ ys in
@@ -79,7 +87,9 @@ unfolding opens
 names-of-opens [] = refl
 names-of-opens (n ∷ ns) = ap (λ l. n ∷ l) (names-of-opens ns)
 
-may-stand : (before : List ℕ) (inner : Open Mark) (outer : List (Open Mark)) (i : Item) (next : Left Mark) → left_by blank_mark (in_content before inner outer) i ≡ Some next → may_stand_in_content i ≡ true
+may-stand : (before : List ℕ) (inner : Open Mark) (outer : List (Open Mark)) (i : Item)
+    (next : Left Mark) → left_by blank_mark (in_content before inner outer) i ≡ Some next →
+    may_stand_in_content i ≡ true
 may-stand before inner outer (xml_declaration bytes) next e = absurd (cc)
 may-stand before inner outer (doctype name bytes) next e = absurd (cc)
 may-stand before inner outer (comment_or_instruction bytes) next e = refl
@@ -98,7 +108,9 @@ stands-inside s name i more n taken =
 
 -- what is read in the innermost element
 pub read-inside : (s : Events) (name : List ℕ) (many : ℕ) (r : Result (SpannedItem × Bor (List ℕ)) DocError) → IsInnermost s name → many ≡ length (open_names s) →
-    IfOk r (λ x. (left : Left Mark) → place_reached left ≡ content name many → TakesItem None blank_mark s.root left s.rest.now (plain_item x.0) x.1.now) → IfOk r (λ x. TakesInside s (plain_item x.0) x.1.now)
+    IfOk r (λ x. (left : Left Mark) → place_reached left ≡ content name many →
+    TakesItem None blank_mark s.root left s.rest.now (plain_item x.0) x.1.now) →
+    IfOk r (λ x. TakesInside s (plain_item x.0) x.1.now)
 read-inside s name many (Ok x) n count taken = λ left h. taken left (place-is s.before.now name (open_names s) n.0 many n.1 count left h)
 read-inside s name many (Err e) n count taken = tt
 
@@ -109,11 +121,16 @@ refused-in-place s name many (Ok x) n count refused = tt
 refused-in-place s name many (Err e) n count refused = λ left h. refused left (place-is s.before.now name (open_names s) n.0 many n.1 count left h)
 
 -- an error in the root, the state being as it was
-pub refused-advance : (old new : Events) (e : DocError) → old.stage ≡ stage.Inside → ((left : Left Mark) → IsIn old.before.now (open_names old) left → Refuses (DocumentRestMeans None blank_mark old.root old.count left old.rest.now) e) →
+pub refused-advance : (old new : Events) (e : DocError) → old.stage ≡ stage.Inside →
+    ((left : Left Mark) → IsIn old.before.now (open_names old) left →
+    Refuses (DocumentRestMeans None blank_mark old.root old.count left old.rest.now) e) →
     SameState old new → AdvancesBy old (Err e) new
 refused-advance old new e at refused same = (λ es. by e es (refused-inside old.root old.before.now old.rest.now (open_names old) old.count e refused), same)
   where
-    by : (e : DocError) (es : List PlainEvent) → Refuses (λ o. (left : Left Mark) → IsIn old.before.now (open_names old) left → DocumentRestMeans None blank_mark old.root old.count left old.rest.now o) e → Refuses (λ o. EventsCome old es (refused_as o)) e
+    by : (e : DocError) (es : List PlainEvent) → Refuses (λ o. (left : Left Mark) →
+        IsIn old.before.now (open_names old) left →
+        DocumentRestMeans None blank_mark old.root old.count left old.rest.now o) e →
+        Refuses (λ o. EventsCome old es (refused_as o)) e
     by (Syntax j) es r = comes-by old stage.Inside at es _ r
     by (Mismatch j) es r = comes-by old stage.Inside at es _ r
     by (Entity j) es r = comes-by old stage.Inside at es _ r
@@ -124,7 +141,9 @@ refused-advance old new e at refused same = (λ es. by e es (refused-inside old.
     by NoMemory es r = tt
 
 -- in the root, states with the same parts are the same
-pub same-inside : (old new : Events) → old.stage ≡ stage.Inside → new.stage ≡ stage.Inside → ((es : List PlainEvent) (end : TextEnd) → (ComesInside new es end → ComesInside old es end) × (ComesInside old es end → ComesInside new es end)) → SameState old new
+pub same-inside : (old new : Events) → old.stage ≡ stage.Inside → new.stage ≡ stage.Inside →
+    ((es : List PlainEvent) (end : TextEnd) → (ComesInside new es end → ComesInside old es end)
+    × (ComesInside old es end → ComesInside new es end)) → SameState old new
 same-inside old new at there same es end = (
   λ c. comes-by old stage.Inside at es end ((same es end).0 (comes-as new stage.Inside there es end c)),
   λ c. comes-by new stage.Inside there es end ((same es end).1 (comes-as old stage.Inside at es end c)),

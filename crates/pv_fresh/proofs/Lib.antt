@@ -1,4 +1,4 @@
 -- for other crates:
-pub mod Walking
+pub mod ListWalks
 pub mod Lists
 pub mod Narrow

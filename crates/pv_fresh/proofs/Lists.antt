@@ -17,14 +17,17 @@ abbrev pub left_by : Lists → List (Listed Mark)
 left_by walk = map list_alone (lists_left walk)
 
 -- the next of them, and the others
-pub come_to : (before after : Lists) (given : Option DocList) (list : DocList) → given ≡ Some list → ComesToNext before after given → left_by before ≡ list_given (path_come_to after) list ∷ left_by after
+pub come_to : (before after : Lists) (given : Option DocList) (list : DocList) → given ≡ Some list →
+    ComesToNext before after given → left_by before ≡ list_given (path_come_to after) list ∷ left_by after
 come_to before after given list e h = ap (map list_alone) (rw e at h)
 
 pub come_to_none : (before after : Lists) (given : Option DocList) → given ≡ None → ComesToNext before after given → left_by before ≡ []
 come_to_none before after given e h = ap (map list_alone) (rw e at h)
 
 -- the list of a number is one of them, and the next where the number is 0
-pub there_next : (before after : Lists) (given : Option DocList) (n : ℕ) (list : Listed Mark) → ComesToNext before after given → slice_get (left_by before) (suc n) ≡ Some list → slice_get (left_by after) n ≡ Some list
+pub there_next : (before after : Lists) (given : Option DocList) (n : ℕ) (list : Listed Mark) →
+    ComesToNext before after given → slice_get (left_by before) (suc n) ≡ Some list →
+    slice_get (left_by after) n ≡ Some list
 there_next before after None n list h e = let there = rw (ap (map list_alone) h) at e in absurd cc
 there_next before after (Some given) n list h e = rw (ap (map list_alone) h) at e
 

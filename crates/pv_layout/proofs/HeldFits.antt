@@ -16,7 +16,7 @@ use Rattle.pv_layout.specs.FormForms.{plain_all}
 use Rattle.pv_layout.specs.Forms.{PlainForm, form_at, of_element, of_none, of_nothing, of_one, of_opt, of_plus, of_star, of_two}
 use Rattle.pv_layout.specs.SiteForms.{plain_sites}
 use Rattle.pv_layout.specs.declared.layout.ColumnLayout.{ColumnLayout}
-use Rattle.pv_layout.proofs.Putting.{same_or_not}
+use Rattle.pv_layout.proofs.PutValues.{same_or_not}
 
 number_held : (x y : ℕ) → ∥ x ≡ y ∥₁ → x ≡ y
 number_held x y h = ∥∥₁_elim h (Coded-set coded_ℕ x y) (λ e. e)

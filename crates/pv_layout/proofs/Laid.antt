@@ -1,6 +1,7 @@
 -- Columns that are laid, a part or a content after another.
 use Rattle.std.specs.Prelude.{IsSome, option_map}
-use Rattle.std.proofs.Common.{List, None, Option, Some, [], ap, arith, false, true, get_or-set_other, get_or-set_same, inl, inr, length, length-append, refl, set, slice_get, subst, suc, sym, ℕ, ◌++◌, ◌+◌, ◌<◌, ◌∙◌, ◌∷◌, ◌≡◌, ◌≢◌, ◌≤◌, ◌⊎◌}
+use Rattle.std.proofs.Common.{List, None, Option, Some, [], ap, arith, false, true, get_or-set_other, get_or-set_same, inl, inr, length}
+use Rattle.std.proofs.Common.{length-append, refl, set, slice_get, subst, suc, sym, ℕ, ◌++◌, ◌+◌, ◌<◌, ◌∙◌, ◌∷◌, ◌≡◌, ◌≢◌, ◌≤◌, ◌⊎◌}
 use Rattle.std.proofs.Math.ListN.{get_or-append, get_or-eq_default, length-set}
 use Rattle.std.proofs.Math.Seq.{get_or-append_right, get_or-append_seam}
 use Rattle.std.proofs.lemmas.Bool.{cases_lt}
@@ -20,7 +21,7 @@ use Rattle.pv_layout.specs.FormForms.{plain_all, plain_form}
 use Rattle.pv_layout.specs.Forms.{PlainForm, form_at, of_element, of_none, of_nothing, of_one, of_opt, of_plus, of_star, of_two}
 use Rattle.pv_layout.specs.Making.{AreBlankSites, AreLaid, IsMade, KeepsForms, element_forms}
 use Rattle.pv_layout.specs.declared.forms.Form.{Form}
-use Rattle.pv_layout.proofs.Putting.{same_or_not}
+use Rattle.pv_layout.proofs.PutValues.{same_or_not}
 
 columns_kept : (P : ℕ → Type 0) (a b : ℕ → ℕ) (ds : List ℕ) → ((k : ℕ) → P k → a k ≡ b k) → AreColumns P a ds → AreColumns P b ds
 columns_kept P a b ds same are = record {
@@ -130,7 +131,9 @@ module _ (g : PlainDtd) (m : PlainSites) (n : ℕ) (old made new : List PlainFor
     }
 
 -- one content more
-module _ (g : PlainDtd) (m : PlainSites) (n : ℕ) (old new : List PlainForm) (x c : ℕ) (laid : AreLaid g m n old 0 x) (kept : KeepsForms n old new) (fits : FitsContent g m (IsMade n new) c x (model_of g x)) where
+module _ (g : PlainDtd) (m : PlainSites) (n : ℕ) (old new : List PlainForm) (x c : ℕ)
+    (laid : AreLaid g m n old 0 x) (kept : KeepsForms n old new) (fits : FitsContent g m
+    (IsMade n new) c x (model_of g x)) where
   abbrev with_content : PlainSites
   with_content = record { names = m.names; contents = m.contents ++ (c ∷ []); parts = m.parts; rests = m.rests }
 
@@ -171,7 +174,9 @@ module _ (g : PlainDtd) (m : PlainSites) (n : ℕ) (made : List PlainForm) (laid
       let a = laid.named in
       let e = laid.names x (omega arith) in
       let k = count in
-      rw e (get_or-append (element_forms m.contents n) made of_none x (omega arith) ∙ get_or-map-range_with_len (λ y. of_element y (column_at m.contents y)) 0 n x x of_none (omega arith) (omega arith))
+      rw e (get_or-append (element_forms m.contents n) made of_none x (omega arith)
+      ∙ get_or-map-range_with_len (λ y. of_element y (column_at m.contents y)) 0 n x x of_none
+      (omega arith) (omega arith))
   fits_site (content_site x) has = elim (cases_lt x (length g.models)) [
     | inl lt ↦ content_kept g m m (IsMade n made) (λ c f. form_at forms c ≡ f) stands (λ y. refl) (column_at m.contents x) x (λ y. refl) (model_of g x) (laid.contents x lt)
     | inr ge ↦ (
@@ -180,8 +185,11 @@ module _ (g : PlainDtd) (m : PlainSites) (n : ℕ) (made : List PlainForm) (laid
         rw (e, z) (get_or-eq_default forms of_none (let k = count in simp length-append (omega arith)))
         )
   ]
-  fits_site (part_site q) has = part_kept g m m (IsMade n made) (λ c f. form_at forms c ≡ f) stands (λ y. refl) (column_at m.parts q) q (λ k h. (refl, refl)) (part_at g q) (laid.parts q (omega arith) has)
-  fits_site (rest_site q) has = rest_kept g m m (IsMade n made) (λ c f. form_at forms c ≡ f) stands (λ y. refl) (column_at m.rests q) q (λ k h. (refl, refl)) refl (rest_at g q) (laid.rests q (omega arith) has)
+  fits_site (part_site q) has = part_kept g m m (IsMade n made) (λ c f. form_at forms c ≡ f) stands
+      (λ y. refl) (column_at m.parts q) q (λ k h. (refl, refl)) (part_at g q) (laid.parts q (omega arith) has)
+  fits_site (rest_site q) has = rest_kept g m m (IsMade n made) (λ c f. form_at forms c ≡ f) stands
+      (λ y. refl) (column_at m.rests q) q (λ k h. (refl, refl)) refl (rest_at g q)
+      (laid.rests q (omega arith) has)
 
   pub all_fit : AreFit g m forms
   all_fit s has = fits_site s has
@@ -193,7 +201,9 @@ no_rest_fits g m H c q (Some no_parts) n h = h
 no_rest_fits g m H c q (Some (part p ps)) n h = absurd n
 
 -- a sequence has members
-pub seq_fits : (g : PlainDtd) (m : PlainSites) (H : ℕ → PlainForm → Type 0) (c q : ℕ) (ps : PlainParts) → is_formed_part (seq ps) ≡ true → c ≡ column_of m (rest_site (suc q)) → FitsPart g m H c q (Some (seq ps))
+pub seq_fits : (g : PlainDtd) (m : PlainSites) (H : ℕ → PlainForm → Type 0) (c q : ℕ)
+    (ps : PlainParts) → is_formed_part (seq ps) ≡ true → c ≡ column_of m (rest_site (suc q)) →
+    FitsPart g m H c q (Some (seq ps))
 seq_fits g m H c q no_parts f e = absurd cc
 seq_fits g m H c q (part p ps) f e = e
 

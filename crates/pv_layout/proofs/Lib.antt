@@ -1,13 +1,13 @@
 -- for other crates:
 pub mod ColumnFacts
 pub mod HeldFits
-pub mod Mentioning
-pub mod Putting
-pub mod Reading
-pub mod Sharing
-pub mod Standing
+pub mod MentionedColumns
+pub mod PutValues
+pub mod ProgramColumns
+pub mod SharedSites
+pub mod ColumnsAsSites
 -- of this crate:
-pub mod Building
+pub mod RuleDerivations
 pub mod Laid
-pub mod Sited
+pub mod SitesWithin
 pub mod Taken

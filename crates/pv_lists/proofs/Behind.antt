@@ -1,5 +1,6 @@
 -- What is known after an item in the root.
-use Rattle.std.proofs.Common.{◌≡◌, ◌≤◌, ℕ, suc, ◌+◌, List, [], ◌∷◌, ◌++◌, length, map, Bool, true, false, not, Option, Some, None, option_to_list, refl, sym, ap, ◌∙◌, length-append, inl, inr, ◌⊎◌, arith}
+use Rattle.std.proofs.Common.{◌≡◌, ◌≤◌, ℕ, suc, ◌+◌, List, [], ◌∷◌, ◌++◌, length, map, Bool, true, false, not, Option, Some, None, option_to_list}
+use Rattle.std.proofs.Common.{refl, sym, ap, ◌∙◌, length-append, inl, inr, ◌⊎◌, arith}
 use Rattle.std.specs.Bool.{then_some}
 use Rattle.std.specs.List.{list_any}
 use Rattle.std.proofs.lemmas.List.{map-append}
@@ -22,14 +23,14 @@ use Rattle.pv_read.specs.Kinds.{entity}
 use Rattle.pv_read.specs.Left.{Left, Open, in_content, just_opened, with_kid, left_by}
 use Rattle.pv_read.specs.Places.{may_stand_in_content}
 use Rattle.pv_read.specs.Steps.{TakesItem}
-use Rattle.pv_read.proofs.Decided.{known_is_decided}
+use Rattle.pv_read.proofs.DecidedReferences.{known_is_decided}
 use Rattle.pv_read.proofs.DocumentFacts.{data_are_units, data_joined}
 use Rattle.pv_lists.specs.Judging.{Judgement}
 use Rattle.pv_lists.specs.WholeLists.{kids_in, next_path, whole_lists}
 use Rattle.pv_lists.specs.OpenLists.{HasReadTo, HasEnded, ended_element}
 use Rattle.pv_lists.specs.Contents.{IsBehind}
 use Rattle.pv_lists.specs.declared.open.OpenLists.{OpenLists}
-use Rattle.pv_lists.proofs.Growing.{few_begun, few_ended, few_same}
+use Rattle.pv_lists.proofs.GrowingWords.{few_begun, few_ended, few_same}
 use Rattle.pv_lists.proofs.Stack.{kid_added}
 
 -- the token of data, or none
@@ -58,10 +59,14 @@ module _ {B F : Type 0} (m : Judgement B F) (root : List ℕ) (inner : Open Mark
   kid_few o os t = omega (arith, length-append o.kids (t ∷ []))
 
   -- an element ends
-  pub behind_end : (new : OpenLists B F) (whole : Bool) (name gap : List ℕ) → HasEnded m root new whole outer (ended_element inner inner.attrs (tagged gap) blank_mark) → IsBehind m root new whole inner outer (end_tag name gap)
+  pub behind_end : (new : OpenLists B F) (whole : Bool) (name gap : List ℕ) →
+      HasEnded m root new whole outer (ended_element inner inner.attrs (tagged gap) blank_mark) →
+      IsBehind m root new whole inner outer (end_tag name gap)
   behind_end new whole name gap = by new whole outer
     where
-      by : (new : OpenLists B F) (whole : Bool) (outer : List (Open Mark)) → HasEnded m root new whole outer (ended_element inner inner.attrs (tagged gap) blank_mark) → IsBehind m root new whole inner outer (end_tag name gap)
+      by : (new : OpenLists B F) (whole : Bool) (outer : List (Open Mark)) →
+          HasEnded m root new whole outer (ended_element inner inner.attrs (tagged gap)
+          blank_mark) → IsBehind m root new whole inner outer (end_tag name gap)
       by new true [] h = record { tree = ended_element inner inner.attrs (tagged gap) blank_mark; left_is = λ before. refl; has_root = h; few_lists = omega arith }
       by new true (o ∷ os) h = absurd h
       by new false [] h = absurd h
@@ -79,7 +84,9 @@ module _ {B F : Type 0} (m : Judgement B F) (root : List ℕ) (inner : Open Mark
   kid_behind new i t is r few = record { next = with_kid inner t; around = outer; left_is = is; has_read = r; few_kids = kid_few inner outer t; few_lists = few }
 
   -- an element begins and ends
-  pub behind_empty : (new : OpenLists B F) (whole : Bool) (name attrs : List ℕ) → HasEnded m root new whole (inner ∷ outer) (ended_element (just_opened name attrs) attrs short blank_mark) → IsBehind m root new whole inner outer (empty_tag name attrs)
+  pub behind_empty : (new : OpenLists B F) (whole : Bool) (name attrs : List ℕ) →
+      HasEnded m root new whole (inner ∷ outer) (ended_element (just_opened name attrs) attrs short
+      blank_mark) → IsBehind m root new whole inner outer (empty_tag name attrs)
   behind_empty new true name attrs h = absurd h
   behind_empty new false name attrs h =
       let few = few_ended (just_opened name attrs) inner outer attrs short blank_mark in
@@ -87,9 +94,13 @@ module _ {B F : Type 0} (m : Judgement B F) (root : List ℕ) (inner : Open Mark
       kid_behind new (empty_tag name attrs) (ended_element (just_opened name attrs) attrs short blank_mark) (λ before. refl) h (omega arith)
 
   -- ---- a kid without lists
-  module _ (old new : OpenLists B F) (r : HasReadTo m root old inner outer) (inner_is : new.inner ≡ record old.inner { kids = old.inner.kids + 1 }) (outer_is : new.outer.items ≡ old.outer.items) (found_is : new.found ≡ old.found)
+  module _ (old new : OpenLists B F) (r : HasReadTo m root old inner outer) (inner_is : new.inner
+      ≡ record old.inner { kids = old.inner.kids + 1 }) (outer_is : new.outer.items
+      ≡ old.outer.items) (found_is : new.found ≡ old.found)
       (token : Option Token) (tokens_are : new.tokens.items ≡ old.tokens.items ++ option_to_list token) where
-    kid_without : (i : Item) (t : Tree Mark) → ((before : List ℕ) → left_by blank_mark (in_content before inner outer) i ≡ Some (in_content before (with_kid inner t) outer)) → lists_at (next_path (inner ∷ outer)) t ≡ []
+    kid_without : (i : Item) (t : Tree Mark) → ((before : List ℕ) →
+        left_by blank_mark (in_content before inner outer) i
+        ≡ Some (in_content before (with_kid inner t) outer)) → lists_at (next_path (inner ∷ outer)) t ≡ []
         → map plain_token (option_to_list token) ≡ node_before m.dtd t [] → IsBehind m root new false inner outer i
     kid_without i t is none word =
         let words = ap (map plain_token) tokens_are ∙ map-append plain_token old.tokens.items (option_to_list token) ∙ ap (λ u. map plain_token old.tokens.items ++ u) word in
@@ -110,13 +121,17 @@ module _ {B F : Type 0} (m : Judgement B F) (root : List ℕ) (inner : Open Mark
       count_is = refl;
     }
 
-    pub behind_text : (run : List ℕ) (b : Bool) → IsCharacterData IsKnownReference run → b ≡ list_any (λ b. not (is_space b)) run → token ≡ if_some b → IsBehind m root new false inner outer (text_run run)
+    pub behind_text : (run : List ℕ) (b : Bool) → IsCharacterData IsKnownReference run →
+        b ≡ list_any (λ b. not (is_space b)) run → token ≡ if_some b →
+        IsBehind m root new false inner outer (text_run run)
     behind_text run b known is token_is =
         kid_without (text_run run) (text_node (units_in run)) (λ before. refl) refl
         (ap (λ t. map plain_token (option_to_list t)) token_is ∙ word_by m.dtd b (has_data (units_in run)) (units_in run) refl (is ∙ sym (data_is run known)))
 
 -- ---- what an item that was taken keeps
-pub may_stand : (before : List ℕ) (inner : Open Mark) (outer : List (Open Mark)) (i : Item) (next : Left Mark) → left_by blank_mark (in_content before inner outer) i ≡ Some next → may_stand_in_content i ≡ true
+pub may_stand : (before : List ℕ) (inner : Open Mark) (outer : List (Open Mark)) (i : Item)
+    (next : Left Mark) → left_by blank_mark (in_content before inner outer) i ≡ Some next →
+    may_stand_in_content i ≡ true
 may_stand before inner outer (xml_declaration bytes) next e = absurd cc
 may_stand before inner outer (doctype name bytes) next e = absurd cc
 may_stand before inner outer (comment_or_instruction bytes) next e = refl

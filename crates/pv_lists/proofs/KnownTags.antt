@@ -22,7 +22,8 @@ end_tag_begins name rest more named whole = record {
   ends_well = tt;
 }
 
-pub end_tag_taken : (most : Option ℕ) (root rest more name : List ℕ) (many : ℕ) (left : Left Mark) → place_reached left ≡ content name many → IsName name → rest ≡ codes "</" ++ (name ++ (codes ">" ++ more))
+pub end_tag_taken : (most : Option ℕ) (root rest more name : List ℕ) (many : ℕ) (left : Left Mark) →
+    place_reached left ≡ content name many → IsName name → rest ≡ codes "</" ++ (name ++ (codes ">" ++ more))
     → TakesItem most blank_mark root left rest (end_tag name []) more
 end_tag_taken most root rest more name many (in_prolog stage before) at named whole = absurd cc
 end_tag_taken most root rest more name many (in_content before inner outer) at named whole =

@@ -1,5 +1,5 @@
 -- of this crate:
-pub mod Growing
+pub mod GrowingWords
 pub mod SimpleRuns
 pub mod KnownTags
 pub mod Stack
@@ -8,4 +8,4 @@ pub mod Behind
 pub mod Taken
 pub mod Refusals
 pub mod Whole
-pub mod Judged
+pub mod FirstJudged

@@ -8,8 +8,8 @@ use Rattle.pv_read.specs.Meaning.{DocumentMeansWithin, DocumentRestMeans, Outcom
 use Rattle.pv_read.specs.Prologs.{OpensRoot, behind_tag}
 use Rattle.pv_read.specs.declared.prolog.RootTag.{RootTag}
 use Rattle.pv_read.proofs.OneItem.{one_item}
-use Rattle.pv_read.proofs.Refusing.{Refuses-weaker}
-use Rattle.pv_read.proofs.Telling.{answers_error, refused_root}
+use Rattle.pv_read.proofs.RefusedRests.{Refuses-weaker}
+use Rattle.pv_read.proofs.DocumentParts.{answers_error, refused_root}
 use Rattle.pv_lists.specs.Answers.{AnswersLists, RefusesLists}
 use Rattle.pv_lists.specs.declared.errors.ReadError.{ReadError}
 use Rattle.pv_lists.specs.declared.errors.ReadError.TheVariants.{Document, Judge}
@@ -25,9 +25,13 @@ pub read_answered : {E : Type 0} (limits : TextLimits) (root bytes : List ℕ) (
 read_answered limits root bytes (Document error) refuses = answers_error one_item limits root bytes error refuses
 read_answered limits root bytes (Judge cause) refuses = λ o means. tt
 
-module _ (limits : TextLimits) (root bytes mark text : List ℕ) (few : length bytes ≤ limits.bytes) (front : TakesByteOrderMark bytes mark text) (tag : RootTag) (opens : OpensRoot limits.depth root text tag) where
+module _ (limits : TextLimits) (root bytes mark text : List ℕ) (few : length bytes ≤ limits.bytes)
+    (front : TakesByteOrderMark bytes mark text) (tag : RootTag) (opens : OpensRoot limits.depth
+    root text tag) where
   -- a refusal after the root's tag is one of the whole
-  pub root_refused : {E : Type 0} (e : ReadError E) → ((before : List ℕ) → RefusesLists (DocumentRestMeans limits.depth blank_mark root (suc tag.count) (behind_tag before tag.is_short tag.tag.name.now tag.tag.attrs.now) tag.rest.now) e)
+  pub root_refused : {E : Type 0} (e : ReadError E) → ((before : List ℕ) →
+      RefusesLists (DocumentRestMeans limits.depth blank_mark root (suc tag.count)
+      (behind_tag before tag.is_short tag.tag.name.now tag.tag.attrs.now) tag.rest.now) e)
       → RefusesLists (DocumentMeansWithin limits blank_mark root bytes) e
   root_refused (Document error) refuses = refused_root limits root bytes mark text few front tag opens error refuses
   root_refused (Judge cause) refuses = tt

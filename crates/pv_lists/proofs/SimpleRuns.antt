@@ -27,7 +27,9 @@ simple_begins bytes run rest whole end some simple =
 no_empty : false ≡ true → ⊥
 no_empty e = cc
 
-pub run_taken : (most : Option ℕ) (root rest run more name : List ℕ) (many : ℕ) (left : Left Mark) → place_reached left ≡ content name many → BeginsKnownRun rest run more → TakesItem most blank_mark root left rest (text_run run) more
+pub run_taken : (most : Option ℕ) (root rest run more name : List ℕ) (many : ℕ) (left : Left Mark) →
+    place_reached left ≡ content name many → BeginsKnownRun rest run more →
+    TakesItem most blank_mark root left rest (text_run run) more
 run_taken most root rest run more name many (in_prolog stage before) at r = absurd cc
 run_taken most root rest run more name many (in_content before inner outer) at r =
     takes one_item most blank_mark root (in_content before inner outer) rest (λ h. no_empty h.0) (text_run run) more r.begins

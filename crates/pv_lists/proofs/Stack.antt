@@ -1,5 +1,6 @@
 -- What is known of the open elements where one more begins, gains a kid, or ends.
-use Rattle.std.proofs.Common.{◌≡◌, ◌≤◌, ◌<◌, ℕ, ◌+◌, ◌-◌, suc, List, [], ◌∷◌, ◌++◌, length, take, drop, map, reverse, true, false, IsTrue, refl, sym, ap, ◌∙◌, subst, append_assoc, append-nil, length-append, length-drop, arith}
+use Rattle.std.proofs.Common.{◌≡◌, ◌≤◌, ◌<◌, ℕ, ◌+◌, ◌-◌, suc, List, [], ◌∷◌, ◌++◌, length, take, drop, map, reverse, true, false, IsTrue, refl, sym}
+use Rattle.std.proofs.Common.{ap, ◌∙◌, subst, append_assoc, append-nil, length-append, length-drop, arith}
 use Rattle.std.specs.List.{AllByRecursion}
 use Rattle.std.proofs.lemmas.List.{reverse-append, reverse-reverse, map_push, length-map, length-reverse, take-map, take_at, drop_at, drop-map}
 use Rattle.std.proofs.lemmas.Grind.{reverse_onto}
@@ -20,7 +21,7 @@ use Rattle.pv_lists.specs.OpenLists.{IsOpen, AreOpen, HasReadTo, HasEnded, HasRo
 use Rattle.pv_lists.specs.WholeLists.{next_path, whole_lists, kids_in}
 use Rattle.pv_lists.specs.declared.open.OpenList.{OpenList}
 use Rattle.pv_lists.specs.declared.open.OpenLists.{OpenLists}
-use Rattle.pv_lists.proofs.Growing.{few_begun, no_more, whole_lists-with_kid, word_of-behind}
+use Rattle.pv_lists.proofs.GrowingWords.{few_begun, no_more, whole_lists-with_kid, word_of-behind}
 
 -- an element that begins, as it is read
 pub record Begins {B : Type 0} (g : PlainDtd) (list : OpenList B) (name : List ℕ) : Type 0 where
@@ -43,7 +44,9 @@ none_popped [] len none same = refl
 none_popped (l ∷ ls) len none same = absurd (omega arith)
 
 -- the tokens where the word of the innermost open element is cut off and its own token comes after it
-pub cut_off : {B F : Type 0} (old mid : OpenLists B F) (cut tokens : List Token) → mid.inner ≡ old.inner → mid.tokens ≡ old.tokens → cut ≡ take mid.inner.start mid.tokens.items → tokens ≡ cut ++ mid.inner.token ∷ []
+pub cut_off : {B F : Type 0} (old mid : OpenLists B F) (cut tokens : List Token) →
+    mid.inner ≡ old.inner → mid.tokens ≡ old.tokens → cut ≡ take mid.inner.start mid.tokens.items →
+    tokens ≡ cut ++ mid.inner.token ∷ []
     → tokens ≡ take old.inner.start old.tokens.items ++ old.inner.token ∷ []
 cut_off old mid cut tokens inner_is tokens_are cut_is is =
     is ∙ ap (λ (u : List Token). u ++ mid.inner.token ∷ []) cut_is ∙ (λ i. take (inner_is i).start (tokens_are i).items ++ (inner_is i).token ∷ [])
@@ -104,7 +107,9 @@ module _ {B F : Type 0} (m : Judgement B F) (root : List ℕ) where
     is_token = is.is_token;
     is_count = omega (arith, is.is_count, length-append o.kids (t ∷ []));
     is_start = is.is_start;
-    is_word = more_is ∙ ap (λ u. u ++ node_before m.dtd t []) is.is_word ∙ append_assoc below (word_of m.dtd (forest_of o.kids)) (node_before m.dtd t []) ∙ ap (λ u. below ++ u) (sym (word_of-behind m.dtd o.kids t));
+    is_word = more_is ∙ ap (λ u. u ++ node_before m.dtd t []) is.is_word
+        ∙ append_assoc below (word_of m.dtd (forest_of o.kids)) (node_before m.dtd t [])
+        ∙ ap (λ u. below ++ u) (sym (word_of-behind m.dtd o.kids t));
     notes = is.notes;
   }
 
@@ -116,7 +121,13 @@ module _ {B F : Type 0} (m : Judgement B F) (root : List ℕ) where
       let stack : reverse new.outer.items ≡ reverse old.outer.items = ap reverse outer_is in
       let whole : whole_lists (inner ∷ outer) ≡ whole_lists (with_kid inner t ∷ outer) = sym (no_more inner outer t none) in
       record {
-        are_open = rw (inner_is, stack) (r.are_open.0, grown old.inner inner outer r.are_open.0 (map plain_token old.tokens.items) (map plain_token new.tokens.items) t r.are_open.1 tokens_are, r.are_open.2);
+        are_open = rw (inner_is, stack) (
+          r.are_open.0,
+          grown old.inner inner outer r.are_open.0
+              (map plain_token old.tokens.items) (map plain_token new.tokens.items) t r.are_open.1
+              tokens_are,
+          r.are_open.2,
+        );
         finds = subst (λ l. m.finds root l new.found) whole (subst (m.finds root (whole_lists (inner ∷ outer))) (sym found_is) r.finds);
       }
 
@@ -209,8 +220,13 @@ module _ {B F : Type 0} (m : Judgement B F) (root : List ℕ) where
   }
   root_ended old new inner (o ∷ os) attrs ending mark r none inner_is finds = absurd (no_outer (reverse old.outer.items) o os r.are_open.0 (ap reverse none) r.are_open.2)
 
-  pub kid_ended : (old new : OpenLists B F) (around : OpenList B) (rest : List (OpenList B)) (inner : Open Mark) (outer : List (Open Mark)) (attrs : List ℕ) (ending : Ending) (mark : Mark) → HasReadTo m root old inner outer
-      → old.outer.items ≡ rest ++ around ∷ [] → new.inner ≡ record around { kids = around.kids + 1 } → new.outer.items ≡ rest → new.tokens.items ≡ take old.inner.start old.tokens.items ++ old.inner.token ∷ []
+  pub kid_ended : (old new : OpenLists B F) (around : OpenList B) (rest : List (OpenList B))
+      (inner : Open Mark) (outer : List (Open Mark)) (attrs : List ℕ) (ending : Ending)
+      (mark : Mark) → HasReadTo m root old inner outer
+      → old.outer.items ≡ rest ++ around ∷ [] → new.inner ≡ record around {
+        kids = around.kids + 1;
+      } → new.outer.items ≡ rest → new.tokens.items ≡ take old.inner.start old.tokens.items
+      ++ old.inner.token ∷ []
       → m.finds root (whole_lists outer ++ lists_at (next_path outer) (ended_element inner attrs ending mark)) new.found
       → HasEnded m root new false outer (ended_element inner attrs ending mark)
   kid_ended old new around rest inner [] attrs ending mark r split inner_is outer_is tokens_are finds =
@@ -219,10 +235,20 @@ module _ {B F : Type 0} (m : Judgement B F) (root : List ℕ) where
       let stack : reverse old.outer.items ≡ around ∷ reverse rest = ap reverse split ∙ behind_one around rest in
       let open_below = subst (λ (k : List (OpenList B)). AreOpen m root k (o ∷ os) r.are_open.0) stack r.are_open.2 in
       let cut : map plain_token (take old.inner.start old.tokens.items) ≡ r.are_open.0 =
-      sym (take-map plain_token old.inner.start old.tokens.items) ∙ ap (take old.inner.start) r.are_open.1.is_word ∙ take_at r.are_open.0 (word_of m.dtd (forest_of inner.kids)) old.inner.start (sym r.are_open.1.is_start) in
+      sym (take-map plain_token old.inner.start old.tokens.items)
+      ∙ ap (take old.inner.start) r.are_open.1.is_word ∙ take_at r.are_open.0
+      (word_of m.dtd (forest_of inner.kids)) old.inner.start (sym r.are_open.1.is_start) in
       let word : map plain_token new.tokens.items ≡ r.are_open.0 ++ node_before m.dtd (ended_element inner attrs ending mark) [] =
-      ap (map plain_token) tokens_are ∙ map_push plain_token (take old.inner.start old.tokens.items) old.inner.token ∙ ap (λ u. u ++ plain_token old.inner.token ∷ []) cut ∙ ap (λ k. r.are_open.0 ++ k ∷ []) r.are_open.1.is_token in
+      ap (map plain_token) tokens_are ∙ map_push plain_token (take old.inner.start old.tokens.items)
+      old.inner.token ∙ ap (λ u. u ++ plain_token old.inner.token ∷ []) cut
+      ∙ ap (λ k. r.are_open.0 ++ k ∷ []) r.are_open.1.is_token in
       record {
-        are_open = rw (inner_is, outer_is) (open_below.0, grown around o os open_below.0 r.are_open.0 (map plain_token new.tokens.items) (ended_element inner attrs ending mark) open_below.1 word, open_below.2);
+        are_open = rw (inner_is, outer_is) (
+          open_below.0,
+          grown around o os open_below.0 r.are_open.0
+              (map plain_token new.tokens.items) (ended_element inner attrs ending mark) open_below.1
+              word,
+          open_below.2,
+        );
         finds = subst (λ l. m.finds root l new.found) (sym (whole_lists-with_kid o os (ended_element inner attrs ending mark))) finds;
       }

@@ -12,7 +12,7 @@ use Rattle.pv_read.specs.Prologs.{OpensRoot}
 use Rattle.pv_read.specs.declared.prolog.RootTag.{RootTag}
 use Rattle.pv_read.proofs.OneItem.{one_item}
 use Rattle.pv_read.proofs.OneMeaning.{same_document_meaning}
-use Rattle.pv_read.proofs.Telling.{read_whole}
+use Rattle.pv_read.proofs.DocumentParts.{read_whole}
 use Rattle.pv_lists.specs.Answers.{ReadsLists}
 use Rattle.pv_lists.specs.Contents.{ReadsRoot}
 use Rattle.pv_lists.specs.Judging.{Judgement, MAX_KIDS}
@@ -20,7 +20,9 @@ use Rattle.pv_lists.specs.OpenLists.{HasEnded, ended_element}
 use Rattle.pv_lists.specs.declared.open.OpenLists.{OpenLists}
 
 -- a root of an empty-element tag
-pub short_root : {B F : Type 0} (most : Option ℕ) (m : Judgement B F) (root name attrs bytes : List ℕ) (count next : ℕ) (is_short whole : Bool) (lists : OpenLists B F) → HasEnded m root lists whole [] (ended_element (just_opened name attrs) attrs short blank_mark)
+pub short_root : {B F : Type 0} (most : Option ℕ) (m : Judgement B F) (root name attrs bytes : List
+    ℕ) (count next : ℕ) (is_short whole : Bool) (lists : OpenLists B F) →
+    HasEnded m root lists whole [] (ended_element (just_opened name attrs) attrs short blank_mark)
     → is_short ≡ true → next ≡ suc count → ReadsRoot most m root is_short name attrs bytes (suc count) lists bytes next
 short_root most m root name attrs bytes count next is_short false lists h is same = absurd h
 short_root most m root name attrs bytes count next is_short true lists h is same = record {
@@ -31,8 +33,12 @@ short_root most m root name attrs bytes count next is_short true lists h is same
   leads = λ before o means. rw (is, ← same) means;
 }
 
-module _ {B F : Type 0} (limits : TextLimits) (m : Judgement B F) (root bytes mark text : List ℕ) (few : length bytes ≤ limits.bytes) (front : TakesByteOrderMark bytes mark text) (tag : RootTag) (opens : OpensRoot limits.depth root text tag) (lists : OpenLists B F)
-    (after : List ℕ) (count : ℕ) (r : ReadsRoot limits.depth m root tag.is_short tag.tag.name.now tag.tag.attrs.now tag.rest.now (suc tag.count) lists after count) (ends : EndsDocument limits.depth root count after) where
+module _ {B F : Type 0} (limits : TextLimits) (m : Judgement B F) (root bytes mark text : List ℕ)
+    (few : length bytes ≤ limits.bytes) (front : TakesByteOrderMark bytes mark text) (tag : RootTag)
+    (opens : OpensRoot limits.depth root text tag) (lists : OpenLists B F)
+    (after : List ℕ) (count : ℕ) (r : ReadsRoot limits.depth m root tag.is_short tag.tag.name.now
+    tag.tag.attrs.now tag.rest.now (suc tag.count) lists after count)
+    (ends : EndsDocument limits.depth root count after) where
   abbrev pub the_doc : PlainDoc Mark
   the_doc = document (take (length bytes - length tag.from_tag.now) bytes) r.tree after
 

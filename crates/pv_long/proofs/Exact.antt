@@ -30,7 +30,9 @@ one_least g root h a b one two = let p = one.least b two.completes in let q = tw
 
 module _ {M : Type 0} (g : PlainDtd) (root : List ℕ) (doc : PlainDoc M) where
   -- a valid document that is this one with marked elements completes it
-  pub completion_text : TagsExtend → (body : PlainDoc Mark) (marks bytes : List ℕ) → IsBodyText root bytes body → IsValid g root (view body.root) → KeepsDocument doc body marks → IsCompletionText g root doc (length marks) marks bytes
+  pub completion_text : TagsExtend → (body : PlainDoc Mark) (marks bytes : List ℕ) →
+      IsBodyText root bytes body → IsValid g root (view body.root) → KeepsDocument doc body marks →
+      IsCompletionText g root doc (length marks) marks bytes
   completion_text tags_extend body marks bytes text valid kept =
       let tags = tags_extend 0 (elements (view body.root)) marks (view doc.root) (view body.root) kept.tags in
       record {

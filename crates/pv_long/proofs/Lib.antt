@@ -1,3 +1,3 @@
 -- of this crate:
-pub mod Adding
+pub mod BoundSums
 pub mod Exact

@@ -86,7 +86,9 @@ module _ (g : PlainDtd) where
       w2,
       e,
       stands_more d.depth (suc c.depth) y w1 (inr (m, is, v, ok, c.pieces)),
-      pieces_more (StandsFor g d.depth) (StandsFor g (d.depth + suc c.depth)) (λ z x h. let s : d.depth + suc c.depth ≡ suc c.depth + d.depth = omega arith in rw s (stands_more (suc c.depth) d.depth z x h)) u w2 d.pieces,
+      pieces_more (StandsFor g d.depth) (StandsFor g (d.depth + suc c.depth))
+          (λ z x h. let s : d.depth + suc c.depth ≡ suc c.depth + d.depth = omega arith in rw s
+          (stands_more (suc c.depth) d.depth z x h)) u w2 d.pieces,
     );
   }
 

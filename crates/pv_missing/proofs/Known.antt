@@ -9,8 +9,8 @@ use Rattle.pv_dtd.specs.Plain.{PlainDtd, number_of}
 use Rattle.pv_tree.specs.Plain.{Forest, Tree, cdata_node, element, misc_node, no_trees, text_node, tree}
 use Rattle.pv_tree.specs.Words.{node_before, word_of}
 use Rattle.pv_missing.specs.ListLaws.{KnownWord}
-use Rattle.pv_missing.proofs.Spanned.{all_at}
-use Rattle.pv_dtd.proofs.Naming.{get-place}
+use Rattle.pv_missing.proofs.SpanDerivations.{all_at}
+use Rattle.pv_dtd.proofs.NameSequences.{get-place}
 
 -- the DTD has the name
 abbrev IsKnown : PlainDtd → PlainToken → Type 0

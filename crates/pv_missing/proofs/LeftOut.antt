@@ -7,7 +7,7 @@ use Rattle.pv_dtd.specs.Hedge.{AreGood, Hedge, cdata, data_unit, done, elem, ele
 use Rattle.pv_missing.specs.Covering.{Covers, IsPossibleWith, cover_kept, cover_new, cover_none, cover_text}
 use Rattle.pv_dtd.specs.Proper.{IsProperDtd}
 use Rattle.pv_dtd.specs.Productive.{IsProductive}
-use Rattle.pv_missing.proofs.Growing.{allows-empty}
+use Rattle.pv_missing.proofs.CoversToInsertions.{allows-empty}
 use Rattle.pv_dtd.proofs.Proper.{spelled}
 use Rattle.pv_missing.proofs.Repeats.{Omits, Texts, omit_drop, omit_keep, omit_none, texts_drop, texts_keep, texts_none}
 use Rattle.pv_missing.proofs.Texts.{allows_texts}

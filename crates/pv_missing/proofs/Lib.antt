@@ -1,10 +1,10 @@
 -- for other crates:
 pub mod Counts
-pub mod Derived
+pub mod CoverWeights
 pub mod DocLists
 pub mod FromWords
-pub mod Growing
-pub mod Judging
+pub mod CoversToInsertions
+pub mod VerdictBySite
 pub mod LeftOut
 pub mod LiveFacts
 pub mod LiveOnce
@@ -13,8 +13,8 @@ pub mod PossibleSites
 pub mod PossibleWords
 pub mod Same
 pub mod Sizes
-pub mod Spanned
-pub mod Standing
+pub mod SpanDerivations
+pub mod SpanContents
 pub mod TreeLists
 pub mod ValidLists
 pub mod Verdict
@@ -22,18 +22,18 @@ pub mod VerdictHeads
 pub mod VerdictLists
 pub mod VerdictWords
 pub mod VerdictsByNumber
-pub mod Walking
+pub mod ListPaths
 pub mod Weights
 pub mod WordDerivations
 -- of this crate:
 pub mod Alike
 pub mod AlikeHedges
 pub mod Blanks
-pub mod Counted
+pub mod DeclaredNames
 pub mod Cuts
 pub mod Deep
 pub mod Depth
-pub mod Following
+pub mod LiveTokens
 pub mod Grow
 pub mod HedgeLists
 pub mod Hedges
@@ -45,7 +45,7 @@ pub mod NoneImpossible
 pub mod NoneMissing
 pub mod NonePossible
 pub mod Repeats
-pub mod Shrinking
+pub mod InsertionsToCovers
 pub mod SomeBounds
 pub mod Sound
 pub mod Tags

@@ -9,14 +9,14 @@ use Rattle.pv_tree.specs.Words.{word_of}
 use Rattle.pv_rules.specs.Derivations.{Derives}
 use Rattle.pv_rules.specs.Rules.{Goal, Rule}
 use Rattle.pv_rules.specs.Sites.{PlainSite, content_site, name_site}
-use Rattle.pv_rules.proofs.Derived.{closed_below}
+use Rattle.pv_rules.proofs.DerivationLaws.{closed_below}
 use Rattle.pv_dtd.specs.Proper.{IsProperDtd}
 use Rattle.pv_missing.specs.ListLaws.{ClosedIsBound, DerivationsMiss, WeightIsLeast}
 use Rattle.pv_missing.specs.Missing.{MissesBy}
 use Rattle.pv_missing.specs.Weighing.{site_of, whole}
 use Rattle.pv_missing.proofs.DocLists.{live_misses_by}
 use Rattle.pv_missing.proofs.OneList.{covered_names}
-use Rattle.pv_missing.proofs.Spanned.{DerivesAtMost, content_weights, root_weights}
+use Rattle.pv_missing.proofs.SpanDerivations.{DerivesAtMost, content_weights, root_weights}
 
 -- the site of a number that an owner has
 same_site : (f : ℕ → PlainSite) (o : Option ℕ) (y : ℕ) (s : PlainSite) → o ≡ Some y → option_map f o ≡ Some s → f y ≡ s

@@ -9,10 +9,10 @@ use Rattle.pv_missing.specs.Extending.{Extends, both_done, join, new_element, sa
 use Rattle.pv_missing.specs.Levels.{IsCompleted, IsGoodExtension}
 use Rattle.pv_missing.proofs.Deep.{GrowsBy, IsCompleted-productive, ext_grows, grows_ext}
 use Rattle.pv_missing.proofs.Grow.{CanKeep}
-use Rattle.pv_missing.proofs.Growing.{Grown, allows-empty, grow, token-name}
+use Rattle.pv_missing.proofs.CoversToInsertions.{Grown, allows-empty, grow, token-name}
 use Rattle.pv_missing.proofs.HedgeLists.{AllLive, HedgeLocality, IsLiveHedge, NoneImpossible}
 use Rattle.pv_dtd.proofs.Proper.{one_name}
-use Rattle.pv_missing.proofs.Shrinking.{Shrunk, shrink}
+use Rattle.pv_missing.proofs.InsertionsToCovers.{Shrunk, shrink}
 
 -- nothing extends to nothing but itself
 ext_into_done : (h h' : Hedge) → Extends h h' → h' ≡ done → h ≡ done

@@ -13,9 +13,9 @@ use Rattle.pv_dtd.specs.Productive.{AreProductive, IsProductive, IsProductiveNam
 use Rattle.pv_missing.specs.WordLaws.{LiveAgrees}
 use Rattle.pv_missing.specs.Levels.{CanFit, CanFitRoot, Inserts, Stays, insert_done, insert_kept, insert_leaf, insert_new}
 use Rattle.pv_missing.proofs.Grow.{CanKeep}
-use Rattle.pv_missing.proofs.Growing.{Grown, allows-empty, grow}
+use Rattle.pv_missing.proofs.CoversToInsertions.{Grown, allows-empty, grow}
 use Rattle.pv_missing.proofs.Hedges.{elements-join}
-use Rattle.pv_missing.proofs.Shrinking.{Shrunk, shrink}
+use Rattle.pv_missing.proofs.InsertionsToCovers.{Shrunk, shrink}
 
 -- each element may stay as it is, at no cost
 pub stays_keep : (h : Hedge) → CanKeep Stays 0 h

@@ -7,13 +7,13 @@ use Rattle.pv_rules.specs.Derivations.{DeriveAll, Derives, by_rule, one_more}
 use Rattle.pv_rules.specs.Deriving.{DerivesAt}
 use Rattle.pv_rules.specs.Rules.{Rule, kept, missing, over}
 use Rattle.pv_rules.specs.Sites.{PlainSite, content_site, name_site}
-use Rattle.pv_rules.proofs.Deriving.{spanned, to_one}
+use Rattle.pv_rules.proofs.DerivationsMade.{spanned, to_one}
 use Rattle.pv_missing.specs.Filling.{IsPossible, IsPossibleRoot}
 use Rattle.pv_missing.specs.LiveWords.{AreProductiveTokens}
 use Rattle.pv_missing.specs.WordLaws.{PossibleDerives}
 use Rattle.pv_missing.specs.declared.owners.Of.TheVariants as of
 use Rattle.pv_missing.proofs.PossibleWords.{depths}
-use Rattle.pv_missing.proofs.Spanned.{content_weights, root_weights}
+use Rattle.pv_missing.proofs.SpanDerivations.{content_weights, root_weights}
 
 module _ (g : PlainDtd) (w : List PlainToken) (proper : IsProperDtd g) (productive : AreProductiveTokens g w) where
   pub content_possible : (x : ℕ) → DerivesAt g w (content_site x) 0 (length w) ↔ IsPossible g x w

@@ -8,7 +8,7 @@ use Rattle.pv_missing.specs.Covering.{Covers, IsLeastInNothing, IsPossibleWith, 
 use Rattle.pv_dtd.specs.Proper.{IsProperDtd}
 use Rattle.pv_dtd.specs.Productive.{IsLeastSize}
 use Rattle.pv_missing.specs.WordLaws.{SizeIsMissing}
-use Rattle.pv_missing.proofs.Growing.{allows-empty, empty_join}
+use Rattle.pv_missing.proofs.CoversToInsertions.{allows-empty, empty_join}
 use Rattle.pv_missing.proofs.LeftOut.{good_covers, names, names_texts}
 use Rattle.pv_dtd.proofs.Proper.{spelled}
 use Rattle.pv_missing.proofs.Texts.{allows_texts}

@@ -45,7 +45,9 @@ module _ {M : Type 0} (g : PlainDtd) (root : List ℕ) where
   no_bound list n m = omega arith
 
   -- a bound that isn't at the first path is at one of the others
-  further_at : (list : Listed M) (lists : List (Listed M)) (b : BoundAt) → (list.path ≡ b.path → ⊥) → (own : IsBoundAt g root (list ∷ lists) b) → Contains (list ∷ lists) own.list → IsBoundAt g root lists b
+  further_at : (list : Listed M) (lists : List (Listed M)) (b : BoundAt) → (list.path ≡ b.path →
+      ⊥) → (own : IsBoundAt g root (list ∷ lists) b) → Contains (list ∷ lists) own.list →
+      IsBoundAt g root lists b
   further_at list lists b not own (zero, h, e) = let z : list ≡ own.list = e in absurd (not (ap (λ (o : Listed M). o.path) z ∙ own.is_path))
   further_at list lists b not own (suc i, h, e) = record { list = own.list; is_listed = (i, omega arith, e); is_path = own.is_path; is_bound = own.is_bound }
 

@@ -7,8 +7,12 @@ use Rattle.pv_dtd.specs.Plain.{PlainDtd, declared, model_of}
 use Rattle.pv_missing.specs.LiveWords.{AreProductiveTokens, IsProductiveToken}
 use Rattle.pv_missing.specs.Covering.{Covers, IsPossibleWith, cover_kept, cover_new, cover_none, cover_text}
 use Rattle.pv_missing.proofs.Depth.{covers-join}
-use Rattle.pv_missing.proofs.Derived.{map_join}
-use Rattle.pv_missing.proofs.WordDerivations.{IsMember, Symbol, in_front, behind, of_content, of_name, of_part, of_rest, DerivesWord, word_any_name, word_any_none, word_any_text, word_children_part, word_empty_none, word_kept, word_missing, word_mixed_name, word_mixed_none, word_mixed_text, word_opt_none, word_opt_one, word_part_choice, word_part_name, word_part_seq, word_plus_more, word_plus_one, word_rest_last, word_rest_then, word_star_more, word_star_none}
+use Rattle.pv_missing.proofs.CoverWeights.{map_join}
+use Rattle.pv_missing.proofs.WordDerivations.{IsMember, Symbol, in_front, behind, of_content, of_name, of_part, of_rest, DerivesWord, word_any_name}
+use Rattle.pv_missing.proofs.WordDerivations.{word_any_none, word_any_text, word_children_part, word_empty_none, word_kept, word_missing}
+use Rattle.pv_missing.proofs.WordDerivations.{word_mixed_name, word_mixed_none, word_mixed_text, word_opt_none, word_opt_one, word_part_choice}
+use Rattle.pv_missing.proofs.WordDerivations.{word_part_name, word_part_seq, word_plus_more, word_plus_one, word_rest_last, word_rest_then}
+use Rattle.pv_missing.proofs.WordDerivations.{word_star_more, word_star_none}
 
 -- covered by a word of this language
 pub record CoveredBy (g : PlainDtd) (L : List ℕ → Type 0) (n : ℕ) (w : List PlainToken) : Type 0 where
@@ -52,7 +56,9 @@ module _ (g : PlainDtd) where
   new_name n a x w e p = cover_new n a 0 x p.model p.whole [] w [] w (omega arith) (sym (append-nil w)) p.is_model p.allowed p.covers (cover_none 0 refl)
 
   -- one more thing in front, where the model lets a thing of this kind come at any place
-  front_any : (x n : ℕ) (w u0 v0 v : List PlainToken) (a b : ℕ) → model_of g x ≡ Some any → n ≡ a + b → w ≡ v0 ++ v → Covers g a u0 v0 → AllByRecursion (IsOfAny (declared g)) u0 → IsPossibleWith g x b v → IsPossibleWith g x n w
+  front_any : (x n : ℕ) (w u0 v0 v : List PlainToken) (a b : ℕ) → model_of g x ≡ Some any →
+      n ≡ a + b → w ≡ v0 ++ v → Covers g a u0 v0 → AllByRecursion (IsOfAny (declared g)) u0 →
+      IsPossibleWith g x b v → IsPossibleWith g x n w
   front_any x n w u0 v0 v a b is e j c ok p = record {
     model = any;
     is_model = is;
@@ -65,7 +71,9 @@ module _ (g : PlainDtd) where
       join [] t i k = k
       join (z ∷ s) t i k = (i.0, join s t i.1 k)
 
-  front_mixed : (x n : ℕ) (ys : List ℕ) (w u0 v0 v : List PlainToken) (a b : ℕ) → model_of g x ≡ Some (mixed ys) → n ≡ a + b → w ≡ v0 ++ v → Covers g a u0 v0 → AllByRecursion (IsOfMixed ys) u0 → IsPossibleWith g x b v → IsPossibleWith g x n w
+  front_mixed : (x n : ℕ) (ys : List ℕ) (w u0 v0 v : List PlainToken) (a b : ℕ) →
+      model_of g x ≡ Some (mixed ys) → n ≡ a + b → w ≡ v0 ++ v → Covers g a u0 v0 →
+      AllByRecursion (IsOfMixed ys) u0 → IsPossibleWith g x b v → IsPossibleWith g x n w
   front_mixed x n ys w u0 v0 v a b is e j c ok p = record {
     model = mixed ys;
     is_model = is;

@@ -6,11 +6,17 @@ use Rattle.pv_model.specs.Plain.{PlainPart, PlainParts, PlainToken, choice, name
 use Rattle.pv_dtd.specs.Plain.{PlainDtd, parts_in}
 use Rattle.pv_rules.specs.Derivations.{Derives, by_rule, none_left, one_more}
 use Rattle.pv_rules.specs.Numbering.{IsMemberAt, first_part, here, later, part_at, rest_at}
-use Rattle.pv_rules.specs.Rules.{Rule, any_name, any_none, any_text, children_part, empty_none, kept, missing, mixed_name, mixed_none, mixed_text, opt_none, opt_one, over, part_choice, part_name, part_seq, plus_more, plus_one, rest_last, rest_then, star_more, star_none}
+use Rattle.pv_rules.specs.Rules.{Rule, any_name, any_none, any_text, children_part, empty_none, kept, missing, mixed_name, mixed_none, mixed_text}
+use Rattle.pv_rules.specs.Rules.{opt_none, opt_one, over, part_choice, part_name, part_seq, plus_more, plus_one, rest_last, rest_then, star_more}
+use Rattle.pv_rules.specs.Rules.{star_none}
 use Rattle.pv_rules.specs.Sites.{PlainSite, content_site, name_site, part_site, rest_site}
 use Rattle.pv_rules.proofs.Facts.{parts_by_number}
-use Rattle.pv_missing.proofs.WordDerivations.{IsMember, Symbol, behind, in_front, of_content, of_name, of_part, of_rest, DerivesWord, word_any_name, word_any_none, word_any_text, word_children_part, word_empty_none, word_kept, word_missing, word_mixed_name, word_mixed_none, word_mixed_text, word_opt_none, word_opt_one, word_part_choice, word_part_name, word_part_seq, word_plus_more, word_plus_one, word_rest_last, word_rest_then, word_star_more, word_star_none}
-use Rattle.pv_missing.proofs.Standing.{Stands, cut_at, front_text, nothing, one_token, some_in}
+use Rattle.pv_missing.proofs.WordDerivations.{IsMember, Symbol, behind, in_front, of_content, of_name, of_part, of_rest, DerivesWord, word_any_name}
+use Rattle.pv_missing.proofs.WordDerivations.{word_any_none, word_any_text, word_children_part, word_empty_none, word_kept, word_missing}
+use Rattle.pv_missing.proofs.WordDerivations.{word_mixed_name, word_mixed_none, word_mixed_text, word_opt_none, word_opt_one, word_part_choice}
+use Rattle.pv_missing.proofs.WordDerivations.{word_part_name, word_part_seq, word_plus_more, word_plus_one, word_rest_last, word_rest_then}
+use Rattle.pv_missing.proofs.WordDerivations.{word_star_more, word_star_none}
+use Rattle.pv_missing.proofs.SpanContents.{Stands, cut_at, front_text, nothing, one_token, some_in}
 
 is_member : (p : PlainPart) (r q : ℕ) (ps : PlainParts) → IsMemberAt p r q ps → IsMember p ps
 is_member p r q ps (here _ qs e) = in_front qs

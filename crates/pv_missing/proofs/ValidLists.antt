@@ -16,7 +16,7 @@ use Rattle.pv_missing.specs.Missing.{Misses, MissesBy, MissesInContent, MissesIn
 use Rattle.pv_missing.specs.Weighing.{Weighs, site_of, whole}
 use Rattle.pv_missing.proofs.DocLists.{live_misses_by}
 use Rattle.pv_missing.proofs.OneList.{IsCoverable, covered_by_productive}
-use Rattle.pv_missing.proofs.Spanned.{DerivesAtMost}
+use Rattle.pv_missing.proofs.SpanDerivations.{DerivesAtMost}
 use Rattle.pv_missing.proofs.ListDerivations.{list_derives}
 
 -- a word that can be covered covers itself

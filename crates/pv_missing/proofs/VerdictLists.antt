@@ -27,7 +27,9 @@ live_of g root list verdict.Impossible n j = absurd (n refl)
 pub first_own : {M : Type 0} (g : PlainDtd) (root : List ℕ) (list : Listed M) (lists : List (Listed M)) → IsVerdict g root list verdict.Impossible → IsFirstImpossible g root (list ∷ lists) list.path
 first_own g root list lists j = record { before = []; list = list; after = lists; is_split = refl; all_before = tt; is_not = j; is_path = refl }
 
-pub first_from : {M : Type 0} (g : PlainDtd) (root : List ℕ) (list : Listed M) (lists : List (Listed M)) (path : List ℕ) → IsLive g root list → IsFirstImpossible g root lists path → IsFirstImpossible g root (list ∷ lists) path
+pub first_from : {M : Type 0} (g : PlainDtd) (root : List ℕ) (list : Listed M)
+    (lists : List (Listed M)) (path : List ℕ) → IsLive g root list →
+    IsFirstImpossible g root lists path → IsFirstImpossible g root (list ∷ lists) path
 first_from g root list lists path l f = first_behind (IsLive g root) (list ∷ []) lists path (l, tt) f
 
 contains_behind : (v : Verdict) (vs : List Verdict) (w : Verdict) → v ≢ w → (k : ℕ) → k < length (v ∷ vs) → slice_index_or (v ∷ vs) k w ≡ w → Contains vs w

@@ -87,7 +87,9 @@ module _ {M : Type 0} (g : PlainDtd) (root : List ℕ) (k : Forest M) where
   at_root_back None e l = absurd l
   at_root_back (Some y) e l = record { number = y; is_owner = e; live = l.live; is_live = l.is_live; possible = l.possible }
 
-  root_there : (o : Option ℕ) → number_of g root ≡ o → IsLiveRoot g root k → (t : Tree M) → k ≡ tree t no_trees → IsRootList root k → IsValidByWord g (option_map name_site o) (word_of g k) (has_no_trees k)
+  root_there : (o : Option ℕ) → number_of g root ≡ o → IsLiveRoot g root k → (t : Tree M) →
+      k ≡ tree t no_trees → IsRootList root k → IsValidByWord g (option_map name_site o)
+      (word_of g k) (has_no_trees k)
   root_there None n l t e r = absurd (let a = l.is_owner in cc)
   root_there (Some y) n l t e r = rw e (root_word g root y t n (rw e at r).0)
 
@@ -99,11 +101,15 @@ live_by : {M : Type 0} (g : PlainDtd) (root : List ℕ) (o : Owner) (k : Forest 
 live_by g root the_document k = (at_root_there g root k (number_of g root) refl, at_root_back g root k (number_of g root) refl)
 live_by g root (an_element x) k = (content_there g x k (number_of g x) refl, content_back g x k (number_of g x) refl)
 
-valid_there : {M : Type 0} (g : PlainDtd) (root : List ℕ) (o : Owner) (k : Forest M) → HoldsOne o k → IsLiveBy g root o k → IsValidBy g root o k → IsValidByWord g (site_of g root o) (word_of g k) (has_no_trees k)
+valid_there : {M : Type 0} (g : PlainDtd) (root : List ℕ) (o : Owner) (k : Forest M) →
+    HoldsOne o k → IsLiveBy g root o k → IsValidBy g root o k → IsValidByWord g (site_of g root o)
+    (word_of g k) (has_no_trees k)
 valid_there g root the_document k h l v = root_there g root k (number_of g root) refl l h.0 h.1 v
 valid_there g root (an_element x) k h l v = own_there g x k (number_of g x) v
 
-valid_back : {M : Type 0} (g : PlainDtd) (root : List ℕ) (o : Owner) (k : Forest M) → HoldsOne o k → IsLiveBy g root o k → IsValidByWord g (site_of g root o) (word_of g k) (has_no_trees k) → IsValidBy g root o k
+valid_back : {M : Type 0} (g : PlainDtd) (root : List ℕ) (o : Owner) (k : Forest M) → HoldsOne o k →
+    IsLiveBy g root o k → IsValidByWord g (site_of g root o) (word_of g k) (has_no_trees k) →
+    IsValidBy g root o k
 valid_back g root the_document k h l v = root_back g root k (number_of g root) refl h.0 h.1 v
 valid_back g root (an_element x) k h l v = own_back g x k (number_of g x) v
 

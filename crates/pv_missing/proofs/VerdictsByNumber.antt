@@ -28,7 +28,14 @@ module _ {M : Type 0} (g : PlainDtd) (root : List ℕ) where
   from_number [] [] b = refl
   from_number [] (v ∷ vs) b = let e = b.as_many in absurd (omega arith)
   from_number (list ∷ lists) [] b = let e = b.as_many in absurd (omega arith)
-  from_number (list ∷ lists) (v ∷ vs) b = (v, vs, refl, b.each 0 list v refl refl, from_number lists vs (record { as_many = let e = b.as_many in omega arith; each = λ k l w e f. b.each (suc k) l w e f }))
+  from_number (list ∷ lists) (v ∷ vs) b = (
+    v,
+    vs,
+    refl,
+    b.each 0 list v refl refl,
+    from_number lists vs
+        (record { as_many = let e = b.as_many in omega arith; each = λ k l w e f. b.each (suc k) l w e f }),
+  )
 
   -- the number of the first list that isn't live is that of the first Impossible verdict
   first_at : (lists : List (Listed M)) (vs : List Verdict) → AreVerdicts g root lists vs → (before : List (Listed M)) (list : Listed M) (after : List (Listed M)) → lists ≡ before ++ list ∷ after →

@@ -1,4 +1,4 @@
--- The same with the number of missing elements, and without depths.
+-- Words into which missing elements are put, with their number, and without depths.
 use Rattle.std.specs.Prelude.{List, Some, [], suc, ℕ, ◌++◌, ◌+◌, ◌∷◌, ◌≡◌, ◌≤◌}
 use Rattle.pv_model.specs.Plain.{PlainModel, PlainToken, named, text}
 use Rattle.pv_model.specs.Models.{Allows}

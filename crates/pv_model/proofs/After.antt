@@ -5,7 +5,7 @@ use Rattle.pv_model.specs.Plain.{PlainPart, name, seq, choice, opt, star, plus, 
 use Rattle.pv_model.specs.Models.{Rounds, round, Matches, MatchesAll, MatchesSome}
 use Rattle.pv_model.specs.Positions.{may_be_empty}
 use Rattle.pv_model.proofs.Joins.{or-cases, or-left, or-right, joined-first, first_round}
-use Rattle.pv_model.proofs.Reached.{Positions, AllPositions, Continues, ContinuesInOrder, ContinuesSome, ends, after, after_in_order, after_in_each}
+use Rattle.pv_model.proofs.ReachedPositions.{Positions, AllPositions, Continues, ContinuesInOrder, ContinuesSome, ends, after, after_in_order, after_in_each}
 use Rattle.pv_model.proofs.Ends.{may_be_empty-means, ends-means}
 
 mutual

@@ -5,7 +5,7 @@ use Rattle.pv_model.specs.Plain.{PlainPart, name, seq, choice, opt, star, plus, 
 use Rattle.pv_model.specs.Models.{Rounds, no_round, Matches, MatchesAll, MatchesSome}
 use Rattle.pv_model.specs.Positions.{may_be_empty, all_may_be_empty, some_may_be_empty}
 use Rattle.pv_model.proofs.Joins.{or-cases, or-left, or-right, joined-none}
-use Rattle.pv_model.proofs.Reached.{Positions, AllPositions, Continues, ContinuesInOrder, ContinuesSome, ends, ends_in_order, ends_some}
+use Rattle.pv_model.proofs.ReachedPositions.{Positions, AllPositions, Continues, ContinuesInOrder, ContinuesSome, ends, ends_in_order, ends_some}
 
 mutual
   matches_empty : (p : PlainPart) → IsTrue (may_be_empty p) → Matches p []

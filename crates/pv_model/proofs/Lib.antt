@@ -7,12 +7,12 @@ pub mod LayingOut
 pub mod LayoutPlaces
 pub mod LayoutSteps
 pub mod LayoutWords
-pub mod Listed
+pub mod PositionLists
 pub mod LongAnswer
 pub mod Progress
-pub mod Reached
-pub mod Reading
-pub mod Splitting
+pub mod ReachedPositions
+pub mod WordWalks
+pub mod SplitPlaces
 pub mod Tokens
-pub mod Unreached
+pub mod UnreachedPositions
 pub mod Written

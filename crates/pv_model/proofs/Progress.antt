@@ -3,7 +3,9 @@ use Rattle.std.proofs.Common.{◌≡◌, ℕ, suc, ◌+◌, ◌≤◌, get_or, s
 use Rattle.std.proofs.lemmas.List.{drop-drop}
 use Rattle.std.proofs.Math.Bool.{or-false, or_assoc}
 use Rattle.pv_model.specs.Plain.{PlainPart, PlainParts, part, plus}
-use Rattle.pv_model.specs.Positions.{position_count, position_count_all, all_may_be_empty, some_may_be_empty, is_end_in_order, is_end_of_some, is_end_after_in_order, is_end_after_of_some, positions_after, positions_after_in_order, positions_after_in_each, any_reached, overwrite}
+use Rattle.pv_model.specs.Positions.{position_count, position_count_all, all_may_be_empty, some_may_be_empty, is_end_in_order, is_end_of_some}
+use Rattle.pv_model.specs.Positions.{is_end_after_in_order, is_end_after_of_some, positions_after, positions_after_in_order, positions_after_in_each}
+use Rattle.pv_model.specs.Positions.{any_reached, overwrite}
 use Rattle.pv_model.specs.Moves.{Moves}
 use Rattle.pv_model.specs.declared.positions.Moved.{Moved}
 use Rattle.pv_model.proofs.Written.{length-positions_after, drop-overwrite, overwrite-overwrite, overwrite_first}
@@ -42,7 +44,7 @@ pub record InEach (whole : PlainParts) (entered : Bool) (y at : ℕ) (old : List
   pub positions : overwrite so_far.next (positions_after_in_each rest entered y (drop so_far.next now)) now ≡ overwrite at (positions_after_in_each whole entered y (drop at old)) old
 
 module _ (p : PlainPart) (entered : Bool) (y at : ℕ) (now after : List Bool) (one : Moved) (room : at + position_count p ≤ length now) (m : Moves p entered y at now after one) where
-  -- the positions after stay
+  -- the positions after the particle stay
   behind : drop one.next after ≡ drop (position_count p) (drop at now)
   behind =
       ap (λ k. drop k after) m.next
@@ -57,7 +59,9 @@ module _ (p : PlainPart) (entered : Bool) (y at : ℕ) (now after : List Bool) (
 pub InOrder-more : (whole : PlainParts) (entered : Bool) (y at : ℕ) (old : List Bool) (p : PlainPart) (ps : PlainParts) (entering : Bool) (so_far : Moved) (now : List Bool) →
     InOrder whole entered y at old (part p ps) entering so_far now → (one all : Moved) (after : List Bool) → length after ≡ length now → Moves p entering y so_far.next now after one →
     all.next ≡ one.next → all.was_end ≡ (one.was_end || so_far.was_end && one.may_be_empty) → all.is_end ≡ (one.is_end || so_far.is_end && one.may_be_empty) →
-    all.is_reached ≡ (so_far.is_reached || one.is_reached) → all.may_be_empty ≡ (so_far.may_be_empty && one.may_be_empty) → (entering2 : Bool) → entering2 ≡ (one.was_end || entering && one.may_be_empty) →
+    all.is_reached ≡ (so_far.is_reached || one.is_reached) →
+    all.may_be_empty ≡ (so_far.may_be_empty && one.may_be_empty) → (entering2 : Bool) →
+    entering2 ≡ (one.was_end || entering && one.may_be_empty) →
     InOrder whole entered y at old ps entering2 all after
 InOrder-more whole entered y at old p ps entering so_far now inv one all after stays m next was is left may entering2 enters =
     let room : so_far.next + position_count p ≤ length now = omega (arith, inv.room) in

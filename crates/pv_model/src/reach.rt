@@ -57,7 +57,7 @@ impl Ends {
         self.was_end || entered && may_be_empty
     }
 
-    /// What stands at the ends of the particle and one after it.
+    /// Whether the names are a word of the particle with a second one after it.
     fn followed_by(self, second: Ends, second_may_be_empty: bool) -> Ends
         ensures was_end { result.was_end ≡
             (second.was_end || self.was_end && second_may_be_empty) }
@@ -69,7 +69,7 @@ impl Ends {
         }
     }
 
-    /// What stands at the ends of the particle or one beside it to choose from.
+    /// Whether the names are a word of the particle or of a second one.
     fn or(self, second: Ends) -> Ends
         ensures was_end { result.was_end ≡ (self.was_end || second.was_end) }
         ensures is_end { result.is_end ≡ (self.is_end || second.is_end) }

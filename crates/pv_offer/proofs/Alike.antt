@@ -1,5 +1,6 @@
 -- What an edit does that doesn't depend on which name it gives.
-use Rattle.std.proofs.Common.{Bool, List, None, Option, Some, [], ap, arith, drop, inl, inr, length, map, nat_lt, not, refl, subst, suc, sym, take, true, zero, ℕ, ◌&&◌, ◌++◌, ◌==◌, ◌||◌, ◌∙◌, ◌∷◌, ◌≡◌, ◌≤◌, codes}
+use Rattle.std.proofs.Common.{Bool, List, None, Option, Some, [], ap, arith, drop, inl, inr, length, map, nat_lt, not, refl, subst, suc, sym, take}
+use Rattle.std.proofs.Common.{true, zero, ℕ, ◌&&◌, ◌++◌, ◌==◌, ◌||◌, ◌∙◌, ◌∷◌, ◌≡◌, ◌≤◌, codes}
 use Rattle.std.proofs.lemmas.List.{map-append}
 use Rattle.std.proofs.lemmas.List.Edits.{split_between}
 use Rattle.std.specs.List.{AllByRecursion, Contains, between}
@@ -65,7 +66,9 @@ module _ {M : Type 0} where
           let m : outlines had ≡ outlines kids = cc in
           subst (FitsVerdict g) (words_long g had kids m) (h had is)
 
-  all_narrow : (g : PlainDtd) (doc other : PlainDoc M) → outline doc.root ≡ outline other.root → (paths : List (List ℕ)) → AllByRecursion (IsNarrowAt g doc) paths → AllByRecursion (IsNarrowAt g other) paths
+  all_narrow : (g : PlainDtd) (doc other : PlainDoc M) → outline doc.root ≡ outline other.root →
+      (paths : List (List ℕ)) → AllByRecursion (IsNarrowAt g doc) paths →
+      AllByRecursion (IsNarrowAt g other) paths
   all_narrow g doc other same [] h = tt
   all_narrow g doc other same (path ∷ paths) h = (narrow_alike g doc other same path h.0, all_narrow g doc other same paths h.1)
 
@@ -126,10 +129,17 @@ module _ {M : Type 0} where
   renamed_list : (x : List ℕ) (i j : ℕ) (ts : List (Tree M)) → i ≤ j → outlines (take i ts ++ (map (with_name x) (between i j ts) ++ drop j ts)) ≡ outlines ts
   renamed_list x i j ts le =
       let mid = between i j ts in
-      let inner : outlines (map (with_name x) mid ++ drop j ts) ≡ outlines (mid ++ drop j ts) = map-append outline (map (with_name x) mid) (drop j ts) ∙ ap (λ l. l ++ outlines (drop j ts)) (named_outlines x mid) ∙ sym (map-append outline mid (drop j ts)) in
-      map-append outline (take i ts) (map (with_name x) mid ++ drop j ts) ∙ ap (λ l. outlines (take i ts) ++ l) inner ∙ sym (map-append outline (take i ts) (mid ++ drop j ts)) ∙ ap outlines (sym (split_between ts i j le))
+      let inner : outlines (map (with_name x) mid ++ drop j ts) ≡ outlines (mid ++ drop j ts) =
+      map-append outline (map (with_name x) mid) (drop j ts)
+      ∙ ap (λ l. l ++ outlines (drop j ts)) (named_outlines x mid)
+      ∙ sym (map-append outline mid (drop j ts)) in
+      map-append outline (take i ts) (map (with_name x) mid ++ drop j ts)
+      ∙ ap (λ l. outlines (take i ts) ++ l) inner ∙ sym (map-append outline (take i ts) (mid
+      ++ drop j ts)) ∙ ap outlines (sym (split_between ts i j le))
 
-  renamed_alike : (blank : M) (root : Tree M) (path x : List ℕ) → outline (root_after (change_of blank root (edit_with (Rename path) x)).list (change_of blank root (edit_with (Rename path) x)) root) ≡ outline root
+  renamed_alike : (blank : M) (root : Tree M) (path x : List ℕ) →
+      outline (root_after (change_of blank root (edit_with (Rename path) x)).list
+      (change_of blank root (edit_with (Rename path) x)) root) ≡ outline root
   renamed_alike blank root path x =
       let c = change_of blank root (edit_with (Rename path) x) in
       root_kept c.list c root (λ ts. renamed_list x c.from c.to ts (omega arith))
@@ -142,7 +152,10 @@ module _ {M : Type 0} where
       (unless (not b) BadName (unless (is_top path && not ((from == 0) && (to == 1))) RootShape (unless d Deep None))))) in
       let cx = change_of blank root (edit_with (Wrap path from to) x) in
       let cy = change_of blank root (edit_with (Wrap path from to) y) in
-      let depths : depth_of (root_after path cx root) ≡ depth_of (root_after path cy root) = sym (depth_outline (root_after path cx root)) ∙ ap depth_of (wrapped_alike blank root path from to x y) ∙ depth_outline (root_after path cy root) in
+      let depths : depth_of (root_after path cx root) ≡ depth_of (root_after path cy root) =
+      sym (depth_outline (root_after path cx root))
+      ∙ ap depth_of (wrapped_alike blank root path from to x y)
+      ∙ depth_outline (root_after path cy root) in
       let deep : goes_too_deep cx root ≡ goes_too_deep cy root = ap (nat_lt MAX_DEPTH) depths in
       ap (λ b. form b (goes_too_deep cx root)) (nx ∙ sym ny) ∙ ap (form (is_new_name y)) deep
 
@@ -156,7 +169,9 @@ module _ {M : Type 0} where
   reason_alike blank root (Wrap path from to) x y nx ny = wrap_reason blank root path from to x y nx ny
   reason_alike blank root (Rename path) x y nx ny = rename_reason blank root path x y nx ny
 
-  doc_alike : (blank : M) (doc : PlainDoc M) (ask : Ask) (x y : List ℕ) → outline (doc_after (change_of blank doc.root (edit_with ask x)) doc).root ≡ outline (doc_after (change_of blank doc.root (edit_with ask y)) doc).root
+  doc_alike : (blank : M) (doc : PlainDoc M) (ask : Ask) (x y : List ℕ) →
+      outline (doc_after (change_of blank doc.root (edit_with ask x)) doc).root
+      ≡ outline (doc_after (change_of blank doc.root (edit_with ask y)) doc).root
   doc_alike blank doc (Wrap path from to) x y = wrapped_alike blank doc.root path from to x y
   doc_alike blank doc (Rename path) x y = renamed_alike blank doc.root path x ∙ sym (renamed_alike blank doc.root path y)
 
@@ -164,7 +179,9 @@ module _ {M : Type 0} where
   pub refused_alike : (blank : M) (doc : PlainDoc M) (ask : Ask) (x y : List ℕ) (reason : Reason) → is_new_name x ≡ true → is_new_name y ≡ true →
       edit_outcome blank doc (edit_with ask x) ≡ refuses reason → edit_outcome blank doc (edit_with ask y) ≡ refuses reason
   refused_alike blank doc ask x y reason nx ny h =
-      let r : reason_of blank doc.root (edit_with ask x) ≡ Some reason = out_refuses (reason_of blank doc.root (edit_with ask x)) (doc_after (change_of blank doc.root (edit_with ask x)) doc) reason h in
+      let r : reason_of blank doc.root (edit_with ask x) ≡ Some reason =
+      out_refuses (reason_of blank doc.root (edit_with ask x))
+      (doc_after (change_of blank doc.root (edit_with ask x)) doc) reason h in
       ap (λ o. outcome o (doc_after (change_of blank doc.root (edit_with ask y)) doc)) (sym (reason_alike blank doc.root ask x y nx ny) ∙ r)
 
   none_of_gives : (o : Option Reason) (d e : PlainDoc M) → outcome o d ≡ gives e → o ≡ None
@@ -182,14 +199,20 @@ reasons_alike M blank doc ask x y reason nx ny h = refused_alike blank doc ask x
 
 pub limits_alike : (M : Type 0) → LimitsDontTellNames M
 limits_alike M blank g doc edited other ask x y gx gy w =
-    let ex : doc_after (change_of blank doc.root (edit_with ask x)) doc ≡ edited = out_gives (reason_of blank doc.root (edit_with ask x)) (doc_after (change_of blank doc.root (edit_with ask x)) doc) edited gx in
-    let ey : doc_after (change_of blank doc.root (edit_with ask y)) doc ≡ other = out_gives (reason_of blank doc.root (edit_with ask y)) (doc_after (change_of blank doc.root (edit_with ask y)) doc) other gy in
+    let ex : doc_after (change_of blank doc.root (edit_with ask x)) doc ≡ edited =
+    out_gives (reason_of blank doc.root (edit_with ask x)) (doc_after (change_of blank doc.root
+    (edit_with ask x)) doc) edited gx in
+    let ey : doc_after (change_of blank doc.root (edit_with ask y)) doc ≡ other =
+    out_gives (reason_of blank doc.root (edit_with ask y)) (doc_after (change_of blank doc.root
+    (edit_with ask y)) doc) other gy in
     let same : outline edited.root ≡ outline other.root = ap (λ (d : PlainDoc M). outline d.root) (sym ex) ∙ doc_alike blank doc ask x y ∙ ap (λ (d : PlainDoc M). outline d.root) ey in
     subst (IsWithinLimits g other) (lists_alike ask x y) (within_alike g edited other same (changed_lists (makes (edit_with ask x))) w)
 
 pub renames_within : (M : Type 0) → ListsStandAtPaths M → RenamesAreWithin M
 renames_within M stand blank g doc edited path x held h =
-    let e : doc_after (change_of blank doc.root (edit_with (Rename path) x)) doc ≡ edited = out_gives (reason_of blank doc.root (edit_with (Rename path) x)) (doc_after (change_of blank doc.root (edit_with (Rename path) x)) doc) edited h in
+    let e : doc_after (change_of blank doc.root (edit_with (Rename path) x)) doc ≡ edited =
+    out_gives (reason_of blank doc.root (edit_with (Rename path) x))
+    (doc_after (change_of blank doc.root (edit_with (Rename path) x)) doc) edited h in
     let same : outline doc.root ≡ outline edited.root = sym (renamed_alike blank doc.root path x) ∙ ap (λ (d : PlainDoc M). outline d.root) e in
     let paths = changed_lists (makes (edit_with (Rename path) x)) in
     within_alike g doc edited same paths (record { few = held.few; narrow = held_narrow stand g doc held.narrow paths })
@@ -246,7 +269,9 @@ one_offer_ground s ask NoMemory other h k here there = absurd (here refl)
 
 -- ---- what one name shows
 module _ (s : StampedDoc) (ask : Ask) where
-  pub asked_by : (edited : PlainDoc ℕ) → edit_outcome 0 s.doc (edit_with ask (codes "a")) ≡ gives edited → IsWithinLimits s.dtd edited (changed_lists (makes (edit_with ask (codes "a")))) → CanBeAsked s ask
+  pub asked_by : (edited : PlainDoc ℕ) → edit_outcome 0 s.doc (edit_with ask (codes "a"))
+      ≡ gives edited → IsWithinLimits s.dtd edited
+      (changed_lists (makes (edit_with ask (codes "a")))) → CanBeAsked s ask
   asked_by edited e w x nx =
       let other = doc_after (change_of 0 s.doc.root (edit_with ask x)) s.doc in
       let given = given_alike 0 s.doc edited ask (codes "a") x a_name nx e in

@@ -1,5 +1,5 @@
 -- of this crate:
 mod Alike
-mod Choosing
+mod ChosenNames
 mod Outlines
-pub mod Shared
+pub mod SharedDocument

@@ -97,7 +97,9 @@ module _ {M : Type 0} where
   node_outline : (path : List ℕ) (t : Tree M) → node_below path (outline t) ≡ option_map outline (node_below path t)
   node_outline [] t = refl
   node_outline (i ∷ path) t =
-      ap (λ ts. option_and_then (node_below path) (slice_get ts i)) (kids_outline t) ∙ ap (option_and_then (node_below path)) (get_map outline (kids_of t) i) ∙ node_in (node_below path) (node_below path) (node_outline path) (slice_get (kids_of t) i)
+      ap (λ ts. option_and_then (node_below path) (slice_get ts i)) (kids_outline t)
+      ∙ ap (option_and_then (node_below path)) (get_map outline (kids_of t) i)
+      ∙ node_in (node_below path) (node_below path) (node_outline path) (slice_get (kids_of t) i)
 
   list_of_outline : (t : Tree M) → list_of (outline t) ≡ option_map outlines (list_of t)
   list_of_outline (element x a e ks m) = ap Some (trees_outline ks)
@@ -139,7 +141,9 @@ module _ {M : Type 0} where
   below_alike (i ∷ path) f g h (misc_node b) = refl
 
   -- changes that make lists of one outline make documents of one outline
-  pub root_alike : (path : List ℕ) (c d : Change M) (root : Tree M) → ((ts : List (Tree M)) → outlines (list_after c ts) ≡ outlines (list_after d ts)) → outline (root_after path c root) ≡ outline (root_after path d root)
+  pub root_alike : (path : List ℕ) (c d : Change M) (root : Tree M) → ((ts : List (Tree M)) →
+      outlines (list_after c ts) ≡ outlines (list_after d ts)) → outline (root_after path c root)
+      ≡ outline (root_after path d root)
   root_alike [] c d root h = first_outline root (list_after c (root ∷ [])) ∙ ap (first_tree (outline root)) (h (root ∷ [])) ∙ sym (first_outline root (list_after d (root ∷ [])))
   root_alike (i ∷ path) c d root h =
       below_alike path (owner_after c) (owner_after d) (λ t. with_list_outline c.shorten (list_after c (kids_of t)) t (list_after d (kids_of t)) d.shorten (h (kids_of t))) root

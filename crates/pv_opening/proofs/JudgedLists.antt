@@ -19,7 +19,9 @@ ends_first first second ending (at_refusal r k refuses is) = at_refusal r k (inl
 ends_first first second ending (at_fault k faults is) = at_fault k (inl faults) is
 ends_first first second ending (without_memory is) = without_memory is
 
-pub ends_second : {X Y : Type 0} (first : Stage X) (second : X → Stage Y) (x : X) (k : ℕ) (ending : RunEnding) → first.Opens x k → EndsWithin (second x) ending → EndsWithin (followed_by first second) ending
+pub ends_second : {X Y : Type 0} (first : Stage X) (second : X → Stage Y) (x : X) (k : ℕ)
+    (ending : RunEnding) → first.Opens x k → EndsWithin (second x) ending →
+    EndsWithin (followed_by first second) ending
 ends_second first second x k ending opens (at_refusal r m refuses is) = at_refusal r (k + m) (inr (x, k, m, opens, refuses, refl)) is
 ends_second first second x k ending opens (at_fault m faults is) = at_fault (k + m) (inr (x, k, m, opens, faults, refl)) is
 ends_second first second x k ending opens (without_memory is) = without_memory is
@@ -61,6 +63,8 @@ opening_beside x stage lists before after (Ok z) (y, k, opens, is) = ((x, y), k,
 opening_beside x stage lists before after (Err stop) counts = judged_beside x stage lists CountsNoMore (ending_of (Err stop)) before after counts
 
 -- the counter after what was opened, and then on
-pub opened_goes : {X Y : Type 0} (judging : Stage X) (lists : X → ℕ) (GoesOn : ℕ → ℕ → Type 0) (ending : RunEnding) (before middle after : ℕ) (y : Y) → CountsOpening judging lists before middle (Ok y) →
+pub opened_goes : {X Y : Type 0} (judging : Stage X) (lists : X → ℕ) (GoesOn : ℕ → ℕ →
+    Type 0) (ending : RunEnding) (before middle after : ℕ) (y : Y) →
+    CountsOpening judging lists before middle (Ok y) →
     GoesOn middle after → CountsJudged judging lists GoesOn ending before after
 opened_goes judging lists GoesOn ending before middle after y (x, k, opens, is) more = judges_all x k opens (subst (λ (n : ℕ). GoesOn n after) is more)

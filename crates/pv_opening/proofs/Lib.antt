@@ -1,6 +1,6 @@
 -- for other crates:
 pub mod Both
-pub mod Fetching
+pub mod FetchedFiles
 pub mod JudgedLists
 pub mod OneOpening
 pub mod OnePossibility

@@ -14,7 +14,8 @@ use Rattle.pv_read.specs.DocumentLaws.{DocumentsMeanOne, MeansWhatItSpells, Spel
 use Rattle.pv_read.proofs.DocumentFacts.{keeps}
 use Rattle.pv_opening.specs.Documents.{OpensDocument, PlainOpened, document_refusal, RefusesDocument, no_document, too_many_bytes, document_stage}
 use Rattle.pv_opening.specs.Course.{responds, Course, after_fetches}
-use Rattle.pv_opening.specs.Opening.{Files, IsFetched, IsFileTooLong, file_at, fetch_stage, RefusesDtd, no_dtd, dtd_refusal, dtd_stage, expanded_dtd_stage, dtd_file_stage, document_fetch_stage, fetching_stage, opening_stage}
+use Rattle.pv_opening.specs.Opening.{Files, IsFetched, IsFileTooLong, file_at, fetch_stage, RefusesDtd, no_dtd, dtd_refusal, dtd_stage}
+use Rattle.pv_opening.specs.Opening.{expanded_dtd_stage, dtd_file_stage, document_fetch_stage, fetching_stage, opening_stage}
 use Rattle.pv_opening.specs.Response.{PlainResponse}
 use Rattle.pv_opening.specs.Parameters.{RefusesParameters, not_expanded, parameters_refusal, expansion_stage}
 use Rattle.pv_params.specs.Laws.{AtMostOne}
@@ -153,7 +154,9 @@ expanded_dtd_sure one bytes =
 pub dtd_file_sure : ReadsOneDtd → (file : Option (List ℕ)) → IsSure (dtd_file_stage file) IsEqual
 dtd_file_sure one file =
     let fetch = fetch_stage file MAX_DTD_BYTES (codes "limit dtd-file") in
-    followed_sure fetch fetch IsEqual expanded_dtd_stage expanded_dtd_stage IsEqual (fetch_sure file MAX_DTD_BYTES (codes "limit dtd-file")) (sure_at expanded_dtd_stage IsEqual (expanded_dtd_sure one))
+    followed_sure fetch fetch IsEqual expanded_dtd_stage expanded_dtd_stage IsEqual
+    (fetch_sure file MAX_DTD_BYTES (codes "limit dtd-file")) (sure_at expanded_dtd_stage IsEqual
+    (expanded_dtd_sure one))
 
 -- two documents with one text
 pub record IsSameText (doc same : PlainDoc Mark) : Type 0 where

@@ -47,7 +47,9 @@ one_path P Q to from doc same path other e f h =
 pub none_first : {M : Type 0} (P : Listed M → Type 0) (lists : List (Listed M)) (path : List ℕ) → AllByRecursion P lists → IsFirstNot P lists path → ⊥
 none_first P lists path all f = f.is_not (all_right P f.before (f.list ∷ f.after) (subst (AllByRecursion P) f.is_split all)).0
 
-not_wide : {M : Type 0} (g : PlainDtd) (doc same : PlainDoc M) (path : List ℕ) → unmarked_doc doc ≡ unmarked_doc same → AllByRecursion (IsListForVerdict g) (lists_of doc) → IsFirstTooWide g (lists_of same) path → ⊥
+not_wide : {M : Type 0} (g : PlainDtd) (doc same : PlainDoc M) (path : List ℕ) →
+    unmarked_doc doc ≡ unmarked_doc same → AllByRecursion (IsListForVerdict g) (lists_of doc) →
+    IsFirstTooWide g (lists_of same) path → ⊥
 not_wide g doc same path e all f =
     none_first (IsListForVerdict g) (lists_of (unmarked_doc same)) path
     (subst (λ (d : PlainDoc Unit). AllByRecursion (IsListForVerdict g) (lists_of d)) e (all-without_marks (IsListForVerdict g) (IsListForVerdict g) (fits_to g) doc all))
@@ -67,11 +69,15 @@ width_sure g doc same e =
         is ∙ ap (λ p. with_line Limit (codes "limit width " ++ path_text p)) (one_path (IsListForVerdict g) (IsListForVerdict g) (fits_to g) (fits_from g) doc same path other e first next) ∙ sym are
 
 -- one refusal of what can't be made valid
-pub one_impossible : (root : List ℕ) (g : PlainDtd) (doc same : PlainDoc Mark) (a b : PlainResponse) → unmarked_doc doc ≡ unmarked_doc same → RefusesImpossible root g doc a → RefusesImpossible root g same b → a ≡ b
+pub one_impossible : (root : List ℕ) (g : PlainDtd) (doc same : PlainDoc Mark)
+    (a b : PlainResponse) → unmarked_doc doc ≡ unmarked_doc same → RefusesImpossible root g doc a →
+    RefusesImpossible root g same b → a ≡ b
 one_impossible root g doc same a b e (is_impossible path v f is) (is_impossible other w h are) =
     is ∙ ap (λ p. with_line Negative (codes "impossible " ++ path_text p)) (one_path (IsLive g root) (IsLive g root) (live_to g root) (live_from g root) doc same path other e f h) ∙ sym are
 
-pub possible_or : (root : List ℕ) (g : PlainDtd) (doc same : PlainDoc Mark) (r : PlainResponse) → unmarked_doc doc ≡ unmarked_doc same → IsPotentiallyValid g root (view doc.root) → RefusesImpossible root g same r → ⊥
+pub possible_or : (root : List ℕ) (g : PlainDtd) (doc same : PlainDoc Mark) (r : PlainResponse) →
+    unmarked_doc doc ≡ unmarked_doc same → IsPotentiallyValid g root (view doc.root) →
+    RefusesImpossible root g same r → ⊥
 possible_or root g doc same r e v (is_impossible path w f is) = w (subst (IsPotentiallyValid g root) (same_view doc same e) v)
 
 pub verdict_sure : (root : List ℕ) (g : PlainDtd) (doc same : PlainDoc Mark) → unmarked_doc doc ≡ unmarked_doc same → AreSure (verdict_stage root g doc) (verdict_stage root g same) IsEqual

@@ -36,13 +36,17 @@ stopped_first first second n ShelfFault stops = inl stops
 stopped_first first second n NoMemory stops = inl stops
 
 -- and so they do where the second stops, after the fetches of both
-pub stopped_second : {X Y : Type 0} (first : Stage X) (second : X → Stage Y) (x : X) (k m : ℕ) (stop : Stop) → first.Opens x k → StopsBy (second x) m stop → StopsBy (followed_by first second) (k + m) stop
+pub stopped_second : {X Y : Type 0} (first : Stage X) (second : X → Stage Y) (x : X) (k m : ℕ)
+    (stop : Stop) → first.Opens x k → StopsBy (second x) m stop → StopsBy (followed_by first second)
+    (k + m) stop
 stopped_second first second x k m (Refused r) opens stops = inr (x, k, m, opens, stops, refl)
 stopped_second first second x k m ShelfFault opens stops = inr (x, k, m, opens, stops, refl)
 stopped_second first second x k m NoMemory opens stops = inr (x, k, m, opens, stops, refl)
 
 -- and what the second returns is what both do
-pub returned_second : {X Y Z : Type 0} (plain : Z → Y) (first : Stage X) (second : X → Stage Y) (x : X) (k m : ℕ) (r : Result Z Stop) → first.Opens x k → Returns plain (second x) m r → Returns plain (followed_by first second) (k + m) r
+pub returned_second : {X Y Z : Type 0} (plain : Z → Y) (first : Stage X) (second : X →
+    Stage Y) (x : X) (k m : ℕ) (r : Result Z Stop) → first.Opens x k →
+    Returns plain (second x) m r → Returns plain (followed_by first second) (k + m) r
 returned_second plain first second x k m (Ok z) opens is = (x, k, m, opens, is, refl)
 returned_second plain first second x k m (Err stop) opens is = stopped_second first second x k m stop opens is
 
@@ -99,7 +103,9 @@ stop_found stage Goes ShelfFault never stops = never stops
 stop_found stage Goes NoMemory never stops = short_of_memory 0 stops refl
 
 -- what was found after what a stage opened
-pub found_behind : {X : Type 0} (stage : Stage X) (Goes : X → Course → Type 0) (x : X) (result : Result Response Stop) → stage.Opens x 0 → TakesCourse (Goes x) result → TakesCourse (Behind stage Goes) result
+pub found_behind : {X : Type 0} (stage : Stage X) (Goes : X → Course →
+    Type 0) (x : X) (result : Result Response Stop) → stage.Opens x 0 →
+    TakesCourse (Goes x) result → TakesCourse (Behind stage Goes) result
 found_behind stage Goes x (Ok r) opens finds = opened x 0 _ opens finds refl
 found_behind stage Goes x (Err (Refused r)) opens finds = opened x 0 _ opens finds refl
 found_behind stage Goes x (Err ShelfFault) opens finds = finds

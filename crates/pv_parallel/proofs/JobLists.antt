@@ -13,7 +13,7 @@ use Rattle.pv_parallel.specs.Jobs.{Adds, AreJobs, HasGathered, IsRunOf, TakesFro
 use Rattle.pv_parallel.specs.Sizes.{HasFewTokens, Measures, Tallies}
 use Rattle.pv_parallel.specs.declared.sizes.Front.{Front}
 use Rattle.pv_parallel.specs.declared.sizes.Tally.{Tally}
-use Rattle.pv_parallel.proofs.Tallying.{few_more}
+use Rattle.pv_parallel.proofs.ListTallies.{few_more}
 use Rattle.pv_parallel.specs.declared.gathering.Gathering.{Gathering}
 use Rattle.pv_parallel.specs.declared.jobs.Job.{Job}
 
@@ -36,7 +36,9 @@ nodes_cut n nodes = ap (λ l. nodes_in_all (forest l)) (sym (take-append-drop n 
 length-cut : (n : ℕ) (nodes : List Node) → n ≤ length nodes → length (take n nodes) ≡ n
 length-cut n nodes h = length-take-le n nodes h
 
-pub lists_cut : (path : List ℕ) (i n : ℕ) (nodes : List Node) → n ≤ length nodes → lists_from path i (forest nodes) ≡ lists_from path i (forest (take n nodes)) ++ lists_from path (i + n) (forest (drop n nodes))
+pub lists_cut : (path : List ℕ) (i n : ℕ) (nodes : List Node) → n ≤ length nodes →
+    lists_from path i (forest nodes) ≡ lists_from path i (forest (take n nodes))
+    ++ lists_from path (i + n) (forest (drop n nodes))
 lists_cut path i n nodes h =
     ap (λ l. lists_from path i (forest l)) (sym (take-append-drop n nodes)) ∙ lists_joined path i (take n nodes) (drop n nodes)
     ∙ ap (λ k. lists_from path i (forest (take n nodes)) ++ lists_from path (i + k) (forest (drop n nodes))) (length-cut n nodes h)
@@ -77,7 +79,9 @@ pub adds_both : (xs ys : List (Listed Mark)) (a b c : Gathering) → Adds xs a b
 adds_both xs ys a b c f h = λ past has. rw (sym (append_assoc past xs ys)) (h (past ++ xs) (f past has))
 
 -- one job more
-pub adds_job : (here : List (Listed Mark)) (before after : Gathering) (job : Job) (longest : ℕ) → after.jobs.items ≡ before.jobs.items ++ job ∷ [] → job.first ≡ before.count → IsRunOf here job.run → after.count ≡ before.count + length here →
+pub adds_job : (here : List (Listed Mark)) (before after : Gathering) (job : Job) (longest : ℕ) →
+    after.jobs.items ≡ before.jobs.items ++ job ∷ [] → job.first ≡ before.count →
+    IsRunOf here job.run → after.count ≡ before.count + length here →
     after.longest ≡ max before.longest longest → AllByRecursion (HasFewTokens longest) here → Adds here before after
 adds_job here before after job longest items first run count most few = λ past has.
     record {
@@ -87,9 +91,13 @@ adds_job here before after job longest items first run count most few = λ past 
     }
 
 -- of nodes some of which were gathered, the others come after those
-pub front_then : (rest next : List Node) (a b : Gathering) → TakesFront rest next a b → (last : Gathering) → ((path : List ℕ) (i : ℕ) → Adds (lists_from path i (forest next)) b last) → (path : List ℕ) (i : ℕ) → Adds (lists_from path i (forest rest)) a last
+pub front_then : (rest next : List Node) (a b : Gathering) → TakesFront rest next a b →
+    (last : Gathering) → ((path : List ℕ) (i : ℕ) → Adds (lists_from path i (forest next)) b last) →
+    (path : List ℕ) (i : ℕ) → Adds (lists_from path i (forest rest)) a last
 front_then rest next a b f last more path i =
-    let behind : Adds (lists_from path (i + f.count) (forest (drop f.count rest))) b last = subst (λ (l : List Node). Adds (lists_from path (i + f.count) (forest l)) b last) f.is_rest (more path (i + f.count)) in
+    let behind : Adds (lists_from path (i + f.count) (forest (drop f.count rest))) b last =
+    subst (λ (l : List Node). Adds (lists_from path (i + f.count) (forest l)) b last) f.is_rest
+    (more path (i + f.count)) in
     subst (λ (l : List (Listed Mark)). Adds l a last) (sym (lists_cut path i f.count rest f.within))
     (adds_both (lists_from path i (forest (take f.count rest))) (lists_from path (i + f.count) (forest (drop f.count rest))) a b last (f.adds path i) behind)
 
@@ -110,7 +118,9 @@ pub few_in_all : (nodes : List Node) (n : ℕ) (m : Front) → ((path : List ℕ
 few_in_all nodes n m measured = let few = few_in_front nodes n m measured in let cut = nodes_cut n nodes in omega arith
 
 -- one node more in the front
-pub measured_next : (nodes : List Node) (n : ℕ) (node : Node) (old new : Front) (a b : Tally) → n < length nodes → node ≡ get_or nodes n node → ((path : List ℕ) (i : ℕ) → Measures (lists_from path i (forest (take n nodes))) old) →
+pub measured_next : (nodes : List Node) (n : ℕ) (node : Node) (old new : Front) (a b : Tally) →
+    n < length nodes → node ≡ get_or nodes n node → ((path : List ℕ) (i : ℕ) →
+    Measures (lists_from path i (forest (take n nodes))) old) →
     a.lists ≡ old.lists → a.longest ≡ old.longest → ((path : List ℕ) → Tallies (lists_at path (plain node)) a b) → new.lists ≡ b.lists → new.longest ≡ b.longest →
     (path : List ℕ) (i : ℕ) → Measures (lists_from path i (forest (take (n + 1) nodes))) new
 measured_next nodes n node old new a b h e measured lists longest tallies counted most path i =
@@ -118,17 +128,25 @@ measured_next nodes n node old new a b h e measured lists longest tallies counte
     let here = lists_at (path ++ (i + n) ∷ []) (plain node) in
     let m = measured path i in
     let t = tallies (path ++ (i + n) ∷ []) in
-    let behind : lists_from path (i + length (take n nodes)) (forest (node ∷ [])) ≡ here = append-nil (lists_at (path ++ (i + length (take n nodes)) ∷ []) (plain node)) ∙ ap (λ k. lists_at (path ++ (i + k) ∷ []) (plain node)) (length-cut n nodes (omega arith)) in
+    let behind : lists_from path (i + length (take n nodes)) (forest (node ∷ [])) ≡ here =
+    append-nil (lists_at (path ++ (i + length (take n nodes)) ∷ []) (plain node))
+    ∙ ap (λ k. lists_at (path ++ (i + k) ∷ []) (plain node)) (length-cut n nodes (omega arith)) in
     let whole : lists_from path i (forest (take (n + 1) nodes)) ≡ front ++ here =
-    ap (λ (l : List Node). lists_from path i (forest l)) (take_more nodes n node h ∙ ap (λ (x : Node). take n nodes ++ x ∷ []) (sym e)) ∙ lists_joined path i (take n nodes) (node ∷ []) ∙ ap (λ l. front ++ l) behind in
+    ap (λ (l : List Node). lists_from path i (forest l)) (take_more nodes n node h
+    ∙ ap (λ (x : Node). take n nodes ++ x ∷ []) (sym e)) ∙ lists_joined path i (take n nodes)
+    (node ∷ []) ∙ ap (λ l. front ++ l) behind in
     let all : Measures (front ++ here) new = record {
       counted = let l = length-append front here in let k = m.counted in let j = t.counted in omega arith;
-      narrow = let grows = t.grows in all_joined (HasFewTokens new.longest) front here (few_more old.longest new.longest (omega arith) front m.narrow) (few_more b.longest new.longest (omega arith) here t.narrow);
+      narrow = let grows = t.grows in all_joined (HasFewTokens new.longest) front here
+          (few_more old.longest new.longest (omega arith) front m.narrow)
+          (few_more b.longest new.longest (omega arith) here t.narrow);
     } in
     subst (λ (l : List (Listed Mark)). Measures l new) (sym whole) all
 
 -- a front that is one run
-pub run_taken : (nodes rest front : List Node) (n : ℕ) (m : Front) (a b : Gathering) → 0 < n → n ≤ length nodes → front ≡ take n nodes → rest ≡ drop n nodes → ((path : List ℕ) (i : ℕ) → Measures (lists_from path i (forest (take n nodes))) m) →
+pub run_taken : (nodes rest front : List Node) (n : ℕ) (m : Front) (a b : Gathering) → 0 < n →
+    n ≤ length nodes → front ≡ take n nodes → rest ≡ drop n nodes → ((path : List ℕ) (i : ℕ) →
+    Measures (lists_from path i (forest (take n nodes))) m) →
     ((path : List ℕ) (i : ℕ) → Measures (lists_from path i (forest front)) m → Adds (lists_from path i (forest front)) a b) → b.count ≡ a.count + m.lists → TakesFront nodes rest a b
 run_taken nodes rest front n m a b some within is_front is_rest measured added count = record {
   count = n;
@@ -146,7 +164,9 @@ one_front [] node some e = absurd (omega arith)
 one_front (x ∷ xs) node some e = ap (λ (y : Node). y ∷ []) (sym e)
 
 -- a front that is one node
-pub node_taken : (nodes rest : List Node) (node : Node) (a b : Gathering) → 0 < length nodes → node ≡ get_or nodes 0 node → rest ≡ drop 1 nodes → ((path : List ℕ) → Adds (lists_at path (plain node)) a b) → b.count ≤ a.count + nodes_in (plain node) →
+pub node_taken : (nodes rest : List Node) (node : Node) (a b : Gathering) → 0 < length nodes →
+    node ≡ get_or nodes 0 node → rest ≡ drop 1 nodes → ((path : List ℕ) →
+    Adds (lists_at path (plain node)) a b) → b.count ≤ a.count + nodes_in (plain node) →
     TakesFront nodes rest a b
 node_taken nodes rest node a b some is is_rest added few =
     let front : take 1 nodes ≡ node ∷ [] = one_front nodes node some is in
@@ -156,12 +176,16 @@ node_taken nodes rest node a b some is is_rest added few =
       some = omega arith;
       within = omega arith;
       is_rest = is_rest;
-      adds = λ path i. subst (λ (l : List Node). Adds (lists_from path i (forest l)) a b) (sym front) (adds_both (lists_at (path ++ i ∷ []) (plain node)) [] a b b (added (path ++ i ∷ [])) (adds_none b));
+      adds = λ path i. subst (λ (l : List Node). Adds (lists_from path i (forest l)) a b)
+          (sym front) (adds_both (lists_at (path ++ i ∷ []) (plain node)) [] a b b (added (path
+          ++ i ∷ [])) (adds_none b));
       few = omega arith;
     }
 
 -- the document node's list, and those of the elements after it
-pub whole_gathered : (doc : PlainDoc Mark) (a b c : Gathering) → HasGathered [] a → Adds (record { path = []; owner = the_document; kids = tree doc.root no_trees } ∷ []) a b → Adds (lists_at (0 ∷ []) doc.root ++ []) b c → HasGathered (lists_of doc) c
+pub whole_gathered : (doc : PlainDoc Mark) (a b c : Gathering) → HasGathered [] a →
+    Adds (record { path = []; owner = the_document; kids = tree doc.root no_trees } ∷ []) a b →
+    Adds (lists_at (0 ∷ []) doc.root ++ []) b c → HasGathered (lists_of doc) c
 whole_gathered doc a b c none own below =
     let list : Listed Mark = record { path = []; owner = the_document; kids = tree doc.root no_trees } in
     let all : HasGathered (list ∷ (lists_at (0 ∷ []) doc.root ++ [])) c = below (list ∷ []) (own [] none) in

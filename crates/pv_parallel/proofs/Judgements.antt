@@ -1,5 +1,6 @@
 -- What came of lists, and of jobs, joined.
-use Rattle.std.proofs.Common.{Err, List, Ok, Result, Vec, [], append-nil, append_assoc, ap, arith, drop, get_or, length, length-append, refl, subst, suc, sym, zero, ℕ, ◌%◌, ◌+◌, ◌++◌, ◌<◌, ◌^◌, ◌∙◌, ◌∷◌, ◌≡◌, ◌≢◌, ◌≤◌, ◌⊎◌, ◌-◌, inl, inr}
+use Rattle.std.proofs.Common.{Err, List, Ok, Result, Vec, [], append-nil, append_assoc, ap, arith, drop, get_or, length, length-append, refl, subst}
+use Rattle.std.proofs.Common.{suc, sym, zero, ℕ, ◌%◌, ◌+◌, ◌++◌, ◌<◌, ◌^◌, ◌∙◌, ◌∷◌, ◌≡◌, ◌≢◌, ◌≤◌, ◌⊎◌, ◌-◌, inl, inr}
 use Rattle.std.specs.List.{AllByRecursion, AllZip}
 use Rattle.std.specs.declared.alloc.Global.{Global}
 use Rattle.std.proofs.Math.Nat.{mod-eq_of_lt}
@@ -13,7 +14,7 @@ use Rattle.pv_missing.specs.Verdicts.{AreVerdicts, IsVerdict}
 use Rattle.pv_missing.specs.Widths.{IsListForVerdict}
 use Rattle.pv_reach.specs.declared.errors.ReachError.{ReachError}
 use Rattle.pv_reach.specs.declared.errors.ReachError.TheVariants.{TooWide}
-use Rattle.pv_fresh.proofs.Walking.{verdicts_more}
+use Rattle.pv_fresh.proofs.ListWalks.{verdicts_more}
 use Rattle.pv_parallel.specs.Jobs.{AreJobs, AreJoined, IsRunOf, JudgesBehind, JudgesJob}
 use Rattle.pv_parallel.specs.declared.jobs.Job.{Job}
 
@@ -26,7 +27,8 @@ module _ (g : PlainDtd) (root : List ℕ) (entered : ℕ → Type 0) where
   }
 
   -- one list, whose number was told
-  pub judges_one : (first n : ℕ) (list : Listed Mark) (before after : List Verdict) (v : Verdict) → after ≡ before ++ v ∷ [] → IsVerdict g root list v → n ≡ (first + length before) % 2 ^ 64 → entered n →
+  pub judges_one : (first n : ℕ) (list : Listed Mark) (before after : List Verdict) (v : Verdict) →
+      after ≡ before ++ v ∷ [] → IsVerdict g root list v → n ≡ (first + length before) % 2 ^ 64 → entered n →
       JudgesBehind g root entered first (list ∷ []) before after
   judges_one first n list before after v whole is number told = record {
     verdicts = λ past are. rw whole (verdicts_more g root past before list v are is);
@@ -49,7 +51,8 @@ module _ (g : PlainDtd) (root : List ℕ) (entered : ℕ → Type 0) where
   cases zero (suc n) = inl (omega arith)
   cases (suc k) (suc n) = elim (cases k n) as (λ e. (suc k < suc n) ⊎ (suc n ≤ suc k)) [ inl h ↦ inl (omega arith) | inr h ↦ inr (omega arith) ]
 
-  pub judges_both : (first : ℕ) (xs ys : List (Listed Mark)) (before middle after : List Verdict) → JudgesBehind g root entered first xs before middle → JudgesBehind g root entered first ys middle after →
+  pub judges_both : (first : ℕ) (xs ys : List (Listed Mark)) (before middle after : List Verdict) →
+      JudgesBehind g root entered first xs before middle → JudgesBehind g root entered first ys middle after →
       JudgesBehind g root entered first (xs ++ ys) before after
   judges_both first xs ys before middle after a b = record {
     verdicts = λ past are. rw (sym (append_assoc past xs ys)) (b.verdicts (past ++ xs) (a.verdicts past are));
@@ -66,7 +69,9 @@ module _ (g : PlainDtd) (root : List ℕ) (entered : ℕ → Type 0) where
   behind_none lists vs are [] none = are
   behind_none lists vs are (l ∷ past) none = let e = none.2 in absurd cc
 
-  told_behind : (k m : ℕ) (vs ws : List Verdict) → m ≡ k + length vs → ((i : ℕ) → 0 ≤ i → i < length vs → k + i < 2 ^ 64 → entered (k + i)) → ((i : ℕ) → 0 ≤ i → i < length ws → m + i < 2 ^ 64 → entered (m + i)) →
+  told_behind : (k m : ℕ) (vs ws : List Verdict) → m ≡ k + length vs → ((i : ℕ) → 0 ≤ i →
+      i < length vs → k + i < 2 ^ 64 → entered (k + i)) → ((i : ℕ) → 0 ≤ i → i < length ws →
+      m + i < 2 ^ 64 → entered (m + i)) →
       (i : ℕ) → i < length vs + length ws → k + i < 2 ^ 64 → (i < length vs) ⊎ (length vs ≤ i) → (j : ℕ) → (length vs ≤ i → i ≡ length vs + j) → entered (k + i)
   told_behind k m vs ws e a b i high fits (inl h) j same = a i (omega arith) h fits
   told_behind k m vs ws e a b i high fits (inr h) j same =
@@ -74,7 +79,9 @@ module _ (g : PlainDtd) (root : List ℕ) (entered : ℕ → Type 0) where
       let place : m + j ≡ k + i = omega arith in
       subst entered place (b j (omega arith) (omega arith) (omega arith))
 
-  judges_behind : (k m : ℕ) (xs ys : List (Listed Mark)) (vs ws : List Verdict) → m ≡ k + length xs → JudgesBehind g root entered k xs [] vs → JudgesBehind g root entered m ys [] ws → JudgesBehind g root entered k (xs ++ ys) [] (vs ++ ws)
+  judges_behind : (k m : ℕ) (xs ys : List (Listed Mark)) (vs ws : List Verdict) →
+      m ≡ k + length xs → JudgesBehind g root entered k xs [] vs →
+      JudgesBehind g root entered m ys [] ws → JudgesBehind g root entered k (xs ++ ys) [] (vs ++ ws)
   judges_behind k m xs ys vs ws e a b =
       let n : length vs ≡ length xs = let l = a.as_many in omega arith in
       let both = length-append vs ws in
@@ -85,7 +92,9 @@ module _ (g : PlainDtd) (root : List ℕ) (entered : ℕ → Type 0) where
       }
 
   -- what came of all jobs, where it is verdicts, are those of all lists
-  pub jobs_judged : (k : ℕ) (lists : List (Listed Mark)) (jobs : List Job) (judged : List (Result (Vec Verdict Global) ReachError)) (vs : List Verdict) → AreJobs k lists jobs → AllZip (JudgesJob g root entered) jobs judged → AreJoined judged vs →
+  pub jobs_judged : (k : ℕ) (lists : List (Listed Mark)) (jobs : List Job)
+      (judged : List (Result (Vec Verdict Global) ReachError)) (vs : List Verdict) →
+      AreJobs k lists jobs → AllZip (JudgesJob g root entered) jobs judged → AreJoined judged vs →
       JudgesBehind g root entered k lists [] vs
   jobs_judged k lists [] [] vs a z j = let none : lists ≡ [] = a in let nothing : vs ≡ [] = j in rw (none, nothing) (judges_none k [])
   jobs_judged k lists [] (one ∷ judged) vs a z j = absurd z
@@ -96,12 +105,16 @@ module _ (g : PlainDtd) (root : List ℕ) (entered : ℕ → Type 0) where
       rw (a.2, j.1) (judges_behind k (k + length a.0) a.0 a.1 here.items j.0 refl own others)
   jobs_judged k lists (job ∷ jobs) (Err e ∷ judged) vs a z j = absurd j
 
-  not_wide : (lists : List (Listed Mark)) (job : Job) (one : Result (Vec Verdict Global) ReachError) → IsRunOf lists job.run → JudgesJob g root entered job one → AllByRecursion (IsListForVerdict g) lists → one ≢ Err TooWide
+  not_wide : (lists : List (Listed Mark)) (job : Job) (one : Result (Vec Verdict Global)
+      ReachError) → IsRunOf lists job.run → JudgesJob g root entered job one →
+      AllByRecursion (IsListForVerdict g) lists → one ≢ Err TooWide
   not_wide lists job (Ok vs) run judged fits e = absurd cc
   not_wide lists job (Err error) run judged fits e = let same : error ≡ TooWide = cc in judged.wide same lists run fits
 
   -- none is too wide where none of the lists is
-  pub none_too_wide : (k : ℕ) (lists : List (Listed Mark)) (jobs : List Job) (judged : List (Result (Vec Verdict Global) ReachError)) → AreJobs k lists jobs → AllZip (JudgesJob g root entered) jobs judged → AllByRecursion (IsListForVerdict g) lists →
+  pub none_too_wide : (k : ℕ) (lists : List (Listed Mark)) (jobs : List Job)
+      (judged : List (Result (Vec Verdict Global) ReachError)) → AreJobs k lists jobs →
+      AllZip (JudgesJob g root entered) jobs judged → AllByRecursion (IsListForVerdict g) lists →
       AllByRecursion (λ one. one ≢ Err TooWide) judged
   none_too_wide k lists [] [] a z fits = tt
   none_too_wide k lists [] (one ∷ judged) a z fits = absurd z
@@ -111,8 +124,12 @@ module _ (g : PlainDtd) (root : List ℕ) (entered : ℕ → Type 0) where
       (not_wide a.0 job one a.4 z.0 (all_left (IsListForVerdict g) a.0 a.1 all), none_too_wide (k + length a.0) a.1 jobs judged a.5 z.1 (all_right (IsListForVerdict g) a.0 a.1 all))
 
 -- the verdicts of the job of this number stand after those before
-pub joined_next : (judged : List (Result (Vec Verdict Global) ReachError)) (n : ℕ) (one : Result (Vec Verdict Global) ReachError) (here : Vec Verdict Global) (before after last : List Verdict) → n < length judged → one ≡ get_or judged n one → one ≡ Ok here →
-    after ≡ before ++ here.items → ((rest : List Verdict) → AreJoined (drop n judged) rest → AreJoined judged (before ++ rest)) → AreJoined (drop (n + 1) judged) last → AreJoined judged (after ++ last)
+pub joined_next : (judged : List (Result (Vec Verdict Global) ReachError)) (n : ℕ)
+    (one : Result (Vec Verdict Global) ReachError) (here : Vec Verdict Global)
+    (before after last : List Verdict) → n < length judged → one ≡ get_or judged n one → one ≡ Ok here →
+    after ≡ before ++ here.items → ((rest : List Verdict) → AreJoined (drop n judged) rest →
+    AreJoined judged (before ++ rest)) → AreJoined (drop (n + 1) judged) last →
+    AreJoined judged (after ++ last)
 joined_next judged n one here before after last h e ok new so_far more =
     let whole : drop n judged ≡ Ok here ∷ drop (n + 1) judged = drop_more judged n one h ∙ ap (λ (o : Result (Vec Verdict Global) ReachError). o ∷ drop (n + 1) judged) (sym e ∙ ok) in
     let behind : AreJoined (drop n judged) (here.items ++ last) = subst (λ (l : List (Result (Vec Verdict Global) ReachError)). AreJoined l (here.items ++ last)) (sym whole) (last, refl, more) in
@@ -133,6 +150,8 @@ in_turn_next {A} {B} R jobs n job one before after last h e of new so_far more =
     (sym (ap (λ (l : List B). l ++ last) new ∙ append_assoc before (one ∷ []) last))
     (so_far (one ∷ last) behind)
 
-pub narrow_next : (judged : List (Result (Vec Verdict Global) ReachError)) (n : ℕ) (one : Result (Vec Verdict Global) ReachError) → n < length judged → one ≡ get_or judged n one → AllByRecursion (λ one. one ≢ Err TooWide) (drop n judged) →
+pub narrow_next : (judged : List (Result (Vec Verdict Global) ReachError)) (n : ℕ)
+    (one : Result (Vec Verdict Global) ReachError) → n < length judged → one ≡ get_or judged n one →
+    AllByRecursion (λ one. one ≢ Err TooWide) (drop n judged) →
     AllByRecursion (λ one. one ≢ Err TooWide) (drop (n + 1) judged)
 narrow_next judged n one h e all = (subst (AllByRecursion (λ (o : Result (Vec Verdict Global) ReachError). o ≢ Err TooWide)) (drop_more judged n one h) all).1

@@ -1,5 +1,5 @@
 -- of this crate:
-pub mod Tallying
-pub mod Shared
+pub mod ListTallies
+pub mod SharedJudge
 pub mod JobLists
 pub mod Judgements

@@ -2,10 +2,10 @@
 use Rattle.std.proofs.Common.{◌≡◌, ◌≢◌, ◌⊎◌, inl, inr, ℕ, List, [], ◌∷◌, ◌++◌, codes, false, ◌==◌, Some, None, refl, sym, ap, ◌∙◌, append_assoc, subst}
 use Rattle.pv_chars.specs.Spaces.{is_space}
 use Rattle.pv_chars.specs.Markup.{IsComment, IsInstruction}
-use Rattle.pv_chars.proofs.Scanning.{begins, after_bytes_takes, chosen}
+use Rattle.pv_chars.proofs.TextScans.{begins, after_bytes_takes, chosen}
 use Rattle.pv_params.specs.Items.{TextItem, puts, reference, parameter, declaration}
 use Rattle.pv_params.specs.Spelling.{IsPEReference, IsWhite, IsWord, SpellsBetween, IsConditional, IsExternal}
-use Rattle.pv_chars.proofs.Binding.{bound, same_some}
+use Rattle.pv_chars.proofs.ReaderSteps.{bound, same_some}
 use Rattle.pv_chars.specs.CharReading.{comment_at, instruction_at, quoted_at}
 use Rattle.pv_chars.proofs.CharFacts.{comment_takes, comment_at-append, instruction_takes, instruction_at-append}
 use Rattle.pv_params.specs.ItemReading.{or_else, named_at, reference_at, parameter_named, parameter_given, parameter_at, keyword_at, declaration_at, white_at, between_at, external_word, external_at}
@@ -79,11 +79,16 @@ between_read bytes i rest e =
 
 behind_others : (bytes : List ℕ) (x : TextItem × List ℕ) → NoOther bytes → or_else (declaration_at bytes) (parameter_at bytes) ≡ Some x → between_at bytes ≡ Some x
 unfolding between_at
-behind_others bytes x others e = second_is _ _ x others.white (second_is _ _ x (copied_none bytes _ others.comment) (second_is _ _ x (copied_none bytes _ others.instruction) (second_is _ _ x others.reference e)))
+behind_others bytes x others e = second_is _ _ x others.white (second_is _ _ x
+    (copied_none bytes _ others.comment) (second_is _ _ x (copied_none bytes _ others.instruction)
+    (second_is _ _ x others.reference e)))
 
 none_behind_others : (bytes : List ℕ) → NoOther bytes → declaration_at bytes ≡ None → parameter_at bytes ≡ None → between_at bytes ≡ None
 unfolding between_at
-none_behind_others bytes others d p = neither_is _ _ others.white (neither_is _ _ (copied_none bytes _ others.comment) (neither_is _ _ (copied_none bytes _ others.instruction) (neither_is _ _ others.reference (neither_is _ _ d p))))
+none_behind_others bytes others d p = neither_is _ _ others.white
+    (neither_is _ _ (copied_none bytes _ others.comment)
+    (neither_is _ _ (copied_none bytes _ others.instruction) (neither_is _ _ others.reference
+    (neither_is _ _ d p))))
 
 white_is_read : (text rest : List ℕ) → IsWhite text → between_at (text ++ rest) ≡ Some (puts text, rest)
 unfolding between_at
@@ -101,7 +106,9 @@ instruction_is_read text rest is =
     let more = (is.target ++ (is.behind ++ codes "?>")) ++ rest in
     let white : white_at (text ++ rest) ≡ None = rw is.whole (no_white 60 (63 ∷ more) refl) in
     let comment : comment_at (text ++ rest) ≡ None = rw is.whole (no_comment_question more) in
-    second_is _ _ (puts text, rest) white (second_is _ _ (puts text, rest) (copied_none (text ++ rest) _ comment) (first_is _ _ (puts text, rest) (copied_is text rest _ (instruction_at-append text rest is))))
+    second_is _ _ (puts text, rest) white (second_is _ _ (puts text, rest) (copied_none (text
+    ++ rest) _ comment) (first_is _ _ (puts text, rest) (copied_is text rest _
+    (instruction_at-append text rest is))))
 
 reference_is_read : (name text rest : List ℕ) → IsPEReference name text → between_at (text ++ rest) ≡ Some (reference name, rest)
 unfolding between_at
@@ -110,7 +117,10 @@ reference_is_read name text rest is =
     let white : white_at (text ++ rest) ≡ None = rw is.whole (no_white 37 more refl) in
     let comment : comment_at (text ++ rest) ≡ None = rw is.whole (no_comment_at 37 more refl) in
     let instruction : instruction_at (text ++ rest) ≡ None = rw is.whole (no_instruction_at 37 more refl) in
-    second_is _ _ (reference name, rest) white (second_is _ _ (reference name, rest) (copied_none (text ++ rest) _ comment) (second_is _ _ (reference name, rest) (copied_none (text ++ rest) _ instruction) (first_is _ _ (reference name, rest) (reference_is name text rest is))))
+    second_is _ _ (reference name, rest) white (second_is _ _ (reference name, rest)
+    (copied_none (text ++ rest) _ comment) (second_is _ _ (reference name, rest)
+    (copied_none (text ++ rest) _ instruction) (first_is _ _ (reference name, rest)
+    (reference_is name text rest is))))
 
 between_is_read : (i : TextItem) (text rest : List ℕ) → SpellsBetween i text → between_at (text ++ rest) ≡ Some (i, rest)
 between_is_read (puts result) text rest (same, inl is) = subst (λ r. between_at (text ++ rest) ≡ Some (puts r, rest)) (sym same) (white_is_read text rest is)
@@ -118,9 +128,14 @@ between_is_read (puts result) text rest (same, inr (inl is)) = subst (λ r. betw
 between_is_read (puts result) text rest (same, inr (inr is)) = subst (λ r. between_at (text ++ rest) ≡ Some (puts r, rest)) (sym same) (instruction_is_read text rest is)
 between_is_read (reference name) text rest s = reference_is_read name text rest s
 between_is_read (parameter name given) text rest s =
-    let cut : text ++ rest ≡ codes "<!ENTITY" ++ (s.before ++ (codes "%" ++ (s.after ++ (name ++ (s.behind ++ (s.quoted ++ (s.end ++ (codes ">" ++ rest)))))))) = ap (λ l. l ++ rest) s.whole ∙ regrouped s.before s.after name s.behind s.quoted s.end rest in
+    let cut : text ++ rest ≡ codes "<!ENTITY"
+    ++ (s.before ++ (codes "%"
+    ++ (s.after ++ (name ++ (s.behind ++ (s.quoted ++ (s.end ++ (codes ">" ++ rest)))))))) =
+    ap (λ l. l ++ rest) s.whole ∙ regrouped s.before s.after name s.behind s.quoted s.end rest in
     let others : NoOther (text ++ rest) = subst NoOther (sym cut) (no_other_word (codes "<!ENTITY") _ (inr (inr (inl refl)))) in
-    let other : declaration_at (text ++ rest) ≡ None = ap declaration_at cut ∙ no_declaration s.before s.after (name ++ (s.behind ++ (s.quoted ++ (s.end ++ (codes ">" ++ rest))))) s.space_before s.space_after in
+    let other : declaration_at (text ++ rest) ≡ None = ap declaration_at cut
+    ∙ no_declaration s.before s.after (name
+    ++ (s.behind ++ (s.quoted ++ (s.end ++ (codes ">" ++ rest))))) s.space_before s.space_after in
     behind_others (text ++ rest) (parameter name given, rest) others (second_is _ _ (parameter name given, rest) other (parameter_is name given text rest s))
 between_is_read (declaration word held) text rest s =
     let cut : text ++ rest ≡ word ++ ((held ++ codes ">") ++ rest) = ap (λ l. l ++ rest) s.whole ∙ append_assoc word (held ++ codes ">") rest in
@@ -154,13 +169,17 @@ no_item_in_section rest is =
     let none = no_section_item is.0 in
     rw is.1 (none_behind_others (codes "<![" ++ is.0) (no_other 91 is.0 refl) none.0 none.1)
 
-external_begins : (word more : List ℕ) → (word ≡ codes "SYSTEM") ⊎ (word ≡ codes "PUBLIC") → (begins is_space (word ++ more) ≡ false) × (parameter_given (word ++ more) ≡ None) × (external_word (word ++ more) ≡ Some more)
+external_begins : (word more : List ℕ) → (word ≡ codes "SYSTEM") ⊎ (word ≡ codes "PUBLIC") →
+    (begins is_space (word ++ more) ≡ false) × (parameter_given (word ++ more) ≡ None)
+    × (external_word (word ++ more) ≡ Some more)
 unfolding parameter_given quoted_at external_word or_else
 external_begins word more (inl is) = rw is (refl, refl, refl)
 external_begins word more (inr is) = rw is (refl, refl, refl)
 
 external_named : (rest : List ℕ) (is : IsExternal rest) → parameter_named rest ≡ Some (is.name, is.word ++ is.more)
-external_named rest is = ap parameter_named is.whole ∙ named_is is.before is.after is.name is.behind (is.word ++ is.more) is.space_before is.space_after is.is_name is.space_behind (external_begins is.word is.more is.is_word).0
+external_named rest is = ap parameter_named is.whole ∙ named_is is.before is.after is.name is.behind
+    (is.word ++ is.more) is.space_before is.space_after is.is_name is.space_behind
+    (external_begins is.word is.more is.is_word).0
 
 no_parameter_external : (rest : List ℕ) → IsExternal rest → parameter_at rest ≡ None
 unfolding parameter_at
@@ -169,7 +188,9 @@ no_parameter_external rest is = rw (external_named rest is, (external_begins is.
 pub no_item_in_external : (rest : List ℕ) → IsExternal rest → between_at rest ≡ None
 no_item_in_external rest is =
     let others : NoOther rest = subst NoOther (sym is.whole) (no_other_word (codes "<!ENTITY") _ (inr (inr (inl refl)))) in
-    none_behind_others rest others (ap declaration_at is.whole ∙ no_declaration is.before is.after (is.name ++ (is.behind ++ (is.word ++ is.more))) is.space_before is.space_after) (no_parameter_external rest is)
+    none_behind_others rest others (ap declaration_at is.whole ∙ no_declaration is.before is.after
+    (is.name ++ (is.behind ++ (is.word ++ is.more))) is.space_before is.space_after)
+    (no_parameter_external rest is)
 
 pub external_is_read : (rest : List ℕ) (is : IsExternal rest) → external_at rest ≡ Some is.more
 unfolding external_at

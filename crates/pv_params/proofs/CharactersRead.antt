@@ -52,7 +52,9 @@ module _ (base : ℕ) (front bytes start end : List ℕ) (value : ℕ) (e : afte
   unfolding character_at ended_by
   no_semicolon none = rw (e, digits_are, none) (neither (not (is_nothing t.digits) && is_char (number base t.digits)))
 
-  pub is_character : (rest : List ℕ) → (length end ≡ length start → ⊥) → is_char value ≡ true → after_bytes (codes ";") end ≡ Some rest → character_at base front bytes ≡ Some (puts (encode_utf8 value), rest)
+  pub is_character : (rest : List ℕ) → (length end ≡ length start → ⊥) → is_char value ≡ true →
+      after_bytes (codes ";") end ≡ Some rest → character_at base front bytes
+      ≡ Some (puts (encode_utf8 value), rest)
   unfolding character_at ended_by
   is_character rest some char found =
       let test : is_char (number base t.digits) ≡ true = same_test ∙ char in

@@ -9,17 +9,19 @@ use Rattle.pv_chars.specs.Names.{IsName}
 use Rattle.pv_chars.specs.Fronts.{Begins}
 use Rattle.pv_chars.specs.Declarations.{IsQuoted, BeginsNoQuoted}
 use Rattle.pv_chars.specs.Scan.{after_space, after_blank, after_bytes}
-use Rattle.pv_chars.proofs.Scanning.{begins, after_bytes_takes, after_space_takes, after_space-append, after_blank_takes, after_blank-append, chosen}
+use Rattle.pv_chars.proofs.TextScans.{begins, after_bytes_takes, after_space_takes, after_space-append, after_blank_takes, after_blank-append, chosen}
 use Rattle.pv_chars.proofs.Beginnings.{HasNoSpace, no_space, begins_in_space}
 use Rattle.pv_params.specs.Items.{TextItem, puts, parameter, declaration}
 use Rattle.pv_params.specs.Spelling.{SpellsInside, SpellsValue, AreItems, nothing, item, IsInside, IsEntityValue, IsPEDecl, IsWord, IsDeclaration, SpellsBetween}
 use Rattle.pv_chars.specs.Declarations.{is_one_of}
-use Rattle.pv_chars.proofs.Binding.{bound, same_some}
+use Rattle.pv_chars.proofs.ReaderSteps.{bound, same_some}
 use Rattle.pv_chars.specs.CharReading.{name_at, quoted_at, is_chars}
 use Rattle.pv_chars.proofs.CharFacts.{chars_are, are_chars}
 use Rattle.pv_chars.proofs.NameBytes.{is_name_byte, names_have_no_space, name_at_takes, name_at-append, name_begins}
 use Rattle.pv_chars.proofs.TextDeclarations.{tells_quoted}
-use Rattle.pv_params.specs.ItemReading.{or_else, behind_items, front_of, copy_up_to, byte_at, named_at, reference_at, literal_at, inside_at, are_items, is_inside, is_value, parameter_named, parameter_given, parameter_at, with_word, keyword_at, held_by, held_at, declaration_at}
+use Rattle.pv_params.specs.ItemReading.{or_else, behind_items, front_of, copy_up_to, byte_at, named_at, reference_at, literal_at, inside_at}
+use Rattle.pv_params.specs.ItemReading.{are_items, is_inside, is_value, parameter_named, parameter_given, parameter_at, with_word, keyword_at}
+use Rattle.pv_params.specs.ItemReading.{held_by, held_at, declaration_at}
 use Rattle.pv_params.proofs.Runs.{Front, front_is, run_takes, run_is, items_are, are_items_read}
 use Rattle.pv_params.proofs.ItemsRead.{either, inside_reads}
 use Rattle.pv_chars.proofs.TextDeclarations.{quoted_is}
@@ -85,8 +87,18 @@ held_takes bytes x e =
     let c = chosen (begins is_space held && is_chars held) _ x e in
     let two = and_parts (begins is_space held) (is_chars held) c.0 in
     let b = bound (after_bytes (codes ">") end) _ x c.1 in
-    let text : bytes ≡ (held ++ codes ">") ++ b.value = takes.whole ∙ ap (λ l. l ++ end) (sym held_is) ∙ ap (λ l. held ++ l) (after_bytes_takes (codes ">") end b.value b.first) ∙ sym (append_assoc held (codes ">") b.value) in
-    subst (Holds bytes) (same_some _ _ b.others) record { white = two.0; is_inside = record { are_chars = chars_are held two.1; are_items = subst (AreItems SpellsInside) (sym held_is) takes.are_items }; whole = text }
+    let text : bytes ≡ (held ++ codes ">") ++ b.value = takes.whole
+    ∙ ap (λ l. l ++ end) (sym held_is) ∙ ap (λ l. held ++ l) (after_bytes_takes (codes ">") end
+    b.value b.first) ∙ sym (append_assoc held (codes ">") b.value) in
+    subst (Holds bytes) (same_some _ _ b.others)
+    record {
+      white = two.0;
+      is_inside = record {
+        are_chars = chars_are held two.1;
+        are_items = subst (AreItems SpellsInside) (sym held_is) takes.are_items;
+      };
+      whole = text;
+    }
 
 no_inside_end : (rest : List ℕ) → inside_at (62 ∷ rest) ≡ None
 unfolding inside_at byte_at or_else copy_up_to literal_at quoted_at reference_at named_at
@@ -148,7 +160,10 @@ named_read bytes x e =
     let behind_name : word.value.1 ≡ c.space ++ end.value = c.whole in
     let at_start : start.value ≡ word.value.0 ++ (c.space ++ end.value) = n.whole ∙ ap (λ l. word.value.0 ++ l) behind_name in
     let at_after : after.value ≡ b.space ++ (word.value.0 ++ (c.space ++ end.value)) = b.whole ∙ ap (λ l. b.space ++ l) at_start in
-    let at_percent : percent.value ≡ codes "%" ++ (b.space ++ (word.value.0 ++ (c.space ++ end.value))) = after_bytes_takes (codes "%") percent.value after.value after.first ∙ ap (λ l. codes "%" ++ l) at_after in
+    let at_percent : percent.value ≡ codes "%"
+    ++ (b.space ++ (word.value.0 ++ (c.space ++ end.value))) =
+    after_bytes_takes (codes "%") percent.value after.value after.first ∙ ap (λ l. codes "%"
+    ++ l) at_after in
     let at_blank : blank.value ≡ a.space ++ (codes "%" ++ (b.space ++ (word.value.0 ++ (c.space ++ end.value)))) = a.whole ∙ ap (λ l. a.space ++ l) at_percent in
     subst P (same_some _ _ end.others) record {
       before = a.space;
@@ -204,7 +219,11 @@ given_is : (given quoted end rest : List ℕ) → IsQuoted given quoted → IsEn
 unfolding parameter_given
 given_is given quoted end rest q is space = rw (quoted_is given quoted (end ++ (codes ">" ++ rest)) q, after_space-append end (codes ">" ++ rest) space refl, is_value_read given is) refl
 
-pub regrouped : (before after name behind quoted end rest : List ℕ) → (codes "<!ENTITY" ++ (before ++ (codes "%" ++ (after ++ (name ++ (behind ++ (quoted ++ (end ++ codes ">")))))))) ++ rest ≡ codes "<!ENTITY" ++ (before ++ (codes "%" ++ (after ++ (name ++ (behind ++ (quoted ++ (end ++ (codes ">" ++ rest))))))))
+pub regrouped : (before after name behind quoted end rest : List ℕ) →
+    (codes "<!ENTITY" ++ (before
+    ++ (codes "%" ++ (after ++ (name ++ (behind ++ (quoted ++ (end ++ codes ">"))))))))
+    ++ rest ≡ codes "<!ENTITY"
+    ++ (before ++ (codes "%" ++ (after ++ (name ++ (behind ++ (quoted ++ (end ++ (codes ">" ++ rest))))))))
 regrouped before after name behind quoted end rest = simp append_assoc refl
 
 pub parameter_read : (bytes : List ℕ) (x : TextItem × List ℕ) → parameter_at bytes ≡ Some x → Front SpellsBetween bytes x.0 x.1
@@ -217,8 +236,25 @@ parameter_read bytes x e =
     let P : TextItem × List ℕ → Type 0 = λ y. Front SpellsBetween bytes y.0 y.1 in
     subst P (same_some _ _ given.others) record {
       text = codes "<!ENTITY" ++ (n.before ++ (codes "%" ++ (n.after ++ (named.value.0 ++ (n.behind ++ (g.quoted ++ (g.end ++ codes ">")))))));
-      spelled = record { before = n.before; after = n.after; behind = n.behind; quoted = g.quoted; end = g.end; space_before = n.space_before; space_after = n.space_after; is_name = n.is_name; space_behind = n.space_behind; is_quoted = g.is_quoted; is_value = g.is_value; space_at_end = g.space_at_end; whole = refl };
-      whole = n.whole ∙ ap (λ l. codes "<!ENTITY" ++ (n.before ++ (codes "%" ++ (n.after ++ (named.value.0 ++ (n.behind ++ l)))))) g.whole ∙ sym (regrouped n.before n.after named.value.0 n.behind g.quoted g.end given.value.1);
+      spelled = record {
+        before = n.before;
+        after = n.after;
+        behind = n.behind;
+        quoted = g.quoted;
+        end = g.end;
+        space_before = n.space_before;
+        space_after = n.space_after;
+        is_name =
+            n.is_name;
+        space_behind = n.space_behind;
+        is_quoted = g.is_quoted;
+        is_value = g.is_value;
+        space_at_end = g.space_at_end;
+        whole = refl;
+      };
+      whole = n.whole ∙ ap (λ l. codes "<!ENTITY"
+          ++ (n.before ++ (codes "%" ++ (n.after ++ (named.value.0 ++ (n.behind ++ l)))))) g.whole
+          ∙ sym (regrouped n.before n.after named.value.0 n.behind g.quoted g.end given.value.1);
     }
 
 quote_not_white : (quote : ℕ) (double single : Bool) → (quote == 34) ≡ double → (quote == 39) ≡ single → (double || single) ≡ true → is_space quote ≡ false
@@ -233,7 +269,8 @@ pub parameter_is : (name given text rest : List ℕ) → IsPEDecl name given tex
 unfolding parameter_at
 parameter_is name given text rest s =
     let cut = ap (λ l. l ++ rest) s.whole ∙ regrouped s.before s.after name s.behind s.quoted s.end rest in
-    let named = named_is s.before s.after name s.behind (s.quoted ++ (s.end ++ (codes ">" ++ rest))) s.space_before s.space_after s.is_name s.space_behind (quoted_begins given s.quoted _ s.is_quoted) in
+    let named = named_is s.before s.after name s.behind (s.quoted ++ (s.end ++ (codes ">" ++ rest)))
+    s.space_before s.space_after s.is_name s.space_behind (quoted_begins given s.quoted _ s.is_quoted) in
     rw (cut, named, given_is given s.quoted s.end rest s.is_quoted s.is_value s.space_at_end) refl
 
 -- ---- no other declaration goes on with '%' and white space
@@ -270,7 +307,9 @@ no_held : (before after rest : List ℕ) → IsSpace before → IsSpace after �
 unfolding held_at held_by
 no_held before after rest a b =
     let end = run_is SpellsInside inside_at inside_reads before (codes "%" ++ (after ++ rest)) (white_inside before a.space) (no_inside_percent after rest b) in
-    rw end (neither (begins is_space (front_of (before ++ (codes "%" ++ (after ++ rest))) (codes "%" ++ (after ++ rest))) && is_chars (front_of (before ++ (codes "%" ++ (after ++ rest))) (codes "%" ++ (after ++ rest)))))
+    rw end (neither (begins is_space (front_of (before ++ (codes "%" ++ (after ++ rest))) (codes "%"
+    ++ (after ++ rest))) && is_chars (front_of (before ++ (codes "%" ++ (after ++ rest)))
+    (codes "%" ++ (after ++ rest)))))
 
 pub no_declaration : (before after rest : List ℕ) → IsSpace before → IsSpace after → declaration_at (codes "<!ENTITY" ++ (before ++ (codes "%" ++ (after ++ rest)))) ≡ None
 unfolding declaration_at

@@ -25,24 +25,33 @@ pub text_of-entries : (name : List ℕ) (entries : List Entry) → items_in (loo
 text_of-entries name [] = refl
 text_of-entries name (e ∷ es) = text_by (bytes_eq name e.0.items) e.1 (lookup (λ (k : Vec ℕ Global). bytes_eq name k.items) es) (text_of name (map entity_of es)) (text_of-entries name es)
 
-pub text_found : (name : List ℕ) (entries : List Entry) (text : Vec ℕ Global) → Some text ≡ lookup (λ (k : Vec ℕ Global). bytes_eq name k.items) entries → Some text.items ≡ text_of name (map entity_of entries)
+pub text_found : (name : List ℕ) (entries : List Entry) (text : Vec ℕ Global) →
+    Some text ≡ lookup (λ (k : Vec ℕ Global). bytes_eq name k.items) entries →
+    Some text.items ≡ text_of name (map entity_of entries)
 text_found name entries text is = ap items_in is ∙ text_of-entries name entries
 
 pub no_text_found : (name : List ℕ) (entries : List Entry) → None ≡ lookup (λ (k : Vec ℕ Global). bytes_eq name k.items) entries → None ≡ text_of name (map entity_of entries)
 no_text_found name entries is = ap items_in is ∙ text_of-entries name entries
 
 inserted_by : (b : Bool) (e : Entry) (name text : Vec ℕ Global) (es others : List Entry) (later : Option (List ℕ)) → cond b (Some e.1.items) later ≡ None →
-    (later ≡ None → map entity_of others ≡ map entity_of es ++ entity_of (name, text) ∷ []) → map entity_of (cond b ((e.0, text) ∷ es) (e ∷ others)) ≡ map entity_of (e ∷ es) ++ entity_of (name, text) ∷ []
+    (later ≡ None → map entity_of others ≡ map entity_of es ++ entity_of (name, text) ∷ []) →
+    map entity_of (cond b ((e.0, text) ∷ es) (e ∷ others)) ≡ map entity_of (e ∷ es)
+    ++ entity_of (name, text) ∷ []
 inserted_by true e name text es others later none f = cc
 inserted_by false e name text es others later none f = ap (λ l. entity_of e ∷ l) (f none)
 
 -- a name that has no text goes last
-inserted : (entries : List Entry) (name text : Vec ℕ Global) → text_of name.items (map entity_of entries) ≡ None → map entity_of (insert_entry same_name entries name text) ≡ map entity_of entries ++ entity_of (name, text) ∷ []
+inserted : (entries : List Entry) (name text : Vec ℕ Global) →
+    text_of name.items (map entity_of entries) ≡ None →
+    map entity_of (insert_entry same_name entries name text) ≡ map entity_of entries
+    ++ entity_of (name, text) ∷ []
 inserted [] name text none = refl
 inserted (e ∷ es) name text none = inserted_by (same_name name e.0) e name text es (insert_entry same_name es name text) (text_of name.items (map entity_of es)) none (inserted es name text)
 
 -- a name that has a text keeps it, and a new one goes last
-pub entity_kept : (entries after : List Entry) (name text : Vec ℕ Global) (x : List ℕ) (es : List Entity) → map entity_of entries ≡ es → x ≡ name.items → None ≡ text_of x es → after ≡ insert_entry same_name entries name text →
+pub entity_kept : (entries after : List Entry) (name text : Vec ℕ Global) (x : List ℕ)
+    (es : List Entity) → map entity_of entries ≡ es → x ≡ name.items → None ≡ text_of x es →
+    after ≡ insert_entry same_name entries name text →
     map entity_of after ≡ with_entity name.items text.items es
 entity_kept entries after name text x es seen same none is =
     let there : text_of name.items es ≡ None = sym (none ∙ ap (λ n. text_of n es) same) in

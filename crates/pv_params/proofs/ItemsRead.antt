@@ -6,11 +6,11 @@ use Rattle.pv_chars.specs.Names.{IsName}
 use Rattle.pv_chars.specs.Fronts.{Begins}
 use Rattle.pv_chars.specs.Declarations.{is_quote, IsQuoted, BeginsNoQuoted}
 use Rattle.pv_chars.specs.Scan.{after_bytes}
-use Rattle.pv_chars.proofs.Scanning.{after_bytes_takes, after_bytes-append}
+use Rattle.pv_chars.proofs.TextScans.{after_bytes_takes, after_bytes-append}
 use Rattle.pv_params.specs.Items.{TextItem, puts, reference, parameter, declaration}
 use Rattle.pv_params.specs.Spelling.{IsPEReference, IsByteBut, IsQuotedLiteral, SpellsInside}
 use Rattle.pv_chars.specs.Declarations.{is_one_of}
-use Rattle.pv_chars.proofs.Binding.{bound, same_some}
+use Rattle.pv_chars.proofs.ReaderSteps.{bound, same_some}
 use Rattle.pv_chars.specs.CharReading.{name_at, quoted_at}
 use Rattle.pv_chars.proofs.NameBytes.{name_at_takes, name_at-append}
 use Rattle.pv_chars.proofs.TextDeclarations.{tells_quoted, quoted_is}
@@ -77,9 +77,18 @@ byte_read others (b ∷ bs) x e = by (is_one_of others b) refl e
   where
     by : (one : Bool) → is_one_of others b ≡ one → cond one None (Some (puts (b ∷ []), bs)) ≡ Some x → TakesByte others (b ∷ bs) x
     by true is f = cc
-    by false is f = let same = same_some _ _ f in record { byte = b; is_other = is; whole = ap (λ l. b ∷ l) (ap (λ (y : TextItem × List ℕ). y.1) same); is = sym (ap (λ (y : TextItem × List ℕ). y.0) same) }
+    by false is f = let same = same_some _ _ f in
+        record {
+          byte = b;
+          is_other = is;
+          whole = ap (λ l. b ∷ l)
+              (ap (λ (y : TextItem × List ℕ). y.1) same);
+          is = sym (ap (λ (y : TextItem × List ℕ). y.0) same);
+        }
 
-pub front_byte : (Spells : TextItem → List ℕ → Type 0) (others bytes : List ℕ) (x : TextItem × List ℕ) → ((text : List ℕ) → IsByteBut others text → Spells (puts text) text) → byte_at others bytes ≡ Some x → Front Spells bytes x.0 x.1
+pub front_byte : (Spells : TextItem → List ℕ → Type 0) (others bytes : List ℕ) (x : TextItem
+    × List ℕ) → ((text : List ℕ) → IsByteBut others text → Spells (puts text) text) →
+    byte_at others bytes ≡ Some x → Front Spells bytes x.0 x.1
 front_byte Spells others bytes x spells e =
     let t = byte_read others bytes x e in
     subst (λ i. Front Spells bytes i x.1) (sym t.is) record { text = t.byte ∷ []; spelled = spells (t.byte ∷ []) record { byte = t.byte; is_other = t.is_other; whole = refl }; whole = t.whole }
@@ -106,7 +115,9 @@ named_read byte bytes name rest e =
     let named = name_at_takes start.value word.value.0 word.value.1 word.first in
     let pair = same_some _ _ end.others in
     let whole : bytes ≡ (byte ∷ (word.value.0 ++ codes ";")) ++ end.value =
-    after_bytes_takes (byte ∷ []) bytes start.value start.first ∙ ap (λ l. byte ∷ l) (named.whole ∙ ap (λ l. word.value.0 ++ l) (after_bytes_takes (codes ";") word.value.1 end.value end.first) ∙ sym (append_assoc word.value.0 (codes ";") end.value)) in
+    after_bytes_takes (byte ∷ []) bytes start.value start.first ∙ ap (λ l. byte ∷ l) (named.whole
+    ∙ ap (λ l. word.value.0 ++ l) (after_bytes_takes (codes ";") word.value.1 end.value
+    end.first) ∙ sym (append_assoc word.value.0 (codes ";") end.value)) in
     let P : List ℕ × List ℕ → Type 0 = λ p. Named byte bytes p.0 p.1 in
     subst P pair record { is_name = named.is_name; whole = whole }
 
@@ -114,7 +125,9 @@ pub named_is : (byte : ℕ) (name rest : List ℕ) → IsName name → named_at 
 unfolding named_at
 named_is byte name rest is =
     let named = name_at-append name (codes ";" ++ rest) is refl in
-    let front : after_bytes (byte ∷ []) ((byte ∷ (name ++ codes ";")) ++ rest) ≡ Some (name ++ (codes ";" ++ rest)) = after_bytes-append (byte ∷ []) ((name ++ codes ";") ++ rest) ∙ ap Some (append_assoc name (codes ";") rest) in
+    let front : after_bytes (byte ∷ []) ((byte ∷ (name ++ codes ";")) ++ rest) ≡ Some (name
+    ++ (codes ";" ++ rest)) = after_bytes-append (byte ∷ []) ((name ++ codes ";") ++ rest)
+    ∙ ap Some (append_assoc name (codes ";") rest) in
     rw (front, named) refl
 
 -- ---- references
@@ -125,10 +138,18 @@ reference_read bytes x e =
     let pair = same_some _ _ b.others in
     (b.value.0, sym (ap (λ (y : TextItem × List ℕ). y.0) pair), subst (λ l. Named 37 bytes b.value.0 l) (ap (λ (y : TextItem × List ℕ). y.1) pair) (named_read 37 bytes b.value.0 b.value.1 b.first))
 
-pub front_reference : (Spells : TextItem → List ℕ → Type 0) (bytes : List ℕ) (x : TextItem × List ℕ) → ((name text : List ℕ) → IsPEReference name text → Spells (reference name) text) → reference_at bytes ≡ Some x → Front Spells bytes x.0 x.1
+pub front_reference : (Spells : TextItem → List ℕ → Type 0) (bytes : List ℕ) (x : TextItem
+    × List ℕ) → ((name text : List ℕ) → IsPEReference name text → Spells (reference name) text) →
+    reference_at bytes ≡ Some x → Front Spells bytes x.0 x.1
 front_reference Spells bytes x spells e =
     let r = reference_read bytes x e in
-    subst (λ i. Front Spells bytes i x.1) (sym r.1) record { text = codes "%" ++ (r.0 ++ codes ";"); spelled = spells r.0 (codes "%" ++ (r.0 ++ codes ";")) record { is_name = r.2.is_name; whole = refl }; whole = r.2.whole }
+    subst (λ i. Front Spells bytes i x.1)
+    (sym r.1) record {
+      text = codes "%" ++ (r.0 ++ codes ";");
+      spelled = spells r.0 (codes "%"
+          ++ (r.0 ++ codes ";")) record { is_name = r.2.is_name; whole = refl };
+      whole = r.2.whole;
+    }
 
 pub reference_is : (name text rest : List ℕ) → IsPEReference name text → reference_at (text ++ rest) ≡ Some (reference name, rest)
 unfolding reference_at
@@ -154,7 +175,9 @@ quotes_excluded quote false true d s e = let is = (Decides-eqb quote 39).0 s in 
 quotes_excluded quote false false d s e = cc
 
 no_byte_in_literal : (text rest : List ℕ) → IsQuotedLiteral text → byte_at (codes "<>%'\"") (text ++ rest) ≡ None
-no_byte_in_literal text rest is = let q = is.1 in rw q.whole (no_byte (codes "<>%'\"") ((is.0 ++ q.quote ∷ []) ++ rest) q.quote (quotes_excluded q.quote (q.quote == 34) (q.quote == 39) refl refl q.is_quote))
+no_byte_in_literal text rest is = let q = is.1 in
+    rw q.whole (no_byte (codes "<>%'\"") ((is.0 ++ q.quote ∷ []) ++ rest) q.quote
+    (quotes_excluded q.quote (q.quote == 34) (q.quote == 39) refl refl q.is_quote))
 
 -- ---- mode Inside
 pub inside_read : (bytes : List ℕ) (i : TextItem) (rest : List ℕ) → inside_at bytes ≡ Some (i, rest) → Front SpellsInside bytes i rest
@@ -172,7 +195,9 @@ no_literal byte rest is = rw is refl
 pub inside_is_read : (i : TextItem) (text rest : List ℕ) → SpellsInside i text → inside_at (text ++ rest) ≡ Some (i, rest)
 unfolding inside_at
 inside_is_read (puts result) text rest (same, inl is) = subst (λ r. inside_at (text ++ rest) ≡ Some (puts r, rest)) (sym same) (first_is _ _ (puts text, rest) (byte_is (codes "<>%'\"") text rest is))
-inside_is_read (puts result) text rest (same, inr is) = subst (λ r. inside_at (text ++ rest) ≡ Some (puts r, rest)) (sym same) (second_is _ _ (puts text, rest) (no_byte_in_literal text rest is) (first_is _ _ (puts text, rest) (copied_is text rest _ (literal_is text rest is))))
+inside_is_read (puts result) text rest (same, inr is) = subst (λ r. inside_at (text ++ rest)
+    ≡ Some (puts r, rest)) (sym same) (second_is _ _ (puts text, rest) (no_byte_in_literal text rest
+    is) (first_is _ _ (puts text, rest) (copied_is text rest _ (literal_is text rest is))))
 inside_is_read (reference name) text rest s =
     let byte : byte_at (codes "<>%'\"") (text ++ rest) ≡ None = rw s.whole (no_byte (codes "<>%'\"") ((name ++ codes ";") ++ rest) 37 refl) in
     let quoted : literal_at (text ++ rest) ≡ None = rw s.whole (no_literal 37 ((name ++ codes ";") ++ rest) refl) in

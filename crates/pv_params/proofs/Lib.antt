@@ -12,5 +12,5 @@ pub mod Stacks
 pub mod EntitiesKept
 pub mod PlainRuns
 pub mod Steps
-pub mod Telling
-pub mod Unchanged
+pub mod ExpansionAnswers
+pub mod PlainFiles

@@ -5,9 +5,12 @@ use Rattle.pv_chars.proofs.DeclarationLemmas.{one_text_decl}
 use Rattle.pv_params.specs.Items.{Mode, file, between, inside, value, TextItem, puts, reference, parameter, declaration}
 use Rattle.pv_params.specs.Spelling.{Spells, StandsAt, IsInside, IsConditional, IsExternal, IsBehindTextDecl, HasHead}
 use Rattle.pv_chars.proofs.ByteOrderMarkLemmas.{same_byte_order_mark}
-use Rattle.pv_params.specs.Meaning.{Fault, SoFar, text_of, RefusesReference, no_entity, being_read, past_limit, not_inside, Enters, Within, Opens, of_reference, of_parameter, of_declaration, Outcome, gives, meets, IsBetween, IsOfEntity, Stops, ends, refused, of_section, of_external, no_item, unread, Reads, stops, copies, meets_within, goes_on, Expansion, expansion_of, Expands}
+use Rattle.pv_params.specs.Meaning.{Fault, SoFar, text_of, RefusesReference, no_entity, being_read, past_limit, not_inside, Enters, Within, Opens}
+use Rattle.pv_params.specs.Meaning.{of_reference, of_parameter, of_declaration, Outcome, gives, meets, IsBetween, IsOfEntity, Stops, ends, refused}
+use Rattle.pv_params.specs.Meaning.{of_section, of_external, no_item, unread, Reads, stops, copies, meets_within, goes_on, Expansion, expansion_of}
+use Rattle.pv_params.specs.Meaning.{Expands}
 use Rattle.pv_params.specs.Meaning.{put, finish, blank_before, behind_head}
-use Rattle.pv_chars.proofs.Binding.{same_some}
+use Rattle.pv_chars.proofs.ReaderSteps.{same_some}
 use Rattle.pv_params.specs.ItemReading.{item_at}
 use Rattle.pv_params.proofs.Runs.{Front, same_item}
 use Rattle.pv_params.proofs.Runs.{Reads as IsReader}
@@ -92,7 +95,9 @@ no_refusal (being_read t e) n = let is = n.not_read in cc
 no_refusal (past_limit t r e) n = let same = same_some _ _ (sym t ∙ n.is_text) in let is = n.within in let past = rw same at e in cc
 no_refusal (not_inside t r l m no_form) n = let same = same_some _ _ (sym t ∙ n.is_text) in no_form (subst IsInside (sym same) (n.judged m))
 
-same_refusal : {mode : Mode} {reading : List (List ℕ)} {before : SoFar} {name : List ℕ} {f g : Fault} → RefusesReference mode reading before name f → RefusesReference mode reading before name g → f ≡ g
+same_refusal : {mode : Mode} {reading : List (List ℕ)} {before : SoFar} {name : List ℕ} {f
+    g : Fault} → RefusesReference mode reading before name f →
+    RefusesReference mode reading before name g → f ≡ g
 same_refusal (no_entity e) (no_entity f) = refl
 same_refusal (no_entity e) (being_read u f) = cc
 same_refusal (no_entity e) (past_limit {text = y} u q f) = cc
@@ -122,7 +127,9 @@ same_stop (ends e) (of_external c y) = absurd (end_external e y)
 same_stop (ends e) (no_item k h) = absurd (h.some e)
 same_stop (ends e) (unread l h) = absurd (h.some e)
 same_stop (refused s r) (ends f) = absurd (end_item f s)
-same_stop {mode} {reading} {before} (refused {name = x} {fault = f} s r) (refused {name = y} t q) = let e : x ≡ y = same_name (same_standing s t).0 in ap meets (same_refusal (subst (λ n. RefusesReference mode reading before n f) e r) q)
+same_stop {mode} {reading} {before} (refused {name = x} {fault = f} s r) (refused {name = y} t q) =
+    let e : x ≡ y = same_name (same_standing s t).0 in
+    ap meets (same_refusal (subst (λ n. RefusesReference mode reading before n f) e r) q)
 same_stop (refused s r) (of_section c t) = absurd (section_item c t s)
 same_stop (refused s r) (of_external c y) = absurd (external_item c y s)
 same_stop (refused s r) (no_item k h) = absurd (h.no_item _ _ s)
@@ -150,7 +157,9 @@ same_stop (unread m g) (refused t q) = absurd (g.no_item _ _ t)
 same_stop (unread m g) (of_section c t) = absurd (g.not_conditional c t)
 same_stop (unread m g) (of_external c y) = absurd (g.not_external c y)
 same_stop (unread m g) (no_item k h) = absurd (file_entity k m)
-same_stop {mode} {reading} {before} {rest} (unread {after_parameter = x} m g) (unread {after_parameter = y} l h) = let e : x ≡ y = same_file (sym m ∙ l) in ap (λ z. gives (put (blank_before z ++ rest) before)) e
+same_stop {mode} {reading} {before} {rest} (unread {after_parameter = x} m g)
+    (unread {after_parameter = y} l h) = let e : x ≡ y = same_file (sym m ∙ l) in
+    ap (λ z. gives (put (blank_before z ++ rest) before)) e
 
 -- ---- items and ends
 stop_copies : {mode : Mode} {reading : List (List ℕ)} {before : SoFar} {rest bytes more : List ℕ} {o : Outcome} → Stops mode reading before rest o → StandsAt mode rest (puts bytes) more → ⊥
@@ -170,7 +179,15 @@ record Opened (mode : Mode) (reading : List (List ℕ)) (before : SoFar) (rest :
   entered : (name : List ℕ) → item ≡ reference name → (text : List ℕ) × Enters mode reading before name text
 
 opened : {mode : Mode} {reading : List (List ℕ)} {before : SoFar} {rest : List ℕ} {w : Within} → Opens mode reading before rest w → Opened mode reading before rest
-opened {mode} {reading} {before} (of_reference {name} {text} {more} s n) = record { item = reference name; more = more; stands = s; not_put = λ bytes e. cc; entered = λ other e. let same : name ≡ other = same_name e in (text, subst (λ x. Enters mode reading before x text) same n) }
+opened {mode} {reading} {before} (of_reference {name} {text} {more} s n) =
+    record {
+      item = reference name;
+      more = more;
+      stands = s;
+      not_put = λ bytes e. cc;
+      entered = λ other e. let same : name ≡ other = same_name e in
+          (text, subst (λ x. Enters mode reading before x text) same n);
+    }
 opened (of_parameter {name} {text} {more} s) = record { item = parameter name text; more = more; stands = s; not_put = λ bytes e. cc; entered = λ other e. cc }
 opened (of_declaration {word} {text} {more} s) = record { item = declaration word text; more = more; stands = s; not_put = λ bytes e. cc; entered = λ other e. cc }
 

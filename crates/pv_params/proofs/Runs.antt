@@ -63,7 +63,14 @@ module _ (Spells : TextItem → List ℕ → Type 0) (at : ItemReader) (reads : 
   behind_takes steps bytes (Some x) e few below =
       let f = reads.read bytes x.0 x.1 e in
       let others = below x.1 (omega (arith, shorter bytes x.0 x.1 f)) in
-      record { front = f.text ++ others.front; are_items = item x.0 f.text others.front f.spelled others.are_items refl; whole = f.whole ∙ ap (λ l. f.text ++ l) others.whole ∙ sym (append_assoc f.text others.front (behind_items at steps x.1)); ends = others.ends }
+      record {
+        front = f.text ++ others.front;
+        are_items = item x.0 f.text others.front f.spelled
+            others.are_items refl;
+        whole = f.whole ∙ ap (λ l. f.text ++ l) others.whole
+            ∙ sym (append_assoc f.text others.front (behind_items at steps x.1));
+        ends = others.ends;
+      }
 
   pub run_takes : (steps : ℕ) (bytes : List ℕ) → length bytes < suc steps → TakesItems Spells at bytes (behind_items at steps bytes)
   unfolding behind_items
@@ -71,7 +78,9 @@ module _ (Spells : TextItem → List ℕ → Type 0) (at : ItemReader) (reads : 
   run_takes zero (b ∷ bs) few = absurd (omega arith)
   run_takes (suc steps) bytes few = behind_takes steps bytes (at bytes) refl few (run_takes steps)
 
-  pub same_run : {front other : List ℕ} (rest more : List ℕ) → AreItems Spells front → at rest ≡ None → AreItems Spells other → at more ≡ None → front ++ rest ≡ other ++ more → (front ≡ other) × (rest ≡ more)
+  pub same_run : {front other : List ℕ} (rest more : List ℕ) → AreItems Spells front →
+      at rest ≡ None → AreItems Spells other → at more ≡ None → front ++ rest ≡ other ++ more →
+      (front ≡ other) × (rest ≡ more)
   same_run rest more (nothing e) a (nothing f) b w = (e ∙ sym f, rw (e, f) at w)
   same_run rest more (nothing e) a (item i t r s _ f) b w =
       let is : rest ≡ t ++ (r ++ more) = rw e at w ∙ ap (λ l. l ++ more) f ∙ append_assoc t r more in
@@ -111,7 +120,9 @@ module _ (Spells : TextItem → List ℕ → Type 0) (at : ItemReader) (reads : 
       let f = reads.read bytes i rest e in
       let here = run_takes (length bytes) bytes (omega arith) in
       let there = run_takes (length rest) rest (omega arith) in
-      let whole : bytes ≡ (f.text ++ there.front) ++ behind_items at (length rest) rest = f.whole ∙ ap (λ l. f.text ++ l) there.whole ∙ sym (append_assoc f.text there.front (behind_items at (length rest) rest)) in
+      let whole : bytes ≡ (f.text ++ there.front) ++ behind_items at (length rest) rest = f.whole
+      ∙ ap (λ l. f.text ++ l) there.whole
+      ∙ sym (append_assoc f.text there.front (behind_items at (length rest) rest)) in
       (same_run _ _ (item i f.text there.front f.spelled there.are_items refl) there.ends here.are_items here.ends (sym whole ∙ here.whole)).1
 
   pub ended_items : (bytes : List ℕ) → at bytes ≡ None → behind_items at (length bytes) bytes ≡ bytes

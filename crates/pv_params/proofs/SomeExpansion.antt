@@ -1,17 +1,22 @@
 -- A file has some expansion.
-use Rattle.std.proofs.Common.{◌≡◌, ◌≢◌, ◌<◌, ◌≤◌, inl, inr, ℕ, zero, suc, ◌+◌, List, [], ◌∷◌, ◌++◌, length, codes, Bool, true, false, ◌||◌, Option, Some, None, refl, sym, ap, ◌∙◌, subst, arith, length-append, append_assoc}
+use Rattle.std.proofs.Common.{◌≡◌, ◌≢◌, ◌<◌, ◌≤◌, inl, inr, ℕ, zero, suc, ◌+◌, List, [], ◌∷◌, ◌++◌, length, codes, Bool, true, false, ◌||◌, Option}
+use Rattle.std.proofs.Common.{Some, None, refl, sym, ap, ◌∙◌, subst, arith, length-append, append_assoc}
 use Rattle.std.specs.Option.{MatchOption}
 use Rattle.std.proofs.lemmas.Bool.{ltb-false}
 use Rattle.pv_chars.specs.Fronts.{Begins, BeginsNone}
 use Rattle.pv_chars.specs.Declarations.{IsTextDecl}
 use Rattle.pv_chars.specs.Scan.{after_bytes}
-use Rattle.pv_chars.proofs.Scanning.{after_bytes_takes}
+use Rattle.pv_chars.proofs.TextScans.{after_bytes_takes}
 use Rattle.pv_params.specs.Items.{Mode, file, between, inside, value, TextItem, puts, reference, parameter, declaration}
 use Rattle.pv_params.specs.Spelling.{Spells, StandsAt, IsPEDecl, IsWord, IsDeclaration, IsConditional, IsExternal, HasHead}
 use Rattle.pv_chars.specs.ByteOrderMark.{IsBehindByteOrderMark}
 use Rattle.pv_chars.proofs.ByteOrderMarkLemmas.{some_behind}
 use Rattle.pv_params.proofs.Heads.{mark_is_front}
-use Rattle.pv_params.specs.Meaning.{Fault, SoFar, text_of, is_being_read, passes_limit, MAX_REFERENCES, no_entity, being_read, past_limit, not_inside, Enters, EndOfText, closes, declares, finish, Within, Opens, of_reference, of_parameter, of_declaration, Outcome, gives, meets, IsBetween, BeginsNothing, IsOfEntity, Stops, ends, refused, of_section, of_external, no_item, unread, Reads, stops, copies, meets_within, goes_on, Expansion, expansion_of, Expands, behind_head, put, with_no_result}
+use Rattle.pv_params.specs.Meaning.{Fault, SoFar, text_of, is_being_read, passes_limit, MAX_REFERENCES, no_entity, being_read, past_limit, not_inside}
+use Rattle.pv_params.specs.Meaning.{Enters, EndOfText, closes, declares, finish, Within, Opens, of_reference, of_parameter, of_declaration, Outcome}
+use Rattle.pv_params.specs.Meaning.{gives, meets, IsBetween, BeginsNothing, IsOfEntity, Stops, ends, refused, of_section, of_external, no_item}
+use Rattle.pv_params.specs.Meaning.{unread, Reads, stops, copies, meets_within, goes_on, Expansion, expansion_of, Expands, behind_head, put}
+use Rattle.pv_params.specs.Meaning.{with_no_result}
 use Rattle.pv_chars.proofs.CharFacts.{no_start}
 use Rattle.pv_chars.specs.CharReading.{text_declaration_at}
 use Rattle.pv_chars.proofs.TextDeclarations.{tells_declaration}
@@ -84,7 +89,19 @@ value_shorter name given text s =
     let e = s.after ++ d in
     let f = codes "%" ++ e in
     let g = s.before ++ f in
-    omega (arith, ap length s.whole, length-append (codes "<!ENTITY") g, length-append s.before f, length-append (codes "%") e, length-append s.after d, length-append name c, length-append s.behind b, length-append s.quoted a, ap length q.whole, length-append given (q.quote ∷ []))
+    omega (
+      arith,
+      ap length s.whole,
+      length-append (codes "<!ENTITY") g,
+      length-append s.before f,
+      length-append (codes "%") e,
+      length-append s.after d,
+      length-append name c,
+      length-append s.behind b,
+      length-append s.quoted a,
+      ap length q.whole,
+      length-append given (q.quote ∷ []),
+    )
 
 held_shorter : (word held text : List ℕ) → IsDeclaration word held text → length held < length text
 held_shorter word held text s = omega (arith, ap length s.whole, length-append word (held ++ codes ">"), length-append held (codes ">"))
@@ -106,7 +123,21 @@ value_room mode rest name given more s = by mode s.spelled
         let e = p.after ++ d in
         let f = codes "%" ++ e in
         let g = p.before ++ f in
-        omega (arith, ap length s.whole, length-append s.text more, ap length p.whole, length-append (codes "<!ENTITY") g, length-append p.before f, length-append (codes "%") e, length-append p.after d, length-append name c, length-append p.behind b, length-append p.quoted a, ap length q.whole, length-append given (q.quote ∷ []))
+        omega (
+          arith,
+          ap length s.whole,
+          length-append s.text more,
+          ap length p.whole,
+          length-append (codes "<!ENTITY") g,
+          length-append p.before f,
+          length-append (codes "%") e,
+          length-append p.after d,
+          length-append name c,
+          length-append p.behind b,
+          length-append p.quoted a,
+          ap length q.whole,
+          length-append given (q.quote ∷ []),
+        )
 
     by : (md : Mode) → Spells md (parameter name given) s.text → length given + length more + 1 < length rest
     by (file after) p = long p
@@ -156,11 +187,15 @@ module _ (n : ℕ) (lower : (k : ℕ) → n ≡ suc k → All k) (m : ℕ)
   judged name text more s t r l true true im form = enters name text more s record { is_text = t; not_read = r; within = l; judged = λ e. inside_is text form } n refl
   judged name text more s t r l false form_is im form = enters name text more s record { is_text = t; not_read = r; within = l; judged = λ e. absurd (mode_is_other mode im e) } n refl
 
-  limited : (name text more : List ℕ) → StandsAt mode rest (reference name) more → text_of name before.declared ≡ Some text → is_being_read name reading ≡ false → (past : Bool) → passes_limit before text ≡ past → Comes mode reading before rest
+  limited : (name text more : List ℕ) → StandsAt mode rest (reference name) more →
+      text_of name before.declared ≡ Some text → is_being_read name reading ≡ false →
+      (past : Bool) → passes_limit before text ≡ past → Comes mode reading before rest
   limited name text more s t r true l = stopped mode reading before rest _ (refused s (past_limit t r l))
   limited name text more s t r false l = judged name text more s t r l (is_mode_inside mode) (is_inside text) refl refl
 
-  opened : (name text more : List ℕ) → StandsAt mode rest (reference name) more → text_of name before.declared ≡ Some text → (open_it : Bool) → is_being_read name reading ≡ open_it → Comes mode reading before rest
+  opened : (name text more : List ℕ) → StandsAt mode rest (reference name) more →
+      text_of name before.declared ≡ Some text → (open_it : Bool) → is_being_read name reading
+      ≡ open_it → Comes mode reading before rest
   opened name text more s t true r = stopped mode reading before rest _ (refused s (being_read t r))
   opened name text more s t false r = limited name text more s t r (passes_limit before text) refl
 
@@ -210,16 +245,26 @@ module _ (n : ℕ) (lower : (k : ℕ) → n ≡ suc k → All k) (m : ℕ)
       nothing_begins : ((IsBetween mode → IsConditional rest → ⊥)) → (IsBetween mode → IsExternal rest → ⊥) → BeginsNothing mode rest
       nothing_begins c x = record { some = some; no_item = no_item_at none; not_conditional = c; not_external = x }
 
-      fronted : IsBetween mode → (BeginsNothing mode rest → Comes mode reading before rest) → (o p : Option (List ℕ)) → after_bytes (codes "<![") rest ≡ o → external_at rest ≡ p → Comes mode reading before rest
+      fronted : IsBetween mode → (BeginsNothing mode rest → Comes mode reading before rest) →
+          (o p : Option (List ℕ)) → after_bytes (codes "<![") rest ≡ o → external_at rest ≡ p →
+          Comes mode reading before rest
       fronted is last (Some more) p c x = stopped mode reading before rest _ (of_section is (more, after_bytes_takes (codes "<![") rest more c))
       fronted is last None (Some more) c x = stopped mode reading before rest _ (of_external is (external_read rest more x))
       fronted is last None None c x = last (nothing_begins (λ _ s. no_start (codes "<![") rest c s.0 s.1) (λ _ y. let found = external_is_read rest y in cc))
 
       in_mode : (md : Mode) → mode ≡ md → Comes mode reading before rest
       in_mode (file after) e =
-          fronted (subst IsBetween (sym e) tt) (λ b. record { outcome = _; reads = stops (unread e b); grows = λ last same. let is = same_gives same in omega (arith, ap (λ (s : SoFar). s.references) is) })
+          fronted (subst IsBetween (sym e) tt)
+          (λ b. record {
+            outcome = _;
+            reads = stops (unread e b);
+            grows = λ last same. let is = same_gives same in
+                omega (arith, ap (λ (s : SoFar). s.references) is);
+          })
           (after_bytes (codes "<![") rest) (external_at rest) refl refl
-      in_mode between e = fronted (subst IsBetween (sym e) tt) (λ b. stopped mode reading before rest _ (no_item (subst IsOfEntity (sym e) tt) b)) (after_bytes (codes "<![") rest) (external_at rest) refl refl
+      in_mode between e = fronted (subst IsBetween (sym e) tt) (λ b. stopped mode reading before
+          rest _ (no_item (subst IsOfEntity (sym e) tt) b)) (after_bytes (codes "<![") rest)
+          (external_at rest) refl refl
       in_mode inside e = stopped mode reading before rest _ (no_item (subst IsOfEntity (sym e) tt) (nothing_begins (λ is s. subst IsBetween e is) (λ is s. subst IsBetween e is)))
       in_mode value e = stopped mode reading before rest _ (no_item (subst IsOfEntity (sym e) tt) (nothing_begins (λ is s. subst IsBetween e is) (λ is s. subst IsBetween e is)))
 
@@ -231,7 +276,9 @@ module _ (n : ℕ) (lower : (k : ℕ) → n ≡ suc k → All k) (m : ℕ)
   step [] e = record { outcome = gives before; reads = stops (ends e); grows = λ after same. let is = same_gives same in omega (arith, ap (λ (s : SoFar). s.references) is) }
   step (b ∷ bs) e = found (λ none. let both : [] ≡ b ∷ bs = sym none ∙ e in cc) (item_at mode rest) refl
 
-within_steps : (n : ℕ) → ((k : ℕ) → n ≡ suc k → All k) → (m : ℕ) (mode : Mode) (reading : List (List ℕ)) (before : SoFar) (rest : List ℕ) → length rest < m → MAX_REFERENCES ≤ before.references + n → Comes mode reading before rest
+within_steps : (n : ℕ) → ((k : ℕ) → n ≡ suc k → All k) →
+    (m : ℕ) (mode : Mode) (reading : List (List ℕ)) (before : SoFar) (rest : List ℕ) →
+    length rest < m → MAX_REFERENCES ≤ before.references + n → Comes mode reading before rest
 within_steps n lower zero mode reading before rest few left = absurd (omega arith)
 within_steps n lower (suc m) mode reading before rest few left = step n lower m (within_steps n lower m) mode reading before rest few left rest refl
 
@@ -248,10 +295,21 @@ pub record Headed (bytes : List ℕ) : Type 0 where
   pub rest : List ℕ
   pub has_head : HasHead bytes head rest
 
-declared_head : (bytes mark unmarked : List ℕ) → IsBehindByteOrderMark bytes unmarked → bytes ≡ mark ++ unmarked → (o : Option (List ℕ)) → MatchOption o (BeginsNone IsTextDecl unmarked) (Begins IsTextDecl unmarked) → Headed bytes
+declared_head : (bytes mark unmarked : List ℕ) → IsBehindByteOrderMark bytes unmarked → bytes ≡ mark
+    ++ unmarked → (o : Option (List ℕ)) → MatchOption o (BeginsNone IsTextDecl unmarked)
+    (Begins IsTextDecl unmarked) → Headed bytes
 declared_head bytes mark unmarked is whole None none = record { head = mark; rest = unmarked; has_head = record { unmarked = unmarked; mark = is; text_declaration = inr (none, refl); whole = whole } }
 declared_head bytes mark unmarked is whole (Some rest) begun =
-    record { head = mark ++ begun.item; rest = rest; has_head = record { unmarked = unmarked; mark = is; text_declaration = inl begun; whole = whole ∙ ap (λ l. mark ++ l) begun.whole ∙ sym (append_assoc mark begun.item rest) } }
+    record {
+      head = mark ++ begun.item;
+      rest = rest;
+      has_head = record {
+        unmarked = unmarked;
+        mark = is;
+        text_declaration = inl begun;
+        whole = whole ∙ ap (λ l. mark ++ l) begun.whole ∙ sym (append_assoc mark begun.item rest);
+      };
+    }
 
 pub headed : (bytes : List ℕ) → Headed bytes
 headed bytes =

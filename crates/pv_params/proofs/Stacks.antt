@@ -32,7 +32,9 @@ or_none : (a : Bool) → (a || false) ≡ a
 or_none true = refl
 or_none false = refl
 
-any_on : (name : List ℕ) (names : List (Vec ℕ Global)) (others : List (List ℕ)) → list_any (bytes_eq name) (last_first_on names others) ≡ (list_any (λ (v : Vec ℕ Global). bytes_eq name v.items) names || list_any (bytes_eq name) others)
+any_on : (name : List ℕ) (names : List (Vec ℕ Global)) (others : List (List ℕ)) →
+    list_any (bytes_eq name) (last_first_on names others)
+    ≡ (list_any (λ (v : Vec ℕ Global). bytes_eq name v.items) names || list_any (bytes_eq name) others)
 any_on name [] others = refl
 any_on name (k ∷ names) others =
     any_on name names (k.items ∷ others)

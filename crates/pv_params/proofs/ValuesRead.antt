@@ -9,11 +9,11 @@ use Rattle.pv_chars.specs.Fronts.{Begins}
 use Rattle.pv_chars.specs.References.{number}
 use Rattle.pv_chars.specs.Scan.{after_bytes}
 use Rattle.pv_chars.specs.Utf8.{char_at}
-use Rattle.pv_chars.proofs.Scanning.{after_bytes_takes, after_bytes-append, chosen}
+use Rattle.pv_chars.proofs.TextScans.{after_bytes_takes, after_bytes-append, chosen}
 use Rattle.pv_chars.proofs.ReferenceLemmas.{semicolon_ends, same_digits_by}
 use Rattle.pv_params.specs.Items.{TextItem, puts, reference, parameter, declaration}
 use Rattle.pv_params.specs.Spelling.{IsCharacterIn, IsCharacter, IsGeneral, SpellsValue}
-use Rattle.pv_chars.proofs.Binding.{bound, same_some}
+use Rattle.pv_chars.proofs.ReaderSteps.{bound, same_some}
 use Rattle.pv_chars.specs.CharReading.{name_at, is_nothing}
 use Rattle.pv_params.specs.ItemReading.{byte_at, named_at, digits_at, ended_by, character_at, general_at, value_at}
 use Rattle.pv_params.proofs.Runs.{Front, Reads}
@@ -25,7 +25,12 @@ unfolding general_at
 general_begins bytes rest e =
     let b = bound (named_at 38 bytes) _ rest e in
     let n = named_read 38 bytes b.value.0 b.value.1 b.first in
-    record { item = 38 ∷ (b.value.0 ++ codes ";"); is_item = (b.value.0, record { is_name = n.is_name; whole = refl }); whole = n.whole ∙ ap (λ l. (38 ∷ (b.value.0 ++ codes ";")) ++ l) (same_some _ _ b.others) }
+    record {
+      item = 38 ∷ (b.value.0 ++ codes ";");
+      is_item = (b.value.0, record { is_name = n.is_name; whole = refl });
+      whole = n.whole
+          ∙ ap (λ l. (38 ∷ (b.value.0 ++ codes ";")) ++ l) (same_some _ _ b.others);
+    }
 
 general_is : (text rest : List ℕ) → IsGeneral text → general_at (text ++ rest) ≡ Some rest
 unfolding general_at
@@ -61,7 +66,9 @@ not_true : (b : Bool) → not b ≡ true → b ≡ false
 not_true true e = cc
 not_true false e = refl
 
-pub character_read : (base : ℕ) (front bytes : List ℕ) (x : TextItem × List ℕ) → character_at base front bytes ≡ Some x → (result : List ℕ) × (text : List ℕ) × (x.0 ≡ puts result) × IsCharacterIn base front result text × (bytes ≡ text ++ x.1)
+pub character_read : (base : ℕ) (front bytes : List ℕ) (x : TextItem × List ℕ) →
+    character_at base front bytes ≡ Some x → (result : List ℕ) × (text : List ℕ)
+    × (x.0 ≡ puts result) × IsCharacterIn base front result text × (bytes ≡ text ++ x.1)
 unfolding character_at ended_by
 character_read base front bytes x e =
     let start = bound (after_bytes front bytes) _ x e in
@@ -73,7 +80,10 @@ character_read base front bytes x e =
     let pair = same_some _ _ end.others in
     let text = front ++ (ds.0 ++ codes ";") in
     let whole : bytes ≡ text ++ end.value =
-    after_bytes_takes front bytes start.value start.first ∙ ap (λ l. front ++ l) (t.whole ∙ ap (λ l. ds.0 ++ l) (after_bytes_takes (codes ";") ds.1 end.value end.first) ∙ sym (append_assoc ds.0 (codes ";") end.value)) ∙ sym (append_assoc front (ds.0 ++ codes ";") end.value) in (
+    after_bytes_takes front bytes start.value start.first ∙ ap (λ l. front ++ l) (t.whole
+    ∙ ap (λ l. ds.0 ++ l) (after_bytes_takes (codes ";") ds.1 end.value end.first)
+    ∙ sym (append_assoc ds.0 (codes ";") end.value))
+    ∙ sym (append_assoc front (ds.0 ++ codes ";") end.value) in (
       encode_utf8 (number base ds.0),
       text,
       sym (ap (λ (y : TextItem × List ℕ). y.0) pair),
@@ -89,10 +99,14 @@ character_is : (base : ℕ) (front result text rest : List ℕ) → base ≤ 36 
 unfolding character_at ended_by
 character_is base front result text rest known is =
     let r = is.is_ref in
-    let cut : text ++ rest ≡ front ++ (r.digits ++ (codes ";" ++ rest)) = ap (λ l. l ++ rest) r.whole ∙ append_assoc front (r.digits ++ codes ";") rest ∙ ap (λ l. front ++ l) (append_assoc r.digits (codes ";") rest) in
+    let cut : text ++ rest ≡ front ++ (r.digits ++ (codes ";" ++ rest)) =
+    ap (λ l. l ++ rest) r.whole ∙ append_assoc front (r.digits ++ codes ";") rest
+    ∙ ap (λ l. front ++ l) (append_assoc r.digits (codes ";") rest) in
     rw (cut, after_bytes-append front (r.digits ++ (codes ";" ++ rest)), digits_are base r.digits rest known r.are_digits, nothing_is r.digits r.some, r.is_char, is.gives) refl
 
-front_character : (base : ℕ) (front bytes : List ℕ) (x : TextItem × List ℕ) → ((result text : List ℕ) → IsCharacterIn base front result text → IsCharacter result text) → character_at base front bytes ≡ Some x → Front SpellsValue bytes x.0 x.1
+front_character : (base : ℕ) (front bytes : List ℕ) (x : TextItem × List ℕ) →
+    ((result text : List ℕ) → IsCharacterIn base front result text → IsCharacter result text) →
+    character_at base front bytes ≡ Some x → Front SpellsValue bytes x.0 x.1
 front_character base front bytes x is e =
     let r = character_read base front bytes x e in
     subst (λ i. Front SpellsValue bytes i x.1) (sym r.2) record { text = r.1; spelled = inr (is r.0 r.1 r.3); whole = r.4 }
@@ -136,14 +150,18 @@ value_is_read (puts result) text rest (inr (inl is)) =
     let ds = is.is_ref.digits ++ codes ";" in
     let byte : byte_at (codes "%&") (text ++ rest) ≡ None = rw w (no_byte (codes "%&") ((35 ∷ ds) ++ rest) 38 refl) in
     let general : general_at (text ++ rest) ≡ None = rw w (no_general_hash (ds ++ rest)) in
-    second_is _ _ (puts result, rest) byte (second_is _ _ (puts result, rest) (copied_none (text ++ rest) _ general) (first_is _ _ (puts result, rest) (character_is 10 (codes "&#") result text rest (omega arith) is)))
+    second_is _ _ (puts result, rest) byte (second_is _ _ (puts result, rest) (copied_none (text
+    ++ rest) _ general) (first_is _ _ (puts result, rest) (character_is 10 (codes "&#") result
+    text rest (omega arith) is)))
 value_is_read (puts result) text rest (inr (inr is)) =
     let w = is.is_ref.whole in
     let ds = is.is_ref.digits ++ codes ";" in
     let byte : byte_at (codes "%&") (text ++ rest) ≡ None = rw w (no_byte (codes "%&") ((35 ∷ 120 ∷ ds) ++ rest) 38 refl) in
     let general : general_at (text ++ rest) ≡ None = rw w (no_general_hash ((120 ∷ ds) ++ rest)) in
     let decimal : character_at 10 (codes "&#") (text ++ rest) ≡ None = rw w (no_decimal_x (ds ++ rest)) in
-    second_is _ _ (puts result, rest) byte (second_is _ _ (puts result, rest) (copied_none (text ++ rest) _ general) (second_is _ _ (puts result, rest) decimal (first_is _ _ (puts result, rest) (character_is 16 (codes "&#x") result text rest (omega arith) is))))
+    second_is _ _ (puts result, rest) byte (second_is _ _ (puts result, rest) (copied_none (text
+    ++ rest) _ general) (second_is _ _ (puts result, rest) decimal
+    (first_is _ _ (puts result, rest) (character_is 16 (codes "&#x") result text rest (omega arith) is))))
 value_is_read (reference name) text rest s =
     let w = s.whole in
     let more = (name ++ codes ";") ++ rest in
@@ -151,7 +169,9 @@ value_is_read (reference name) text rest s =
     let general : general_at (text ++ rest) ≡ None = rw w (no_general_percent more) in
     let decimal : character_at 10 (codes "&#") (text ++ rest) ≡ None = rw w (no_character_percent 10 (codes "#") more) in
     let hexadecimal : character_at 16 (codes "&#x") (text ++ rest) ≡ None = rw w (no_character_percent 16 (codes "#x") more) in
-    second_is _ _ (reference name, rest) byte (second_is _ _ (reference name, rest) (copied_none (text ++ rest) _ general) (second_is _ _ (reference name, rest) decimal (second_is _ _ (reference name, rest) hexadecimal (reference_is name text rest s))))
+    second_is _ _ (reference name, rest) byte (second_is _ _ (reference name, rest)
+    (copied_none (text ++ rest) _ general) (second_is _ _ (reference name, rest) decimal
+    (second_is _ _ (reference name, rest) hexadecimal (reference_is name text rest s))))
 value_is_read (parameter name given) text rest s = absurd s
 value_is_read (declaration word held) text rest s = absurd s
 

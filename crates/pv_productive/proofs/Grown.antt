@@ -7,9 +7,11 @@ use Rattle.pv_dtd.specs.Plain.{PlainDtd, spelling_of}
 use Rattle.pv_dtd.specs.Hedge.{AreGood, Fits, Hedge, done, elem, elements, word}
 use Rattle.pv_rules.specs.Derivations.{Derives}
 use Rattle.pv_rules.specs.Numbering.{IsMemberAt, first_part, here, later, part_at, rest_at}
-use Rattle.pv_rules.specs.Rules.{Goal, Rule, any_name, any_none, any_text, children_part, empty_none, kept, missing, mixed_name, mixed_none, mixed_text, opt_none, opt_one, over, part_choice, part_name, part_seq, plus_more, plus_one, rest_last, rest_then, star_more, star_none}
+use Rattle.pv_rules.specs.Rules.{Goal, Rule, any_name, any_none, any_text, children_part, empty_none, kept, missing, mixed_name, mixed_none}
+use Rattle.pv_rules.specs.Rules.{mixed_text, opt_none, opt_one, over, part_choice, part_name, part_seq, plus_more, plus_one, rest_last, rest_then}
+use Rattle.pv_rules.specs.Rules.{star_more, star_none}
 use Rattle.pv_rules.specs.Sites.{PlainSite, content_site, name_site, part_site, rest_site}
-use Rattle.pv_rules.proofs.Derived.{HaveAll, passed}
+use Rattle.pv_rules.proofs.DerivationLaws.{HaveAll, passed}
 use Rattle.pv_rules.proofs.Facts.{parts_by_number}
 use Rattle.pv_dtd.specs.Proper.{IsProperDtd}
 use Rattle.pv_dtd.proofs.Proper.{spelled}

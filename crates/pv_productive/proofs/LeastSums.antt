@@ -16,7 +16,7 @@ use Rattle.pv_rules.proofs.FlatContents.{content_at}
 use Rattle.pv_rules.proofs.FlatKinds.{IsNoRest}
 use Rattle.pv_productive.specs.Tables.{IsLeastMember, IsLeastSum, Table, no_size, size_at, size_in, size_of, total}
 use Rattle.pv_productive.proofs.Paid.{none_span}
-use Rattle.pv_productive.proofs.Weighing.{name_rules, part_rules, plus_rules, rest_rules, then_rules}
+use Rattle.pv_productive.proofs.EmptyWeights.{name_rules, part_rules, plus_rules, rest_rules, then_rules}
 
 -- a content that needs no element
 abbrev pub IsFree : ContentKind → Type 0

@@ -1,12 +1,12 @@
 -- for other crates:
-pub mod Cutting
+pub mod CutSums
 pub mod SizeLaws
 -- of this crate:
 pub mod Elements
 pub mod Grown
 pub mod LeastSums
-pub mod Lowered
+pub mod LoweredSizes
 pub mod Paid
-pub mod Settled
-pub mod Sized
-pub mod Weighing
+pub mod SettledSizes
+pub mod NameSizes
+pub mod EmptyWeights

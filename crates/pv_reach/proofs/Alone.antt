@@ -8,7 +8,7 @@ use Rattle.pv_dtd.specs.Plain.{PlainDtd}
 use Rattle.pv_reach.specs.Columns.{AreRules, Has, IsAnyRule, IsContentRule, IsPartRule, IsRule, any_column, of_any, of_content, of_part}
 use Rattle.pv_reach.specs.Merging.{AreMerged, IsFurtherRule, behind, column_head, column_heads, none, one}
 use Rattle.pv_reach.specs.declared.columns.merging.Merging.{Merging}
-use Rattle.pv_reach.proofs.Replacing.{its_own}
+use Rattle.pv_reach.proofs.StandInColumns.{its_own}
 
 -- these are no columns, or this one alone
 abbrev IsAlone : ℕ → List ℕ → Type 0

@@ -9,12 +9,13 @@ use Rattle.pv_model.specs.declared.models.Token.TheVariants.{Text}
 use Rattle.pv_dtd.specs.Plain.{IsDeclared, PlainDtd, declared, model_of, parts_in, parts_in_models}
 use Rattle.pv_rules.specs.Derivations.{by_rule, none_left}
 use Rattle.pv_rules.specs.Numbering.{first_part, part_at, rest_at}
-use Rattle.pv_rules.specs.Rules.{any_none, any_text, children_part, empty_none, kept, missing, mixed_none, mixed_text, opt_none, opt_one, over, part_choice, part_name, part_seq, plus_one, rest_last, rest_then, star_none}
+use Rattle.pv_rules.specs.Rules.{any_none, any_text, children_part, empty_none, kept, missing, mixed_none, mixed_text, opt_none, opt_one, over}
+use Rattle.pv_rules.specs.Rules.{part_choice, part_name, part_seq, plus_one, rest_last, rest_then, star_none}
 use Rattle.pv_rules.specs.Sites.{PlainSite, content_site, name_site, part_site, rest_site}
 use Rattle.pv_rules.proofs.Facts.{parts_by_number}
-use Rattle.pv_rules.proofs.Formed.{parts_formed}
+use Rattle.pv_rules.proofs.FormedParts.{parts_formed}
 use Rattle.pv_rules.proofs.Members.{some_part}
-use Rattle.pv_rules.proofs.Deriving.{any_more, mixed_more, plus_again, spanned, star_again, to_none, to_one, to_two}
+use Rattle.pv_rules.proofs.DerivationsMade.{any_more, mixed_more, plus_again, spanned, star_again, to_none, to_one, to_two}
 use Rattle.pv_reach.proofs.FormedDtds.{IsFormedDtd}
 use Rattle.pv_columns.specs.declared.rules.ColumnRule.{ColumnRule}
 use Rattle.pv_columns.specs.ColumnRules.{ReadThrough, ReadsToken}

@@ -10,9 +10,9 @@ use Rattle.pv_reach.specs.Leading.{AreAlike}
 use Rattle.pv_reach.specs.Merging.{AreHeadsBare, AreMerged, HasMerged, IsMerging, Replaces}
 use Rattle.pv_reach.specs.declared.columns.merging.Merging.{Merging}
 use Rattle.pv_reach.proofs.FormedDtds.{IsFormedDtd}
-use Rattle.pv_reach.proofs.Placing.{unset}
-use Rattle.pv_reach.proofs.Ranging.{rules_in_range}
-use Rattle.pv_reach.proofs.Replacing.{has_all, is_merging, replaces}
+use Rattle.pv_reach.proofs.PlacedNumbers.{unset}
+use Rattle.pv_reach.proofs.ColumnsInRange.{rules_in_range}
+use Rattle.pv_reach.proofs.StandInColumns.{has_all, is_merging, replaces}
 
 pub none_bare : (rules : List ColumnRule) (flags : List Bool) (n : ℕ) → flags ≡ replicate n false → AreNullable rules flags
 none_bare rules flags n e = record { bare = λ c m word p. absurd (let z = unset n c in let y = ap (λ v. get_or v c false) e in cc) }

@@ -8,9 +8,11 @@ use Rattle.pv_model.specs.declared.models.Token.TheVariants.{Name, Other, Text}
 use Rattle.pv_dtd.specs.Plain.{IsDeclared, PlainDtd, model_of, parts_in}
 use Rattle.pv_rules.specs.Derivations.{Derives}
 use Rattle.pv_rules.specs.Numbering.{first_part, part_at, rest_at}
-use Rattle.pv_rules.specs.Rules.{Goal, Rule, any_name, any_none, any_text, children_part, empty_none, kept, missing, mixed_name, mixed_none, mixed_text, opt_none, opt_one, over, part_choice, part_name, part_seq, plus_more, plus_one, rest_last, rest_then, star_more, star_none}
+use Rattle.pv_rules.specs.Rules.{Goal, Rule, any_name, any_none, any_text, children_part, empty_none, kept, missing, mixed_name, mixed_none}
+use Rattle.pv_rules.specs.Rules.{mixed_text, opt_none, opt_one, over, part_choice, part_name, part_seq, plus_more, plus_one, rest_last, rest_then}
+use Rattle.pv_rules.specs.Rules.{star_more, star_none}
 use Rattle.pv_rules.specs.Sites.{PlainSite, content_site, name_site, part_site, rest_site}
-use Rattle.pv_rules.proofs.Derived.{held}
+use Rattle.pv_rules.proofs.DerivationLaws.{held}
 use Rattle.pv_rules.proofs.Facts.{parts_by_number}
 use Rattle.std.proofs.lemmas.Option.{slice_get_within}
 use Rattle.pv_columns.specs.declared.rules.ColumnRule.{ColumnRule}

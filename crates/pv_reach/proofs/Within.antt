@@ -10,19 +10,21 @@ use Rattle.pv_dtd.specs.Proper.{IsProperDtd}
 use Rattle.pv_dtd.proofs.Proper.{full_children}
 use Rattle.pv_rules.specs.Derivations.{by_rule, none_left}
 use Rattle.pv_rules.specs.Numbering.{first_part}
-use Rattle.pv_rules.specs.Rules.{Goal, IsSpan, Rule, any_name, any_none, any_text, children_part, empty_none, kept, missing, mixed_name, mixed_none, mixed_text, opt_none, opt_one, over, part_choice, part_name, part_seq, plus_more, plus_one, rest_last, rest_then, star_more, star_none}
+use Rattle.pv_rules.specs.Rules.{Goal, IsSpan, Rule, any_name, any_none, any_text, children_part, empty_none, kept, missing, mixed_name, mixed_none}
+use Rattle.pv_rules.specs.Rules.{mixed_text, opt_none, opt_one, over, part_choice, part_name, part_seq, plus_more, plus_one, rest_last, rest_then}
+use Rattle.pv_rules.specs.Rules.{star_more, star_none}
 use Rattle.pv_rules.specs.Sites.{PlainSite, content_site, name_site, part_site, rest_site}
-use Rattle.pv_rules.proofs.Derived.{held}
+use Rattle.pv_rules.proofs.DerivationLaws.{held}
 use Rattle.pv_missing.specs.LiveWords.{AreProductiveTokens, IsProductiveToken}
-use Rattle.pv_missing.proofs.Derived.{possible_derives}
+use Rattle.pv_missing.proofs.CoverWeights.{possible_derives}
 use Rattle.pv_missing.proofs.FromWords.{from_word}
 use Rattle.pv_missing.proofs.Sizes.{fits_possible}
-use Rattle.pv_missing.proofs.Spanned.{all_at}
-use Rattle.pv_missing.proofs.Standing.{Stands}
+use Rattle.pv_missing.proofs.SpanDerivations.{all_at}
+use Rattle.pv_missing.proofs.SpanContents.{Stands}
 use Rattle.pv_missing.proofs.WordDerivations.{of_content}
 use Rattle.pv_rules.specs.Deriving.{DerivesAt}
 use Rattle.pv_reach.specs.Laws.{SpansWithin}
-use Rattle.pv_rules.proofs.Deriving.{any_more, mixed_more, plus_again, star_again, to_none, to_one, to_two}
+use Rattle.pv_rules.proofs.DerivationsMade.{any_more, mixed_more, plus_again, star_again, to_none, to_one, to_two}
 
 module _ (g : PlainDtd) (w : List PlainToken) (proper : IsProperDtd g) (productive : AreProductiveTokens g w) where
   -- within i and j, or empty
@@ -54,7 +56,9 @@ module _ (g : PlainDtd) (w : List PlainToken) (proper : IsProperDtd g) (producti
   one c s o i j rule h a b le short within = to_one g w c s o a b a b (rule a b (le, short)) (h a b le short within)
 
   -- a site up to a place between, and one after it
-  two : (s o r : PlainSite) (i k j : ℕ) → i ≤ k → ((a m b : ℕ) → a ≤ m → m ≤ b → b ≤ length w → DerivesAt g w o a m → DerivesAt g w r m b → DerivesAt g w s a b) → Within o i k → Within r k j → Within s i j
+  two : (s o r : PlainSite) (i k j : ℕ) → i ≤ k → ((a m b : ℕ) → a ≤ m → m ≤ b → b ≤ length w →
+      DerivesAt g w o a m → DerivesAt g w r m b → DerivesAt g w s a b) → Within o i k →
+      Within r k j → Within s i j
   two s o r i k j ik join u v a b le short (inl e) = join a b b le (omega arith) short (u a b le short (inl e)) (v b b (omega arith) short (inl refl))
   two s o r i k j ik join u v a b le short (inr (ia, bj)) = elim (cases_lt k b) [
     | inr bk ↦ join a b b le (omega arith) short (u a b le short (inr (ia, bk))) (v b b (omega arith) short (inl refl))
@@ -111,7 +115,9 @@ module _ (g : PlainDtd) (w : List PlainToken) (proper : IsProperDtd g) (producti
   closed x c xs (plus_more q i k j p l s n e) h = two (part_site q) (part_site (suc q)) (part_site q) i k j (omega arith) (λ a m b o r t u v. plus_again g w q a m b p e u v) h.0 h.1.0
   closed x c xs (rest_last q i j p l e) h = one 0 (rest_site q) (part_site q) i j (λ a b s. rest_last q a b p s e) h.0
   closed x c xs (rest_then q i k j p r ps l s n e) h =
-      two (rest_site q) (part_site q) (rest_site (q + parts_in p)) i k j l (λ a m b o t u d f. to_two g w (rest_site q) (part_site q) (rest_site (q + parts_in p)) a m b (rest_then q a m b p r ps o t u e) d f) h.0 h.1.0
+      two (rest_site q) (part_site q) (rest_site (q + parts_in p)) i k j l
+      (λ a m b o t u d f. to_two g w (rest_site q) (part_site q) (rest_site (q + parts_in p)) a
+      m b (rest_then q a m b p r ps o t u e) d f) h.0 h.1.0
 
 pub spans_within : SpansWithin
 spans_within g w proper productive s i j a b d le short within =

@@ -100,7 +100,13 @@ pub record Behind (b : ℕ) (bytes : List ℕ) : Type 0 where
 
 pub reference_inner : (b : ℕ) (bytes : List ℕ) → IsMark b → IsReference bytes → Behind b bytes
 reference_inner b bytes m (inl (inl is)) = record { inner = 35 ∷ is.digits; whole = is.whole; free = rw m.no_hash (pass_have_no (λ d. is_digit d 10) b m.no_digit is.digits is.are_digits) }
-reference_inner b bytes m (inl (inr is)) = record { inner = 35 ∷ 120 ∷ is.digits; whole = is.whole; free = rw (m.no_hash, x_has_no b m) (pass_have_no (λ d. is_digit d 16) b m.no_hex_digit is.digits is.are_digits) }
+reference_inner b bytes m (inl (inr is)) =
+    record {
+      inner = 35 ∷ 120 ∷ is.digits;
+      whole = is.whole;
+      free = rw (m.no_hash, x_has_no b m)
+          (pass_have_no (λ d. is_digit d 16) b m.no_hex_digit is.digits is.are_digits);
+    }
 reference_inner b bytes m (inr (name, is)) = record { inner = name; whole = is.whole; free = name_has_no b name m is.is_name }
 
 pub reference_has_no : (b : ℕ) (bytes : List ℕ) → IsMark b → (38 == b) ≡ false → (59 == b) ≡ false → IsReference bytes → has_no b bytes ≡ true

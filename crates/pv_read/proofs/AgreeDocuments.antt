@@ -23,7 +23,9 @@ use Rattle.pv_read.proofs.AgreeMeans.{ItemsAreOne, MeansAt, means_before}
 use Rattle.pv_read.proofs.AgreeProlog.{prolog_means, epilog_means}
 
 -- the root after the prolog
-root_means : {M : Type 0} (m : M) (root before rest : List ℕ) (limit : ℕ) (P : Left M → List ℕ → Type 0) (stage : PlainStage) → HoldsBefore m root limit P → (t : Tree M) (bytes : List ℕ) → IsElement t → SpellsNode t bytes → depth_of t ≤ limit
+root_means : {M : Type 0} (m : M) (root before rest : List ℕ) (limit : ℕ) (P : Left M → List ℕ →
+    Type 0) (stage : PlainStage) → HoldsBefore m root limit P → (t : Tree M) (bytes : List ℕ) →
+    IsElement t → SpellsNode t bytes → depth_of t ≤ limit
     → P (in_epilog before (map_marks (λ _. m) t) []) rest → P (in_prolog stage before) (bytes ++ rest)
 root_means m root before rest limit P stage steps (element x attrs short kids mark) bytes is (name, are, none, whole) within behind =
     let same : map_marks (λ _. m) (element x attrs short kids mark) ≡ empty_element m x attrs = rw none refl in
@@ -32,7 +34,9 @@ root_means m root before rest limit P stage steps (element x attrs short kids ma
     (subst (λ t. P (in_epilog before t []) rest) same behind))
 root_means m root before rest limit P stage steps (element x attrs (tagged gap) kids mark) bytes is (content, name, are, white, spells, whole) within behind =
     subst (λ b. P (in_prolog stage before) (b ++ rest)) (sym whole)
-    (tagged_means m root (in_prolog stage before) before x attrs gap content rest (map_marks_all (λ _. m) kids) [] limit P steps name are white refl (within_of limit (depth_of_all kids) 0 (omega arith))
+    (tagged_means m root (in_prolog stage before) before x attrs gap content rest
+    (map_marks_all (λ _. m) kids) [] limit P steps name are white refl (within_of limit
+    (depth_of_all kids) 0 (omega arith))
     (content_means m root before limit P steps kids (just_opened x attrs) [] content (bytes_of (end_tag x gap) ++ rest) spells (inr (_, refl)) (omega arith)) behind)
 root_means m root before rest limit P stage steps (text_node units) bytes is spells within behind = absurd is
 root_means m root before rest limit P stage steps (cdata_node section) bytes is spells within behind = absurd is
@@ -103,7 +107,9 @@ pub record HoldsAtStart {M : Type 0} (bytes : List ℕ) (P : Left M → List ℕ
   pub starts : TakesByteOrderMark bytes mark rest
   pub back : P end [] → P (in_prolog at_front mark) rest
 
-pub holds_at_start : {M : Type 0} (m : M) (root bytes : List ℕ) (doc : PlainDoc M) (limit : ℕ) (P : Left M → List ℕ → Type 0) → HoldsBefore m root limit P → SpellsDocument root bytes doc → depth_of doc.root ≤ limit
+pub holds_at_start : {M : Type 0} (m : M) (root bytes : List ℕ) (doc : PlainDoc M) (limit : ℕ)
+    (P : Left M → List ℕ → Type 0) → HoldsBefore m root limit P → SpellsDocument root bytes doc →
+    depth_of doc.root ≤ limit
     → HoldsAtStart bytes P (in_epilog doc.before (map_marks (λ _. m) doc.root) doc.after)
 holds_at_start m root bytes doc limit P steps s within =
     let p = s.is_prolog in
@@ -125,8 +131,12 @@ holds_at_start m root bytes doc limit P steps s within =
           (epilog_means m root limit P steps doc.before doc.after t s.is_epilog end));
     }
 
-pub document_means : {M : Type 0} (limits : TextLimits) (m : M) (root bytes : List ℕ) (doc : PlainDoc M) → ItemsAreOne → IsDocumentTextWithin limits root bytes doc → DocumentMeansWithin limits m root bytes (is_document (with_marks m doc))
+pub document_means : {M : Type 0} (limits : TextLimits) (m : M) (root bytes : List ℕ)
+    (doc : PlainDoc M) → ItemsAreOne → IsDocumentTextWithin limits root bytes doc →
+    DocumentMeansWithin limits m root bytes (is_document (with_marks m doc))
 document_means limits m root bytes doc only text =
     let o = is_document (with_marks m doc) in
-    let start = holds_at_start m root bytes doc (depth_of doc.root) (λ left rest. MeansAt limits.depth m root left rest o) (means_before limits.depth m root o only (depth_of doc.root) text.shallow) text.spelled (omega arith) in
+    let start = holds_at_start m root bytes doc (depth_of doc.root)
+    (λ left rest. MeansAt limits.depth m root left rest o) (means_before limits.depth m root o
+    only (depth_of doc.root) text.shallow) text.spelled (omega arith) in
     items text.few_bytes start.starts (start.back (λ k. ends refl) 0)

@@ -41,7 +41,14 @@ attribute_form bytes a =
       is_space = a.is_space;
       is_name = a.is_name;
       is_eq = a.is_eq;
-      is_value = record { quote = v.quote; value = v.value; is_quote = v.is_quote; is_value = made_of_others (IsValuePiece v.quote IsKnownReference) (IsValuePiece v.quote IsReference) v.value (value_piece v.quote) v.is_value; whole = v.whole };
+      is_value = record {
+        quote = v.quote;
+        value = v.value;
+        is_quote = v.is_quote;
+        is_value = made_of_others (IsValuePiece v.quote IsKnownReference)
+            (IsValuePiece v.quote IsReference) v.value (value_piece v.quote) v.is_value;
+        whole = v.whole;
+      };
       whole = a.whole;
     }
 

@@ -1,5 +1,6 @@
 -- What the bytes of the items so far say of what these items leave.
-use Rattle.std.proofs.Common.{◌≡◌, ◌≤◌, ◌+◌, ℕ, suc, List, [], ◌∷◌, ◌++◌, Bool, true, false, not, inl, inr, IsTrue, max, Option, Some, None, length, append-nil, append_assoc, refl, sym, ap, ◌∙◌, arith}
+use Rattle.std.proofs.Common.{◌≡◌, ◌≤◌, ◌+◌, ℕ, suc, List, [], ◌∷◌, ◌++◌, Bool, true, false, not, inl, inr, IsTrue, max, Option, Some, None, length}
+use Rattle.std.proofs.Common.{append-nil, append_assoc, refl, sym, ap, ◌∙◌, arith}
 use Rattle.std.specs.List.{AllByRecursion}
 use Rattle.pv_chars.specs.Names.{IsName}
 use Rattle.pv_chars.specs.Declarations.{IsOptional, IsXmlDecl}
@@ -177,14 +178,23 @@ spells_put [] t bytes first spells node follows = (first, [], node, whole_alone 
     whole_alone (misc_node misc) = tt
 spells_put (k ∷ []) t bytes first (front, others, spells, whole_run, below, whole) node follows =
     (front, others ++ first, spells, whole_before k t follows, spells_put [] t others first below node (λ is. refl), ap (λ b. b ++ first) whole ∙ append_assoc front others first)
-spells_put (k ∷ l ∷ kids) t bytes first (front, others, spells, whole_run, below, whole) node follows =
-    (front, others ++ first, spells, same_run k l (forest_of kids) (forest_of (kids ++ t ∷ [])) whole_run, spells_put (l ∷ kids) t others first below node follows, ap (λ b. b ++ first) whole ∙ append_assoc front others first)
+spells_put (k ∷ l ∷ kids) t bytes first (front, others, spells, whole_run, below, whole) node follows = (
+  front,
+  others ++ first,
+  spells,
+  same_run k l (forest_of kids) (forest_of (kids ++ t ∷ []))
+      whole_run,
+  spells_put (l ∷ kids) t others first below node follows,
+  ap (λ b. b ++ first) whole ∙ append_assoc front others first,
+)
 
 pub no_kids : {M : Type 0} (most : Option ℕ) (m : M) (level : ℕ) → SpellsKids {M = M} most m level [] []
 no_kids most m level = record { spells = refl; proper = tt }
 
 -- one more kid
-pub kid_put : {M : Type 0} {most : Option ℕ} {m : M} {level : ℕ} {kids : List (Tree M)} {bytes : List ℕ} (t : Tree M) (first : List ℕ) → SpellsKids most m level kids bytes → SpellsNode t first → IsProperKid most m level t
+pub kid_put : {M : Type 0} {most : Option ℕ} {m : M} {level : ℕ} {kids : List
+    (Tree M)} {bytes : List ℕ} (t : Tree M) (first : List ℕ) → SpellsKids most m level kids bytes →
+    SpellsNode t first → IsProperKid most m level t
     → (is_text t ≡ true → ends_in_text kids ≡ false) → SpellsKids most m level (kids ++ t ∷ []) (bytes ++ first)
 kid_put {most = most} {m = m} {level = level} {kids = kids} {bytes = bytes} t first s node proper follows =
     record { spells = spells_put kids t bytes first s.spells node follows; proper = all_joined (IsProperKid most m level) kids (t ∷ []) s.proper (proper, tt) }
@@ -204,7 +214,9 @@ within_both None level a b first second = tt
 within_both (Some n) level a b first second = omega arith
 
 -- what the kids of an element keep, the element keeps
-kids_shallow : {M : Type 0} (most : Option ℕ) (m : M) (level : ℕ) (kids : List (Tree M)) → IsWithinDepth most level → AllByRecursion (IsProperKid most m level) kids → IsWithinDepth most (level + depth_of_all (forest_of kids))
+kids_shallow : {M : Type 0} (most : Option ℕ) (m : M) (level : ℕ) (kids : List (Tree M)) →
+    IsWithinDepth most level → AllByRecursion (IsProperKid most m level) kids →
+    IsWithinDepth most (level + depth_of_all (forest_of kids))
 kids_shallow most m level [] within all = within_less most (level + 0) level (omega arith) within
 kids_shallow most m level (k ∷ kids) within all = within_both most level (depth_of k) (depth_of_all (forest_of kids)) all.0.shallow (kids_shallow most m level kids within all.1)
 
@@ -212,11 +224,18 @@ kids_marked : {M : Type 0} (most : Option ℕ) (m : M) (level : ℕ) (kids : Lis
 kids_marked most m level [] all = refl
 kids_marked most m level (k ∷ kids) all = let here = all.0.marks in let below = kids_marked most m level kids all.1 in cc
 
-pub closed_proper : {M : Type 0} (most : Option ℕ) (m : M) (level : ℕ) (kids : List (Tree M)) (name attrs gap : List ℕ) → IsWithinDepth most (suc level) → AllByRecursion (IsProperKid most m (suc level)) kids
+pub closed_proper : {M : Type 0} (most : Option ℕ) (m : M) (level : ℕ) (kids : List (Tree M))
+    (name attrs gap : List ℕ) → IsWithinDepth most (suc level) →
+    AllByRecursion (IsProperKid most m (suc level)) kids
     → IsProperKid most m level (element name attrs (tagged gap) (forest_of kids) m)
 closed_proper most m level kids name attrs gap within all =
     let deep = kids_shallow most m (suc level) kids within all in
-    record { shallow = within_less most (level + suc (depth_of_all (forest_of kids))) (suc level + depth_of_all (forest_of kids)) (omega arith) deep; marks = ap (λ k. element name attrs (tagged gap) k m) (kids_marked most m (suc level) kids all) }
+    record {
+      shallow = within_less most (level + suc (depth_of_all (forest_of kids)))
+          (suc level + depth_of_all (forest_of kids)) (omega arith) deep;
+      marks =
+          ap (λ k. element name attrs (tagged gap) k m) (kids_marked most m (suc level) kids all);
+    }
 
 -- ---- the open elements, innermost first
 abbrev pub SpellsOpen : {M : Type 0} → Option ℕ → M → List (Open M) → List ℕ → Type 0

@@ -10,10 +10,13 @@ use Rattle.pv_read.proofs.OneItem.{sort_is, one_item}
 use Rattle.pv_read.proofs.AgreeMeans.{ItemsAreOne}
 
 -- what stands after the front of a document type declaration is determined
-same_end : (bytes name front rest other another more : List ℕ) → IsDoctypeFront name front → IsDoctypeFront other another → bytes ≡ front ++ (codes ">" ++ rest) → bytes ≡ another ++ (codes "[" ++ more) → ⊥
+same_end : (bytes name front rest other another more : List ℕ) → IsDoctypeFront name front →
+    IsDoctypeFront other another → bytes ≡ front ++ (codes ">" ++ rest) → bytes ≡ another
+    ++ (codes "[" ++ more) → ⊥
 same_end bytes name front rest other another more i j e f =
     let inside = (i.space ++ (name ++ (i.external ++ i.gap))) ++ (codes ">" ++ rest) in
-    let whole : bytes ≡ codes "<!DOCTYPE" ++ inside = e ∙ ap (λ l. l ++ (codes ">" ++ rest)) i.whole ∙ append_assoc (codes "<!DOCTYPE") (i.space ++ (name ++ (i.external ++ i.gap))) (codes ">" ++ rest) in
+    let whole : bytes ≡ codes "<!DOCTYPE" ++ inside = e ∙ ap (λ l. l ++ (codes ">" ++ rest)) i.whole
+    ∙ append_assoc (codes "<!DOCTYPE") (i.space ++ (name ++ (i.external ++ i.gap))) (codes ">" ++ rest) in
     let s = front_steps inside name front (codes ">" ++ rest) i (sym whole ∙ e) refl in
     let t = front_steps inside other another (codes "[" ++ more) j (sym whole ∙ f) refl in
     apart (same_front inside name (codes ">" ++ rest) other (codes "[" ++ more) s t).1

@@ -14,7 +14,9 @@ pub record ItemsAreOne : Type 0 where
   pub no_subset : (i : Item) (bytes rest : List ℕ) → BeginsItem i bytes rest → BeginsSubset bytes → ⊥
 
 -- no kind of fault stands at an item that may stand and is proper
-no_fault : {M : Type 0} (most : Option ℕ) (m : M) (root : List ℕ) (left next : Left M) (rest more : List ℕ) (i : Item) → ItemsAreOne → BeginsItem i rest more → left_by m left i ≡ Some next → IsProper most root left i
+no_fault : {M : Type 0} (most : Option ℕ) (m : M) (root : List ℕ) (left next : Left M)
+    (rest more : List ℕ) (i : Item) → ItemsAreOne → BeginsItem i rest more →
+    left_by m left i ≡ Some next → IsProper most root left i
     → (kind : Kind) → HasFault most m root left rest kind → ⊥
 no_fault most m root left next rest more i only begins stands proper subset (may, begins_subset) = only.no_subset i rest more begins begins_subset
 no_fault most m root left next rest more i only begins stands proper syntax (not_whole, all) = let none = all i more begins in cc
@@ -32,10 +34,18 @@ too_deep None n limit less within past = past
 too_deep (Some depth) n limit less within past = omega arith
 
 -- items that stand mean, with the rest, what the rest means after them
-pub means_before : {M : Type 0} (most : Option ℕ) (m : M) (root : List ℕ) (o : Outcome M) → ItemsAreOne → (limit : ℕ) → IsWithinDepth most limit → HoldsBefore m root limit (λ left rest. MeansAt most m root left rest o)
+pub means_before : {M : Type 0} (most : Option ℕ) (m : M) (root : List ℕ) (o : Outcome M) →
+    ItemsAreOne → (limit : ℕ) → IsWithinDepth most limit →
+    HoldsBefore m root limit (λ left rest. MeansAt most m root left rest o)
 means_before most m root o only limit may = record {
   step = λ i left next rest form ends stands is behind k.
       let begins : BeginsItem i (bytes_of i ++ rest) rest = record { has_form = form; whole = refl; ends_well = ends } in
-      let proper : IsProper most root left i = record { known = is.known; matches = is.matches; names = is.names; within = λ deep. too_deep most (open_elements left) limit (is.within deep.0) may deep.1 } in
+      let proper : IsProper most root left i =
+      record {
+        known = is.known;
+        matches = is.matches;
+        names = is.names;
+        within = λ deep. too_deep most (open_elements left) limit (is.within deep.0) may deep.1;
+      } in
       item i begins stands (no_fault most m root left next (bytes_of i ++ rest) rest i only begins stands proper) (behind (suc k));
 }

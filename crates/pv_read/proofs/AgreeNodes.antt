@@ -37,38 +37,55 @@ within_of limit depth level within = omega arith
 deeper : (limit depth level : ℕ) → level + suc depth ≤ limit → suc level + depth ≤ limit
 deeper limit depth level within = omega arith
 
-pub text_means : {M : Type 0} (m : M) (root before : List ℕ) (inner : Open M) (outer : List (Open M)) (bytes rest : List ℕ) (limit : ℕ) (P : Left M → List ℕ → Type 0) → HoldsBefore m root limit P → IsCharacterData IsKnownReference bytes → IsRunEnd rest
+pub text_means : {M : Type 0} (m : M) (root before : List ℕ) (inner : Open M)
+    (outer : List (Open M)) (bytes rest : List ℕ) (limit : ℕ) (P : Left M → List ℕ → Type 0) →
+    HoldsBefore m root limit P → IsCharacterData IsKnownReference bytes → IsRunEnd rest
     → P (in_content before (with_kid inner (text_node (units_in bytes))) outer) rest → P (in_content before inner outer) (bytes ++ rest)
 text_means m root before inner outer bytes rest limit P steps chars ends behind =
     steps.step (text_run bytes) (in_content before inner outer) (in_content before (with_kid inner (text_node (units_in bytes))) outer) rest (data_form bytes chars) ends refl
     (record { known = chars; matches = λ is. is; names = λ is. is; within = λ is. let no_open : false ≡ true = is in cc }) behind
 
-pub empty_means : {M : Type 0} (m : M) (root : List ℕ) (left next : Left M) (name attrs rest : List ℕ) (limit : ℕ) (P : Left M → List ℕ → Type 0) → HoldsBefore m root limit P → IsName name → IsAttributes IsKnownReference attrs → left_by m left (empty_tag name attrs) ≡ Some next
+pub empty_means : {M : Type 0} (m : M) (root : List ℕ) (left next : Left M)
+    (name attrs rest : List ℕ) (limit : ℕ) (P : Left M → List ℕ → Type 0) →
+    HoldsBefore m root limit P → IsName name → IsAttributes IsKnownReference attrs →
+    left_by m left (empty_tag name attrs) ≡ Some next
     → suc (open_elements left) ≤ limit → P next rest → P left (codes "<" ++ name ++ attrs ++ codes "/>" ++ rest)
 empty_means m root left next name attrs rest limit P steps is_name are stands within behind =
     let whole : bytes_of (empty_tag name attrs) ++ rest ≡ codes "<" ++ name ++ attrs ++ codes "/>" ++ rest = simp append_assoc refl in
     subst (λ b. P left b) whole
     (steps.step (empty_tag name attrs) left next rest (is_name, attributes_form attrs are) tt stands (record { known = are; matches = λ is. is; names = λ is. is; within = λ is. within }) behind)
 
-start_means : {M : Type 0} (m : M) (root : List ℕ) (left next : Left M) (name attrs rest : List ℕ) (limit : ℕ) (P : Left M → List ℕ → Type 0) → HoldsBefore m root limit P → IsName name → IsAttributes IsKnownReference attrs → left_by m left (start_tag name attrs) ≡ Some next
+start_means : {M : Type 0} (m : M) (root : List ℕ) (left next : Left M) (name attrs rest : List ℕ)
+    (limit : ℕ) (P : Left M → List ℕ → Type 0) → HoldsBefore m root limit P → IsName name →
+    IsAttributes IsKnownReference attrs → left_by m left (start_tag name attrs) ≡ Some next
     → suc (open_elements left) ≤ limit → P next rest → P left (bytes_of (start_tag name attrs) ++ rest)
 start_means m root left next name attrs rest limit P steps is_name are stands within behind =
     steps.step (start_tag name attrs) left next rest (is_name, attributes_form attrs are) tt stands (record { known = are; matches = λ is. is; names = λ is. is; within = λ is. within }) behind
 
-end_means : {M : Type 0} (m : M) (root before : List ℕ) (inner : Open M) (outer : List (Open M)) (gap rest : List ℕ) (limit : ℕ) (P : Left M → List ℕ → Type 0) → HoldsBefore m root limit P → IsName inner.name → IsOptionalSpace gap
+end_means : {M : Type 0} (m : M) (root before : List ℕ) (inner : Open M) (outer : List (Open M))
+    (gap rest : List ℕ) (limit : ℕ) (P : Left M → List ℕ → Type 0) → HoldsBefore m root limit P →
+    IsName inner.name → IsOptionalSpace gap
     → P (joined_to before outer (closed_element m inner gap)) rest → P (in_content before inner outer) (bytes_of (end_tag inner.name gap) ++ rest)
 end_means m root before inner outer gap rest limit P steps is_name white behind =
     steps.step (end_tag inner.name gap) (in_content before inner outer) (joined_to before outer (closed_element m inner gap)) rest (is_name, white) tt refl
     (record { known = tt; matches = λ is. is refl; names = λ is. is; within = λ is. let no_open : false ≡ true = is in cc }) behind
 
 -- a start tag, the content and the end tag
-pub tagged_means : {M : Type 0} (m : M) (root : List ℕ) (left : Left M) (before name attrs gap content rest : List ℕ) (kids : Forest M) (outer : List (Open M)) (limit : ℕ) (P : Left M → List ℕ → Type 0) → HoldsBefore m root limit P
-    → IsName name → IsAttributes IsKnownReference attrs → IsOptionalSpace gap → left_by m left (start_tag name attrs) ≡ Some (in_content before (just_opened name attrs) outer) → suc (open_elements left) ≤ limit
-    → (P (in_content before (more_kids (just_opened name attrs) (trees_of kids)) outer) (bytes_of (end_tag name gap) ++ rest) → P (in_content before (just_opened name attrs) outer) (content ++ (bytes_of (end_tag name gap) ++ rest)))
+pub tagged_means : {M : Type 0} (m : M) (root : List ℕ) (left : Left M)
+    (before name attrs gap content rest : List ℕ) (kids : Forest M) (outer : List (Open M))
+    (limit : ℕ) (P : Left M → List ℕ → Type 0) → HoldsBefore m root limit P
+    → IsName name → IsAttributes IsKnownReference attrs → IsOptionalSpace gap →
+    left_by m left (start_tag name attrs) ≡ Some (in_content before (just_opened name attrs)
+    outer) → suc (open_elements left) ≤ limit
+    → (P (in_content before (more_kids (just_opened name attrs) (trees_of kids)) outer)
+    (bytes_of (end_tag name gap) ++ rest) → P (in_content before (just_opened name attrs) outer)
+    (content ++ (bytes_of (end_tag name gap) ++ rest)))
     → P (joined_to before outer (element name attrs (tagged gap) kids m)) rest
     → P left (codes "<" ++ name ++ attrs ++ codes ">" ++ content ++ codes "</" ++ name ++ gap ++ codes ">" ++ rest)
 tagged_means m root left before name attrs gap content rest kids outer limit P steps is_name are white stands within inside behind =
-    let whole : bytes_of (start_tag name attrs) ++ (content ++ (bytes_of (end_tag name gap) ++ rest)) ≡ codes "<" ++ name ++ attrs ++ codes ">" ++ content ++ codes "</" ++ name ++ gap ++ codes ">" ++ rest = simp append_assoc refl in
+    let whole : bytes_of (start_tag name attrs) ++ (content ++ (bytes_of (end_tag name gap)
+    ++ rest)) ≡ codes "<" ++ name ++ attrs ++ codes ">" ++ content ++ codes "</" ++ name ++ gap
+    ++ codes ">" ++ rest = simp append_assoc refl in
     let closes = subst (λ k. P (joined_to before outer (element name attrs (tagged gap) k m)) rest) (sym (forest-trees kids)) behind in
     subst (λ b. P left b) whole
     (start_means m root left (in_content before (just_opened name attrs) outer) name attrs (content ++ (bytes_of (end_tag name gap) ++ rest)) limit P steps is_name are stands within
@@ -83,17 +100,25 @@ text_then_none (misc_node misc) kids whole_run is = cc
 
 mutual
   -- a node after what is left in the root, where a text is a whole run
-  pub node_means : {M : Type 0} (m : M) (root before : List ℕ) (limit : ℕ) (P : Left M → List ℕ → Type 0) → HoldsBefore m root limit P → (t : Tree M) (inner : Open M) (outer : List (Open M)) (bytes rest : List ℕ) → SpellsNode t bytes → (is_text t ≡ true → IsRunEnd rest)
+  pub node_means : {M : Type 0} (m : M) (root before : List ℕ) (limit : ℕ) (P : Left M → List ℕ →
+      Type 0) → HoldsBefore m root limit P → (t : Tree M) (inner : Open M) (outer : List (Open M))
+      (bytes rest : List ℕ) → SpellsNode t bytes → (is_text t ≡ true → IsRunEnd rest)
       → suc (length outer) + depth_of t ≤ limit → P (in_content before (with_kid inner (map_marks (λ _. m) t)) outer) rest → P (in_content before inner outer) (bytes ++ rest)
   node_means m root before limit P steps (element x attrs short kids mark) inner outer bytes rest (name, are, none, whole) run within behind =
       let same : map_marks (λ _. m) (element x attrs short kids mark) ≡ empty_element m x attrs = rw none refl in
       subst (λ b. P (in_content before inner outer) (b ++ rest)) (sym whole)
-      (empty_means m root (in_content before inner outer) (in_content before (with_kid inner (empty_element m x attrs)) outer) x attrs rest limit P steps name are refl (within_of limit (depth_of_all kids) (suc (length outer)) within)
+      (empty_means m root (in_content before inner outer) (in_content before
+      (with_kid inner (empty_element m x attrs)) outer) x attrs rest limit P steps name are refl
+      (within_of limit (depth_of_all kids) (suc (length outer)) within)
       (subst (λ t. P (in_content before (with_kid inner t) outer) rest) same behind))
   node_means m root before limit P steps (element x attrs (tagged gap) kids mark) inner outer bytes rest (content, name, are, white, spells, whole) run within behind =
       subst (λ b. P (in_content before inner outer) (b ++ rest)) (sym whole)
-      (tagged_means m root (in_content before inner outer) before x attrs gap content rest (map_marks_all (λ _. m) kids) (inner ∷ outer) limit P steps name are white refl (within_of limit (depth_of_all kids) (suc (length outer)) within)
-      (content_means m root before limit P steps kids (just_opened x attrs) (inner ∷ outer) content (bytes_of (end_tag x gap) ++ rest) spells (inr (_, refl)) (deeper limit (depth_of_all kids) (suc (length outer)) within)) behind)
+      (tagged_means m root (in_content before inner outer) before x attrs gap content rest
+      (map_marks_all (λ _. m) kids) (inner ∷ outer) limit P steps name are white refl
+      (within_of limit (depth_of_all kids) (suc (length outer)) within)
+      (content_means m root before limit P steps kids (just_opened x attrs) (inner ∷ outer) content
+      (bytes_of (end_tag x gap) ++ rest) spells (inr (_, refl))
+      (deeper limit (depth_of_all kids) (suc (length outer)) within)) behind)
   node_means m root before limit P steps (text_node units) inner outer bytes rest (chars, all, whole) run within behind =
       text_means m root before inner outer bytes rest limit P steps chars (run refl)
       (subst (λ u. P (in_content before (with_kid inner (text_node u)) outer) rest) (units_are_cut units bytes all whole) behind)
@@ -107,7 +132,9 @@ mutual
       (record { known = tt; matches = λ is. is; names = λ is. is; within = λ is. let no_open : false ≡ true = is in cc }) behind)
 
   -- content after what is left in the root
-  pub content_means : {M : Type 0} (m : M) (root before : List ℕ) (limit : ℕ) (P : Left M → List ℕ → Type 0) → HoldsBefore m root limit P → (kids : Forest M) (inner : Open M) (outer : List (Open M)) (bytes rest : List ℕ) → SpellsContent kids bytes → IsRunEnd rest
+  pub content_means : {M : Type 0} (m : M) (root before : List ℕ) (limit : ℕ) (P : Left M → List ℕ →
+      Type 0) → HoldsBefore m root limit P → (kids : Forest M) (inner : Open M)
+      (outer : List (Open M)) (bytes rest : List ℕ) → SpellsContent kids bytes → IsRunEnd rest
       → suc (length outer) + depth_of_all kids ≤ limit → P (in_content before (more_kids inner (trees_of (map_marks_all (λ _. m) kids))) outer) rest
       → P (in_content before inner outer) (bytes ++ rest)
   content_means m root before limit P steps no_trees inner outer bytes rest spells ends within behind =

@@ -39,7 +39,9 @@ module _ {M : Type 0} (m : M) (root : List ℕ) (limit : ℕ) (P : Left M → Li
       (record { known = tt; matches = λ is. is; names = λ is. is; within = λ is. let no_open : false ≡ true = is in cc }) (behind step.0 step.2)
 
   -- Misc*, after white space that isn't a whole run yet
-  misc_means : (IsLeft : List ℕ → Left M → Type 0) → TakesMisc m IsLeft → (pieces : List (List ℕ)) → AllByRecursion IsMisc pieces → (white b rest : List ℕ) (left : Left M) → IsOptionalSpace white → IsLeft b left → IsRunEnd rest
+  misc_means : (IsLeft : List ℕ → Left M → Type 0) → TakesMisc m IsLeft → (pieces : List (List ℕ)) →
+      AllByRecursion IsMisc pieces → (white b rest : List ℕ) (left : Left M) →
+      IsOptionalSpace white → IsLeft b left → IsRunEnd rest
       → ((next : Left M) → IsLeft (b ++ (white ++ joined pieces)) next → P next rest) → P left (white ++ (joined pieces ++ rest))
   misc_means IsLeft takes [] all white b rest left space at ends behind =
       white_means IsLeft takes white b rest left space at ends (λ next is. behind next (subst (λ w. IsLeft (b ++ w) next) (sym (append-nil white)) is))
@@ -92,7 +94,14 @@ module _ {M : Type 0} (m : M) (root : List ℕ) (limit : ℕ) (P : Left M → Li
       (behind (in_prolog at_front mark) (at_front, ap (in_prolog at_front) (sym (append-nil mark) ∙ ap (λ d. mark ++ d) (sym none)), refl))
   declaration_means mark declaration rest (inr is) behind =
       steps.step (xml_declaration declaration) (in_prolog at_front mark) (in_prolog before_doctype (mark ++ declaration)) rest is tt refl
-      (record { known = tt; matches = λ is. is; names = λ is. is; within = λ is. let no_open : false ≡ true = is in cc }) (behind (in_prolog before_doctype (mark ++ declaration)) (before_doctype, refl, refl))
+      (record {
+        known = tt;
+        matches = λ is. is;
+        names = λ is. is;
+        within = λ is. let no_open : false
+            ≡ true = is in cc;
+      }) (behind (in_prolog before_doctype (mark ++ declaration))
+      (before_doctype, refl, refl))
 
   doctype_leaves : (b bytes : List ℕ) (left : Left M) → IsBehind true b left → left_by m left (doctype root bytes) ≡ Some (in_prolog behind_doctype (b ++ bytes))
   doctype_leaves b bytes left (at_front, at, may) = subst (λ l. left_by m l (doctype root bytes) ≡ Some (in_prolog behind_doctype (b ++ bytes))) (sym at) refl

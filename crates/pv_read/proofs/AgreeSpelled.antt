@@ -32,12 +32,17 @@ at_end most m root done before after t e = record {
   marks = record { on_document = refl; on_elements = e.proper.marks };
 }
 
-pub means_spelled : {M : Type 0} {most : Option ℕ} {m : M} {root rest : List ℕ} {k : ℕ} {left : Left M} {o : Outcome M} → KnownIsDecided → DocumentRestMeans most m root k left rest o → (doc : PlainDoc M) → o ≡ is_document doc
+pub means_spelled : {M : Type 0} {most : Option ℕ} {m : M} {root rest : List ℕ} {k : ℕ} {left : Left
+    M} {o : Outcome M} → KnownIsDecided → DocumentRestMeans most m root k left rest o →
+    (doc : PlainDoc M) → o ≡ is_document doc
     → (done : List ℕ) → Says most m root done left rest → SpellsMarked most m root (done ++ rest) doc
 means_spelled {most = most} {m = m} {root = root} decided (ends {before = before} {after = after} {rest = rest} {t = t} e) doc is done says =
     let same : record { before = before; root = t; after = after; mark = m } ≡ doc = cc in
     let whole : done ≡ done ++ rest = sym (ap (λ r. done ++ r) e ∙ append-nil done) in
-    subst (λ d. SpellsMarked most m root (done ++ rest) d) same (subst (λ b. SpellsMarked most m root b (record { before = before; root = t; after = after; mark = m })) whole (at_end most m root done before after t says))
+    subst (λ d. SpellsMarked most m root (done ++ rest) d) same
+    (subst (λ b. SpellsMarked most m root b
+    (record { before = before; root = t; after = after; mark = m })) whole
+    (at_end most m root done before after t says))
 means_spelled {most = most} {m = m} {root = root} decided (item {left = left} {next = next} {rest = rest} {more = more} i begins stands none below) doc is done says =
     let said = step most m root done rest more left next i says begins stands (proper_item decided begins stands none) in
     let spelled = means_spelled decided below doc is (done ++ bytes_of i) said in
@@ -45,7 +50,9 @@ means_spelled {most = most} {m = m} {root = root} decided (item {left = left} {n
 means_spelled decided (fault kind f) doc is done says = cc
 
 -- the byte order mark, or nothing, stands before the items
-mark_said : {M : Type 0} (most : Option ℕ) (m : M) (root bytes mark rest : List ℕ) → TakesByteOrderMark bytes mark rest → (bytes ≡ mark ++ rest) × Says {M = M} most m root mark (in_prolog at_front mark) rest
+mark_said : {M : Type 0} (most : Option ℕ) (m : M) (root bytes mark rest : List ℕ) →
+    TakesByteOrderMark bytes mark rest → (bytes ≡ mark ++ rest) × Says {M = M} most m root mark
+    (in_prolog at_front mark) rest
 mark_said most m root bytes mark rest (marked e) = (e, (inr refl, refl))
 mark_said most m root bytes mark rest (unmarked none) = (refl, (inl refl, refl))
 
@@ -54,7 +61,9 @@ pub record IsMarkedText {M : Type 0} (limits : TextLimits) (m : M) (root bytes :
   pub is_text : IsDocumentTextWithin limits root bytes doc
   pub marks : HasMarks m doc
 
-pub document_spelled : {M : Type 0} {limits : TextLimits} {m : M} {root bytes : List ℕ} {o : Outcome M} → KnownIsDecided → DocumentMeansWithin limits m root bytes o → (doc : PlainDoc M) → o ≡ is_document doc → IsMarkedText limits m root bytes doc
+pub document_spelled : {M : Type 0} {limits : TextLimits} {m : M} {root bytes : List ℕ} {o : Outcome
+    M} → KnownIsDecided → DocumentMeansWithin limits m root bytes o → (doc : PlainDoc M) →
+    o ≡ is_document doc → IsMarkedText limits m root bytes doc
 document_spelled decided (long more) doc is = cc
 document_spelled {limits = limits} {m = m} {root = root} {bytes = bytes} decided (items {mark = mark} {rest = rest} few starts means) doc is =
     let front = mark_said limits.depth m root bytes mark rest starts in

@@ -13,7 +13,7 @@ use Rattle.pv_chars.specs.Fronts.{Begins, BeginsNone}
 use Rattle.pv_chars.specs.References.{IsReference}
 use Rattle.pv_chars.specs.Texts.{joined}
 use Rattle.pv_chars.specs.Declarations.{IsPart, BeginsNoPart}
-use Rattle.pv_chars.proofs.Scanning.{begins, after_space-append, after_space-ended, after_blank-append}
+use Rattle.pv_chars.proofs.TextScans.{begins, after_space-append, after_space-ended, after_blank-append}
 use Rattle.pv_chars.proofs.CharacterLemmas.{nothing_begins, cut_at}
 use Rattle.pv_chars.proofs.SpaceLemmas.{space_is_ascii, space_in_no_name, ascii_ends}
 use Rattle.pv_chars.proofs.NameLemmas.{same_name}
@@ -77,7 +77,9 @@ end_is_no_name : (more : List ℕ) → ends_tag more ≡ true → BeginsNoName m
 end_is_no_name [] e name rest is whole = nothing_begins is_name_start is.first (is.others ++ rest) is.is_start (whole ∙ ap (λ l. l ++ rest) is.whole ∙ append_assoc _ is.others rest)
 end_is_no_name (b ∷ bs) e name rest is whole =
     let ends = ends_by b bs e in
-    ascii_ends is_name_char b bs ends.low ends.no_name is.first (is.others ++ rest) (name_start_is_name_char is.first is.is_start) (whole ∙ ap (λ l. l ++ rest) is.whole ∙ append_assoc _ is.others rest)
+    ascii_ends is_name_char b bs ends.low ends.no_name is.first (is.others ++ rest)
+    (name_start_is_name_char is.first is.is_start) (whole ∙ ap (λ l. l ++ rest) is.whole
+    ∙ append_assoc _ is.others rest)
 
 long : (xs : List ℕ) → xs ≢ [] → 0 < length xs
 long [] some = absurd (some refl)
@@ -100,7 +102,12 @@ all_push P (x ∷ xs) p all is = (all.0, all_push P xs p all.1 is)
 pub piece_more : (P : List ℕ → Type 0) (bytes rest more : List ℕ) → HasPieces P bytes rest → Begins P rest more → HasPieces P bytes more
 piece_more P bytes rest more h b = record {
   front = h.front ++ b.item;
-  are_made = record { pieces = h.are_made.pieces ++ b.item ∷ []; are_pieces = all_push P h.are_made.pieces b.item h.are_made.are_pieces b.is_item; whole = ap (λ l. l ++ b.item) h.are_made.whole ∙ sym (joined_push h.are_made.pieces b.item) };
+  are_made = record {
+    pieces = h.are_made.pieces ++ b.item ∷ [];
+    are_pieces = all_push P h.are_made.pieces b.item h.are_made.are_pieces b.is_item;
+    whole =
+        ap (λ l. l ++ b.item) h.are_made.whole ∙ sym (joined_push h.are_made.pieces b.item);
+  };
   whole = h.whole ∙ ap (λ l. h.front ++ l) b.whole ∙ sym (append_assoc h.front b.item more);
 }
 
@@ -123,7 +130,20 @@ module _ (R : List ℕ → Type 0) (are_references : (bytes : List ℕ) → R by
   steps bytes rest b =
       let is = b.is_item in
       let v = value_is_quoted R are_references is.value is.is_value in
-      let part : Begins (IsPart is.name is.is_value.value) bytes rest = record { item = b.item; is_item = record { space = is.space; equals = is.equals; quoted = is.value; is_space = is.is_space; is_eq = is.is_eq; is_quoted = v.0; whole = is.whole }; whole = b.whole } in
+      let part : Begins (IsPart is.name is.is_value.value) bytes rest =
+      record {
+        item = b.item;
+        is_item = record {
+          space = is.space;
+          equals = is.equals;
+          quoted = is.value;
+          is_space = is.is_space;
+          is_eq = is.is_eq;
+          is_quoted = v.0;
+          whole = is.whole;
+        };
+        whole = b.whole;
+      } in
       let s = part_steps is.name bytes is.is_value.value rest (name_some is.name is.is_name) (name_alone_black is.name is.is_name) part in
       record {
         name = is.name;
@@ -141,7 +161,18 @@ module _ (R : List ℕ → Type 0) (are_references : (bytes : List ℕ) → R by
       let p = b.is_item in
       record {
         item = b.item;
-        is_item = record { space = p.space; name = name; equals = p.equals; value = p.quoted; is_space = p.is_space; is_name = is; is_eq = p.is_eq; is_value = quoted_is_value R are_references value p.quoted p.is_quoted made; whole = p.whole };
+        is_item = record {
+          space = p.space;
+          name = name;
+          equals = p.equals;
+          value = p.quoted;
+          is_space = p.is_space;
+          is_name = is;
+          is_eq = p.is_eq;
+          is_value =
+              quoted_is_value R are_references value p.quoted p.is_quoted made;
+          whole = p.whole;
+        };
         whole = b.whole;
       }
 
@@ -167,7 +198,10 @@ module _ (R : List ℕ → Type 0) (are_references : (bytes : List ℕ) → R by
       let s = steps bytes rest b in
       none s.value rest (subst (λ (n : List ℕ). Begins (IsPart n s.value) bytes rest) (same_first bytes start name after rest e taken s) s.is_part)
 
-  pub none_by_value : (bytes start name after value more : List ℕ) → after_blank bytes ≡ Some start → TakesName start name after → Begins (IsPart name value) bytes more → (AreMadeOf (IsTextPiece R) value → ⊥) → BeginsNone (IsAttribute R) bytes
+  pub none_by_value : (bytes start name after value more : List ℕ) →
+      after_blank bytes ≡ Some start → TakesName start name after →
+      Begins (IsPart name value) bytes more → (AreMadeOf (IsTextPiece R) value → ⊥) →
+      BeginsNone (IsAttribute R) bytes
   none_by_value bytes start name after value more e taken part never rest b =
       let s = steps bytes rest b in
       let own = subst (λ (n : List ℕ). Begins (IsPart n s.value) bytes rest) (same_first bytes start name after rest e taken s) s.is_part in
@@ -194,23 +228,32 @@ module _ (R : List ℕ → Type 0) (are_references : (bytes : List ℕ) → R by
   none_at_end (x ∷ xs) more s e rest b =
       none_by_name ((x ∷ xs) ++ more) more (after_blank-append (x ∷ xs) more record { some = λ none. cc; space = s } (end_is_black more e)) (end_is_no_name more e) rest b
 
-  same_pieces : (ps qs : List (List ℕ)) (s t r m : List ℕ) → AllByRecursion (IsAttribute R) ps → AllByRecursion (IsAttribute R) qs → IsOptionalSpace s → IsOptionalSpace t → begins is_space r ≡ false → BeginsNone (IsAttribute R) (s ++ r) → ends_tag m ≡ true → joined ps ++ (s ++ r) ≡ joined qs ++ (t ++ m) → (joined ps ++ s ≡ joined qs ++ t) × (r ≡ m)
+  same_pieces : (ps qs : List (List ℕ)) (s t r m : List ℕ) → AllByRecursion (IsAttribute R) ps →
+      AllByRecursion (IsAttribute R) qs → IsOptionalSpace s → IsOptionalSpace t →
+      begins is_space r ≡ false → BeginsNone (IsAttribute R) (s ++ r) → ends_tag m ≡ true →
+      joined ps ++ (s ++ r) ≡ joined qs ++ (t ++ m) → (joined ps ++ s ≡ joined qs ++ t) × (r ≡ m)
   same_pieces [] [] s t r m all others white space black none ends e =
       let rests : r ≡ m = sym (after_space-append s r white black) ∙ ap after_space e ∙ after_space-append t m space (end_is_black m ends) in
       (before s t r (e ∙ ap (λ l. t ++ l) (sym rests)), rests)
-  same_pieces [] (q ∷ qs) s t r m all others white space black none ends e = absurd (none (joined qs ++ (t ++ m)) record { item = q; is_item = others.0; whole = e ∙ append_assoc q (joined qs) (t ++ m) })
+  same_pieces [] (q ∷ qs) s t r m all others white space black none ends e =
+      absurd (none (joined qs
+      ++ (t ++ m)) record { item = q; is_item = others.0; whole = e ∙ append_assoc q (joined qs) (t ++ m) })
   same_pieces (p ∷ ps) [] s t r m all others white space black none ends e =
       absurd (none_at_end t m space ends (joined ps ++ (s ++ r)) record { item = p; is_item = all.0; whole = sym e ∙ append_assoc p (joined ps) (s ++ r) })
   same_pieces (p ∷ ps) (q ∷ qs) s t r m all others white space black none ends e =
       let left = append_assoc p (joined ps) (s ++ r) in
       let right = append_assoc q (joined qs) (t ++ m) in
       let whole : p ++ (joined ps ++ (s ++ r)) ≡ q ++ (joined qs ++ (t ++ m)) = sym left ∙ e ∙ right in
-      let rests = one_attribute (p ++ (joined ps ++ (s ++ r))) (joined ps ++ (s ++ r)) (joined qs ++ (t ++ m)) record { item = p; is_item = all.0; whole = refl } record { item = q; is_item = others.0; whole = whole } in
+      let rests = one_attribute (p ++ (joined ps ++ (s ++ r))) (joined ps ++ (s ++ r)) (joined qs
+      ++ (t ++ m)) record { item = p; is_item = all.0; whole = refl }
+      record { item = q; is_item = others.0; whole = whole } in
       let first : p ≡ q = before p q (joined ps ++ (s ++ r)) (whole ∙ ap (λ l. q ++ l) (sym rests)) in
       let below = same_pieces ps qs s t r m all.1 others.1 white space black none ends rests in
       (append_assoc p (joined ps) s ∙ (λ i. first i ++ below.0 i) ∙ sym (append_assoc q (joined qs) t), below.1)
 
-  pub takes_attributes : (bytes end rest : List ℕ) → TakesPieces (IsAttribute R) bytes end → TakesSpace end rest → TakesAttributes R bytes (take (length bytes - length rest) bytes) (drop (length bytes - length rest) bytes)
+  pub takes_attributes : (bytes end rest : List ℕ) → TakesPieces (IsAttribute R) bytes end →
+      TakesSpace end rest → TakesAttributes R bytes (take (length bytes - length rest) bytes)
+      (drop (length bytes - length rest) bytes)
   takes_attributes bytes end rest taken s =
       let attrs = taken.front ++ s.space in
       let whole : bytes ≡ attrs ++ rest = taken.whole ∙ ap (λ l. taken.front ++ l) s.whole ∙ sym (append_assoc taken.front s.space rest) in
@@ -222,7 +265,9 @@ module _ (R : List ℕ → Type 0) (are_references : (bytes : List ℕ) → R by
             let p = taken.are_made in
             let q = is.are_attributes in
             let own : joined p.pieces ++ (s.space ++ rest) ≡ joined q.pieces ++ (is.space ++ more) =
-            ap (λ l. l ++ (s.space ++ rest)) (sym p.whole) ∙ ap (λ l. taken.front ++ l) (sym s.whole) ∙ sym taken.whole ∙ e ∙ ap (λ l. l ++ more) is.whole ∙ append_assoc is.attributes is.space more ∙ ap (λ l. l ++ (is.space ++ more)) q.whole in
+            ap (λ l. l ++ (s.space ++ rest)) (sym p.whole) ∙ ap (λ l. taken.front ++ l)
+            (sym s.whole) ∙ sym taken.whole ∙ e ∙ ap (λ l. l ++ more) is.whole
+            ∙ append_assoc is.attributes is.space more ∙ ap (λ l. l ++ (is.space ++ more)) q.whole in
             let none : BeginsNone (IsAttribute R) (s.space ++ rest) = subst (λ (l : List ℕ). BeginsNone (IsAttribute R) l) s.whole taken.ends in
             let same = same_pieces p.pieces q.pieces s.space is.space rest more p.are_pieces q.are_pieces s.optional is.is_space s.ends none ends own in
             (ap (λ l. l ++ s.space) p.whole ∙ same.0 ∙ ap (λ l. l ++ is.space) (sym q.whole) ∙ sym is.whole, same.1);
@@ -234,7 +279,9 @@ module _ (R : List ℕ → Type 0) (are_references : (bytes : List ℕ) → R by
       let p = is.are_attributes in
       let q = other.are_attributes in
       let own : joined p.pieces ++ (is.space ++ r) ≡ joined q.pieces ++ (other.space ++ m) =
-      ap (λ l. l ++ (is.space ++ r)) (sym p.whole) ∙ sym (append_assoc is.attributes is.space r) ∙ ap (λ l. l ++ r) (sym is.whole) ∙ e ∙ ap (λ l. l ++ m) other.whole ∙ append_assoc other.attributes other.space m ∙ ap (λ l. l ++ (other.space ++ m)) q.whole in
+      ap (λ l. l ++ (is.space ++ r)) (sym p.whole) ∙ sym (append_assoc is.attributes is.space r)
+      ∙ ap (λ l. l ++ r) (sym is.whole) ∙ e ∙ ap (λ l. l ++ m) other.whole
+      ∙ append_assoc other.attributes other.space m ∙ ap (λ l. l ++ (other.space ++ m)) q.whole in
       let same = same_pieces p.pieces q.pieces is.space other.space r m p.are_pieces q.are_pieces is.is_space other.is_space (end_is_black r ends) (none_at_end is.space r is.is_space ends) more own in
       (is.whole ∙ ap (λ l. l ++ is.space) p.whole ∙ same.0 ∙ ap (λ l. l ++ other.space) (sym q.whole) ∙ sym other.whole, same.1)
 
@@ -244,7 +291,9 @@ module _ (R : List ℕ → Type 0) (are_references : (bytes : List ℕ) → R by
   first_white [] (y ∷ ys) x xs all white e = let same : y ≡ x = cc in subst (λ (b : ℕ). is_space b ≡ true) same (and_parts (is_space y) (list_all is_space ys) white).0
   first_white (p ∷ ps) space x xs all white e =
       let is = all.0 in
-      by _ is.space is.is_space.some is.is_space.space (e ∙ append_assoc p (joined ps) space ∙ ap (λ l. l ++ (joined ps ++ space)) is.whole ∙ append_assoc is.space (is.name ++ (is.equals ++ is.value)) (joined ps ++ space))
+      by _ is.space is.is_space.some is.is_space.space (e ∙ append_assoc p (joined ps) space
+      ∙ ap (λ l. l ++ (joined ps ++ space)) is.whole ∙ append_assoc is.space (is.name
+      ++ (is.equals ++ is.value)) (joined ps ++ space))
     where
       by : (others s : List ℕ) → s ≢ [] → IsOptionalSpace s → x ∷ xs ≡ s ++ others → is_space x ≡ true
       by others [] some white f = absurd (some refl)

@@ -22,7 +22,7 @@ use Rattle.pv_read.specs.declared.errors.DocError.{DocError}
 use Rattle.pv_read.specs.declared.open.OpenElements.{OpenElements}
 use Rattle.pv_read.proofs.NextItems.{takes}
 use Rattle.pv_read.proofs.Prologs.{same_some, takes_leads}
-use Rattle.pv_read.proofs.Refusing.{Refuses-weaker}
+use Rattle.pv_read.proofs.RefusedRests.{Refuses-weaker}
 
 plain-Text : (units : List (List ℕ)) → plain (Text units) ≡ text_node units
 plain-Text units = search (rules, the_lemmas)
@@ -31,7 +31,9 @@ no_empty : false ≡ true → ⊥
 no_empty e = cc
 
 -- a text run stands in an element without fault
-text_taken : (one_item : ItemsAreDetermined) (most : Option ℕ) (root before : List ℕ) (inner : Open Mark) (outer : List (Open Mark)) (rest : List ℕ) {units : List (List ℕ)} {more : List ℕ} (t : BeginsText rest units more)
+text_taken : (one_item : ItemsAreDetermined) (most : Option ℕ) (root before : List ℕ)
+    (inner : Open Mark) (outer : List (Open Mark)) (rest : List ℕ) {units : List
+    (List ℕ)} {more : List ℕ} (t : BeginsText rest units more)
     → TakesItem most blank_mark root (in_content before inner outer) rest (text_run t.run) more
 text_taken one_item most root before inner outer rest {units} {more} t =
     takes one_item most blank_mark root (in_content before inner outer) rest (λ h. no_empty h.0) (text_run t.run) more t.begins
@@ -69,12 +71,16 @@ markup_taken most root inner outer rest (end_tag name gap) more no_text t = refl
 markup_taken most root inner outer rest (text_run bytes) more no_text t =
     absurd (t.no_fault entity record { item = text_run bytes; more = more; next = t.next; begins = t.begins; may_stand = t.stands; has_property = no_text bytes more t.begins })
 
-pub refused_at : (most : Option ℕ) (root : List ℕ) (old : OpenElements) (rest : List ℕ) (place : PlainPlace) (at : (before : List ℕ) → place_reached (left_in before old) ≡ place) (count : ℕ) (e : DocError)
+pub refused_at : (most : Option ℕ) (root : List ℕ) (old : OpenElements) (rest : List ℕ)
+    (place : PlainPlace) (at : (before : List ℕ) → place_reached (left_in before old) ≡ place)
+    (count : ℕ) (e : DocError)
     → ((left : Left Mark) → place_reached left ≡ place → Refuses (DocumentRestMeans most blank_mark root count left rest) e)
     → (before : List ℕ) → Refuses (DocumentRestMeans most blank_mark root count (left_in before old) rest) e
 refused_at most root old rest place at count e refuses before = refuses (left_in before old) (at before)
 
-pub refused_content : {most : Option ℕ} {root name attrs bytes : List ℕ} {first : ℕ} {elements : OpenElements} {rest : List ℕ} {count : ℕ} (r : ReadsContent most root name attrs bytes first elements rest count) (e : DocError)
+pub refused_content : {most : Option ℕ} {root name attrs bytes : List
+    ℕ} {first : ℕ} {elements : OpenElements} {rest : List ℕ} {count : ℕ}
+    (r : ReadsContent most root name attrs bytes first elements rest count) (e : DocError)
     → ((before : List ℕ) → Refuses (DocumentRestMeans most blank_mark root count (left_in before elements) rest) e)
     → (before : List ℕ) → Refuses (DocumentRestMeans most blank_mark root first (in_content before (record { name = name; attrs = attrs; kids = [] }) []) bytes) e
 refused_content r e refuses before = Refuses-weaker _ _ (r.leads before) e (refuses before)

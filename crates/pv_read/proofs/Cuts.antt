@@ -13,17 +13,27 @@ use Rattle.pv_chars.specs.Fronts.{ContainsBytes}
 use Rattle.pv_chars.specs.Units.{is_literal, is_simple}
 use Rattle.pv_chars.proofs.CharacterLemmas.{AreAll-ascii}
 use Rattle.pv_chars.proofs.MarkupLemmas.{behind, none_before_end}
-use Rattle.pv_chars.proofs.Delimited.{byte_ends, byte_nowhere}
+use Rattle.pv_chars.proofs.DelimiterPlaces.{byte_ends, byte_nowhere}
 use Rattle.pv_read.specs.Takes.{IsCutBefore}
 use Rattle.pv_read.proofs.Absent.{has_no, by_holds, not_behind, holds_not, parts_have_no, all_have_no}
 
-pub cut_found : (byte : ℕ) (bytes before found : List ℕ) (k : ℕ) → Passes (is_byte byte) bytes k → NoneBefore (Passes (is_byte byte) bytes) 0 (length bytes) k → before ≡ take k bytes → found ≡ drop k bytes → IsCutBefore byte bytes before found
+pub cut_found : (byte : ℕ) (bytes before found : List ℕ) (k : ℕ) → Passes (is_byte byte) bytes k →
+    NoneBefore (Passes (is_byte byte) bytes) 0 (length bytes) k → before ≡ take k bytes →
+    found ≡ drop k bytes → IsCutBefore byte bytes before found
 cut_found byte bytes before found k passes none front back =
     let ends = byte_ends byte bytes before found (drop 1 found) k passes none front back refl in
     let whole : bytes ≡ before ++ found = sym (take-append-drop k bytes) ∙ ap (λ l. l ++ drop k bytes) (sym front) ∙ ap (λ l. before ++ l) (sym back) in
-    record { whole = whole; free = none_before_end (byte ∷ []) bytes before (drop 1 found) (omega arith) ends; ends = inr (drop 1 found, behind before found (byte ∷ drop 1 found) (sym whole ∙ ends.whole)) }
+    record {
+      whole = whole;
+      free = none_before_end (byte ∷ []) bytes before (drop 1 found)
+          (omega arith) ends;
+      ends =
+          inr (drop 1 found, behind before found (byte ∷ drop 1 found) (sym whole ∙ ends.whole));
+    }
 
-pub cut_nowhere : (byte : ℕ) (bytes before rest : List ℕ) → Nowhere (Passes (is_byte byte) bytes) 0 (length bytes) → before ≡ take (length bytes) bytes → rest ≡ drop (length bytes) bytes → IsCutBefore byte bytes before rest
+pub cut_nowhere : (byte : ℕ) (bytes before rest : List ℕ) → Nowhere (Passes (is_byte byte) bytes) 0
+    (length bytes) → before ≡ take (length bytes) bytes → rest ≡ drop (length bytes) bytes →
+    IsCutBefore byte bytes before rest
 cut_nowhere byte bytes before rest none front back =
     let all : before ≡ bytes = front ∙ take_all (length bytes) bytes (omega arith) in
     let whole : bytes ≡ before ++ rest = sym (take-append-drop (length bytes) bytes) ∙ ap (λ l. l ++ drop (length bytes) bytes) (sym front) ∙ ap (λ l. before ++ l) (sym back) in
@@ -54,12 +64,20 @@ pub literals_are_chars : (bytes : List ℕ) → AreAll is_literal bytes → IsCh
 literals_are_chars bytes all = record { codes = all.codes; pass = chars_of all.codes all.pass; spelled = all.spelled }
 
 -- where neither `<` nor `&` is among them
-pub literals_where : (bytes : List ℕ) (chars : Bool) → (ContainsBytes bytes (60 ∷ []) → ⊥) → (ContainsBytes bytes (38 ∷ []) → ⊥) → (IsTrue chars → IsChars bytes) × (IsChars bytes → IsTrue chars) → (IsTrue chars → AreAll is_literal bytes) × (AreAll is_literal bytes → IsTrue chars)
+pub literals_where : (bytes : List ℕ) (chars : Bool) → (ContainsBytes bytes (60 ∷ []) → ⊥) →
+    (ContainsBytes bytes (38 ∷ []) → ⊥) → (IsTrue chars → IsChars bytes) × (IsChars bytes →
+    IsTrue chars) → (IsTrue chars → AreAll is_literal bytes) × (AreAll is_literal bytes → IsTrue chars)
 literals_where bytes chars less ampersand tells = (
   (λ t. let all = tells.0 t in
       let spelled = all.spelled in
       let Q : ℕ → List ℕ → Type 0 = λ b l. has_no b l ≡ true in
-      record { codes = all.codes; pass = literals_of all.codes all.pass (subst (λ (l : List ℕ). Q 60 l) spelled (by_holds 60 bytes less)) (subst (λ (l : List ℕ). Q 38 l) spelled (by_holds 38 bytes ampersand)); spelled = spelled }),
+      record {
+        codes = all.codes;
+        pass = literals_of all.codes all.pass
+            (subst (λ (l : List ℕ). Q 60 l) spelled (by_holds 60 bytes less))
+            (subst (λ (l : List ℕ). Q 38 l) spelled (by_holds 38 bytes ampersand));
+        spelled = spelled;
+      }),
   (λ all. tells.1 (literals_are_chars bytes all)),
 )
 

@@ -9,7 +9,7 @@ use Rattle.pv_chars.specs.Names.{TakesName, BeginsNoName}
 use Rattle.pv_chars.specs.Fronts.{Begins, BeginsNone}
 use Rattle.pv_chars.specs.Declarations.{IsOptional}
 use Rattle.pv_chars.proofs.MarkupLemmas.{behind}
-use Rattle.pv_chars.proofs.Scanning.{begins, after_space_takes, after_space-append, after_blank-append, after_blank_takes}
+use Rattle.pv_chars.proofs.TextScans.{begins, after_space_takes, after_space-append, after_blank-append, after_blank_takes}
 use Rattle.pv_chars.proofs.CharacterLemmas.{cut_at}
 use Rattle.pv_chars.proofs.NameLemmas.{same_name}
 use Rattle.pv_chars.proofs.SpaceLemmas.{ascii_ends, space_ends_name}
@@ -91,7 +91,12 @@ front_steps inside name front more i e ends = by i.is_external
     after = i.external ++ (i.gap ++ more)
 
     whole : inside ≡ i.space ++ (name ++ after)
-    whole = behind (codes "<!DOCTYPE") inside (i.space ++ (name ++ after)) (e ∙ ap (λ l. l ++ more) i.whole ∙ append_assoc (codes "<!DOCTYPE") (i.space ++ (name ++ (i.external ++ i.gap))) more ∙ ap (λ l. codes "<!DOCTYPE" ++ l) (append_assoc i.space (name ++ (i.external ++ i.gap)) more ∙ ap (λ l. i.space ++ l) (append_assoc name (i.external ++ i.gap) more ∙ ap (λ l. name ++ l) (append_assoc i.external i.gap more))))
+    whole = behind (codes "<!DOCTYPE") inside (i.space ++ (name ++ after)) (e
+        ∙ ap (λ l. l ++ more) i.whole ∙ append_assoc (codes "<!DOCTYPE") (i.space
+        ++ (name ++ (i.external ++ i.gap))) more ∙ ap (λ l. codes "<!DOCTYPE" ++ l)
+        (append_assoc i.space (name ++ (i.external ++ i.gap)) more ∙ ap (λ l. i.space ++ l)
+        (append_assoc name (i.external ++ i.gap) more
+        ∙ ap (λ l. name ++ l) (append_assoc i.external i.gap more))))
 
     blank : after_blank inside ≡ Some (name ++ after)
     blank = ap after_blank whole ∙ after_blank-append i.space (name ++ after) i.is_space (name_black name after i.is_name)
@@ -137,7 +142,12 @@ front_by bytes inside name more e s = by s.passed
     made external is f = (
       codes "<!DOCTYPE" ++ (space.space ++ (name ++ (external ++ gap.space))),
       record { space = space.space; external = external; gap = gap.space; is_space = space.some; is_name = s.named.is_name; is_external = is; is_gap = gap.optional; whole = refl },
-      e ∙ ap (λ l. codes "<!DOCTYPE" ++ l) (space.whole ∙ ap (λ l. space.space ++ l) (s.named.whole ∙ ap (λ l. name ++ l) (f ∙ ap (λ l. external ++ l) end_is ∙ sym (append_assoc external gap.space more)) ∙ sym (append_assoc name (external ++ gap.space) more)) ∙ sym (append_assoc space.space (name ++ (external ++ gap.space)) more)) ∙ sym (append_assoc (codes "<!DOCTYPE") (space.space ++ (name ++ (external ++ gap.space))) more),
+      e ∙ ap (λ l. codes "<!DOCTYPE" ++ l) (space.whole ∙ ap (λ l. space.space ++ l) (s.named.whole
+          ∙ ap (λ l. name ++ l) (f ∙ ap (λ l. external ++ l) end_is
+          ∙ sym (append_assoc external gap.space more)) ∙ sym (append_assoc name (external
+          ++ gap.space) more)) ∙ sym (append_assoc space.space (name ++ (external ++ gap.space))
+          more)) ∙ sym (append_assoc (codes "<!DOCTYPE") (space.space
+          ++ (name ++ (external ++ gap.space))) more),
     )
 
     by : Passes IsExternalId s.after s.end → (front : List ℕ) × IsDoctypeFront name front × (bytes ≡ front ++ more)
@@ -156,7 +166,13 @@ same_front inside name more other another s t =
 pub takes_front : (bytes inside name rest : List ℕ) → bytes ≡ codes "<!DOCTYPE" ++ inside → FrontSteps inside name rest → TakesDoctypeFront bytes name rest
 takes_front bytes inside name rest e s =
     let front = front_by bytes inside name rest e s in
-    record { front = front.0; is_front = front.1; whole = front.2; only = λ other another more is f ends. same_front inside name rest other more s (front_steps inside other another more is (sym e ∙ f) ends) }
+    record {
+      front = front.0;
+      is_front = front.1;
+      whole = front.2;
+      only = λ other another more is f ends. same_front inside name rest other more s
+          (front_steps inside other another more is (sym e ∙ f) ends);
+    }
 
 -- ---- where none is
 pub no_front_word : (bytes : List ℕ) → ((rest : List ℕ) → bytes ≢ codes "<!DOCTYPE" ++ rest) → BeginsNoDoctypeFront bytes
@@ -184,20 +200,28 @@ pub no_doctype_front : (bytes : List ℕ) → BeginsNoDoctypeFront bytes → Beg
 no_doctype_front bytes none = no_doctype_by bytes (λ name item rest b. none name b.has_form.front (codes ">" ++ rest) b.has_form.is_front (doctype_whole name item bytes rest b) refl)
 
 pub no_doctype_end : (bytes name end : List ℕ) → TakesDoctypeFront bytes name end → ((rest : List ℕ) → end ≢ codes ">" ++ rest) → BeginsNoneOf sort.Doctype bytes
-no_doctype_end bytes name end taken none = no_doctype_by bytes (λ other item rest b. none rest (taken.only other b.has_form.front (codes ">" ++ rest) b.has_form.is_front (doctype_whole other item bytes rest b) refl).1)
+no_doctype_end bytes name end taken none = no_doctype_by bytes (λ other item rest b. none rest
+    (taken.only other b.has_form.front (codes ">" ++ rest) b.has_form.is_front
+    (doctype_whole other item bytes rest b) refl).1)
 
-pub doctype_by : (bytes name end rest item : List ℕ) → TakesDoctypeFront bytes name end → end ≡ codes ">" ++ rest → item ≡ take (length bytes - length rest) bytes → BeginsItem (doctype name item) bytes rest
+pub doctype_by : (bytes name end rest item : List ℕ) → TakesDoctypeFront bytes name end →
+    end ≡ codes ">" ++ rest → item ≡ take (length bytes - length rest) bytes →
+    BeginsItem (doctype name item) bytes rest
 doctype_by bytes name end rest item taken e f =
     let own = taken.front ++ codes ">" in
     let whole : bytes ≡ own ++ rest = taken.whole ∙ ap (λ l. taken.front ++ l) e ∙ sym (append_assoc taken.front (codes ">") rest) in
     let same : item ≡ own = f ∙ (cut_at bytes own rest whole).0 in
     rw same record { has_form = record { front = taken.front; is_front = taken.is_front; whole = refl }; whole = whole; ends_well = tt }
 
-pub same_doctype : (name item rest other another more bytes : List ℕ) → BeginsItem (doctype name item) bytes rest → BeginsItem (doctype other another) bytes more → (name ≡ other) × (item ≡ another) × (rest ≡ more)
+pub same_doctype : (name item rest other another more bytes : List ℕ) →
+    BeginsItem (doctype name item) bytes rest → BeginsItem (doctype other another) bytes more →
+    (name ≡ other) × (item ≡ another) × (rest ≡ more)
 same_doctype name item rest other another more bytes b c =
     let i = b.has_form.is_front in
     let inside = (i.space ++ (name ++ (i.external ++ i.gap))) ++ (codes ">" ++ rest) in
-    let e : bytes ≡ codes "<!DOCTYPE" ++ inside = doctype_whole name item bytes rest b ∙ ap (λ l. l ++ (codes ">" ++ rest)) i.whole ∙ append_assoc (codes "<!DOCTYPE") (i.space ++ (name ++ (i.external ++ i.gap))) (codes ">" ++ rest) in
+    let e : bytes ≡ codes "<!DOCTYPE" ++ inside = doctype_whole name item bytes rest b
+    ∙ ap (λ l. l ++ (codes ">" ++ rest)) i.whole ∙ append_assoc (codes "<!DOCTYPE") (i.space
+    ++ (name ++ (i.external ++ i.gap))) (codes ">" ++ rest) in
     let s = front_steps inside name b.has_form.front (codes ">" ++ rest) i (sym e ∙ doctype_whole name item bytes rest b) refl in
     let t = front_steps inside other c.has_form.front (codes ">" ++ more) c.has_form.is_front (sym e ∙ doctype_whole other another bytes more c) refl in
     let same = same_front inside name (codes ">" ++ rest) other (codes ">" ++ more) s t in

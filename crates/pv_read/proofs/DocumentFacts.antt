@@ -1,5 +1,6 @@
 -- What each document keeps that some bytes spell.
-use Rattle.std.proofs.Common.{◌≡◌, ◌≢◌, ◌≤◌, ◌<◌, ◌+◌, ◌*◌, ℕ, List, [], ◌∷◌, ◌++◌, Bool, true, false, not, ◌&&◌, inl, inr, cond, IsTrue, codes, length, length-append, append-nil, refl, sym, ap, subst, ◌∙◌, arith}
+use Rattle.std.proofs.Common.{◌≡◌, ◌≢◌, ◌≤◌, ◌<◌, ◌+◌, ◌*◌, ℕ, List, [], ◌∷◌, ◌++◌, Bool, true, false, not, ◌&&◌, inl, inr, cond, IsTrue, codes}
+use Rattle.std.proofs.Common.{length, length-append, append-nil, refl, sym, ap, subst, ◌∙◌, arith}
 use Rattle.std.specs.List.{AllByRecursion}
 use Rattle.std.proofs.lemmas.Bool.{not-true, or_parts}
 use Rattle.pv_chars.specs.Names.{IsName}
@@ -14,7 +15,8 @@ use Rattle.pv_chars.specs.Units.{AllUnits, units_in}
 use Rattle.pv_tree.specs.Plain.{short, tagged, Tree, element, text_node, cdata_node, misc_node, Forest, no_trees, tree, nodes_in, nodes_in_all, is_element, PlainDoc, depth_of}
 use Rattle.pv_tree.specs.Attributes.{IsCharacterData, IsKnownReference, IsTextPiece}
 use Rattle.pv_tree.specs.Prolog.{IsCommentOrInstruction, IsProlog, IsEpilog}
-use Rattle.pv_tree.specs.Legal.{has_names, have_names, is_formed, are_formed, IsLegal, AreLegal, is_open, front_units, has_no_close_mark, have_no_close_mark, starts_no_close_mark, MAX_DEPTH, MAX_NODES}
+use Rattle.pv_tree.specs.Legal.{has_names, have_names, is_formed, are_formed, IsLegal, AreLegal, is_open, front_units, has_no_close_mark}
+use Rattle.pv_tree.specs.Legal.{have_no_close_mark, starts_no_close_mark, MAX_DEPTH, MAX_NODES}
 use Rattle.pv_tree.specs.Units.{HasUnits, HaveUnits}
 use Rattle.pv_read.specs.Grammar.{SpellsNode, SpellsContent, IsElement, IsWholeRun, begins_with_text, IsDocumentText}
 
@@ -130,7 +132,12 @@ mutual
 
   pub all_no_close_mark : {M : Type 0} (kids : Forest M) (bytes : List ℕ) → SpellsContent kids bytes → IsTrue (have_no_close_mark kids)
   all_no_close_mark no_trees bytes spells = refl
-  all_no_close_mark (tree t kids) bytes (first, more, spells, whole_run, below, whole) = rw (spelled_no_close_mark t first spells, text_starts_no_close_mark t kids first spells whole_run) (all_no_close_mark kids more below)
+  all_no_close_mark (tree t kids) bytes (first, more, spells, whole_run, below, whole) =
+      rw (
+        spelled_no_close_mark t first spells,
+        text_starts_no_close_mark t kids first spells
+            whole_run,
+      ) (all_no_close_mark kids more below)
 
 -- ---- two nodes take at least five bytes, where no text stands in front
 abbrev slack : {M : Type 0} → Forest M → ℕ
@@ -169,7 +176,9 @@ misc_length bytes (inr is) = instruction_length bytes is
 short_length : (x attrs : List ℕ) → length (codes "<" ++ x ++ attrs ++ codes "/>") ≡ 3 + length x + length attrs
 short_length x attrs = simp length-append (omega arith)
 
-tagged_length : (x attrs content gap : List ℕ) → length (codes "<" ++ x ++ attrs ++ codes ">" ++ content ++ codes "</" ++ x ++ gap ++ codes ">") ≡ 5 + 2 * length x + length attrs + length content + length gap
+tagged_length : (x attrs content gap : List ℕ) → length (codes "<" ++ x ++ attrs ++ codes ">"
+    ++ content ++ codes "</" ++ x ++ gap ++ codes ">") ≡ 5 + 2 * length x + length attrs + length
+    content + length gap
 tagged_length x attrs content gap = simp length-append (omega arith)
 
 -- a text may take a byte alone

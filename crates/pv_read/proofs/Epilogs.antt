@@ -13,7 +13,7 @@ use Rattle.pv_read.specs.Places.{place_reached, epilog}
 use Rattle.pv_read.specs.Steps.{TakesItem}
 use Rattle.pv_read.specs.Epilogs.{ReadsEpilog, document, EndsDocument}
 use Rattle.pv_read.specs.declared.errors.DocError.{DocError}
-use Rattle.pv_read.proofs.Refusing.{Refuses-weaker}
+use Rattle.pv_read.proofs.RefusedRests.{Refuses-weaker}
 use Rattle.pv_read.proofs.Prologs.{by_test, takes_leads}
 
 behind_is : {M : Type 0} (m : M) (before : List ℕ) (t : Tree M) (after : List ℕ) (i : Item) (next : Left M)
@@ -43,13 +43,18 @@ module _ {most : Option ℕ} {root end rest : List ℕ} {first count : ℕ} (r :
             let t = taken (in_epilog before root_tree r.after) refl in
             let next_is = behind_is blank_mark before root_tree r.after i t.next t.stands in
             let count_is : next ≡ suc count = omega arith in
-            r.leads before root_tree o (takes_leads count t o (subst (λ l. DocumentRestMeans most blank_mark root (suc count) l more o) next_is (subst (λ k. DocumentRestMeans most blank_mark root k (in_epilog before root_tree (r.after ++ bytes_of i)) more o) count_is means)));
+            r.leads before root_tree o (takes_leads count t o
+            (subst (λ l. DocumentRestMeans most blank_mark root (suc count) l more o) next_is
+            (subst (λ k. DocumentRestMeans most blank_mark root k (in_epilog before root_tree
+            (r.after ++ bytes_of i)) more o) count_is means)));
       }
 
   pub nothing_left : rest ≡ [] → EndsDocument most root first end
   nothing_left none before t =
       let after_is : end ≡ r.after = r.whole ∙ ap (λ b. r.after ++ b) none ∙ append-nil r.after in
-      subst (λ e. DocumentRestMeans most blank_mark root first (in_epilog before t []) end (is_document (document before t e))) (sym after_is) (r.leads before t (is_document (document before t r.after)) (ends none))
+      subst (λ e. DocumentRestMeans most blank_mark root first (in_epilog before t []) end
+      (is_document (document before t e))) (sym after_is) (r.leads before t
+      (is_document (document before t r.after)) (ends none))
 
   pub refused_behind : (e : DocError) → ((left : Left Mark) → place_reached left ≡ epilog → Refuses (DocumentRestMeans most blank_mark root count left rest) e)
       → (before : List ℕ) (t : Tree Mark) → Refuses (DocumentRestMeans most blank_mark root first (in_epilog before t []) end) e

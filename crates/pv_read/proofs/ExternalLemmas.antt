@@ -8,7 +8,7 @@ use Rattle.pv_chars.specs.Characters.{IsChars}
 use Rattle.pv_chars.specs.Fronts.{Begins, BeginsNone}
 use Rattle.pv_chars.specs.Declarations.{IsQuoted, BeginsNoQuoted}
 use Rattle.pv_chars.proofs.MarkupLemmas.{behind}
-use Rattle.pv_chars.proofs.Scanning.{begins, after_blank-append, after_blank_takes}
+use Rattle.pv_chars.proofs.TextScans.{begins, after_blank-append, after_blank_takes}
 use Rattle.pv_chars.proofs.PartLemmas.{quoted_begins, word_begins}
 use Rattle.pv_chars.proofs.QuoteLemmas.{same_quoted}
 use Rattle.pv_chars.proofs.DeclarationLemmas.{IsOnly}
@@ -71,7 +71,14 @@ module _ (word : List ℕ) (some : word ≢ []) (black : begins is_space word �
   pub word_by : (bytes start named rest : List ℕ) → after_blank bytes ≡ Some start → start ≡ word ++ named → TakesBlank named rest → TakesWord word bytes rest
   word_by bytes start named rest e w gap =
       let before = after_blank_takes bytes start e in
-      record { space = before.space; gap = gap.space; is_space = before.some; is_gap = gap.some; whole = before.whole ∙ ap (λ l. before.space ++ l) (w ∙ ap (λ l. word ++ l) gap.whole); ends = gap.ends }
+      record {
+        space = before.space;
+        gap = gap.space;
+        is_space = before.some;
+        is_gap = gap.some;
+        whole = before.whole ∙ ap (λ l. before.space ++ l) (w ∙ ap (λ l. word ++ l) gap.whole);
+        ends = gap.ends;
+      }
 
   pub one_word : (bytes rest more : List ℕ) → TakesWord word bytes rest → TakesWord word bytes more → rest ≡ more
   one_word bytes rest more a b =
@@ -96,7 +103,9 @@ system_steps bytes rest b =
         gap = i.gap;
         is_space = i.is_space;
         is_gap = i.is_gap;
-        whole = b.whole ∙ ap (λ l. l ++ rest) i.whole ∙ append_assoc i.space (codes "SYSTEM" ++ (i.gap ++ i.literal)) rest ∙ ap (λ l. i.space ++ l) (append_assoc (codes "SYSTEM") (i.gap ++ i.literal) rest ∙ ap (λ l. codes "SYSTEM" ++ l) (append_assoc i.gap i.literal rest));
+        whole = b.whole ∙ ap (λ l. l ++ rest) i.whole ∙ append_assoc i.space (codes "SYSTEM"
+            ++ (i.gap ++ i.literal)) rest ∙ ap (λ l. i.space ++ l) (append_assoc (codes "SYSTEM")
+            (i.gap ++ i.literal) rest ∙ ap (λ l. codes "SYSTEM" ++ l) (append_assoc i.gap i.literal rest));
         ends = literal_black IsChars i.literal rest i.is_literal;
       };
       is_literal = record { item = i.literal; is_item = i.is_literal; whole = refl };
@@ -106,7 +115,10 @@ pub system_by : (bytes literal rest : List ℕ) → TakesWord (codes "SYSTEM") b
 system_by bytes literal rest w b = record {
   item = w.space ++ (codes "SYSTEM" ++ (w.gap ++ b.item));
   is_item = record { space = w.space; gap = w.gap; literal = b.item; is_space = w.is_space; is_gap = w.is_gap; is_literal = b.is_item; whole = refl };
-  whole = w.whole ∙ ap (λ l. w.space ++ (codes "SYSTEM" ++ (w.gap ++ l))) b.whole ∙ sym (append_assoc w.space (codes "SYSTEM" ++ (w.gap ++ b.item)) rest ∙ ap (λ l. w.space ++ l) (append_assoc (codes "SYSTEM") (w.gap ++ b.item) rest ∙ ap (λ l. codes "SYSTEM" ++ l) (append_assoc w.gap b.item rest)));
+  whole = w.whole ∙ ap (λ l. w.space ++ (codes "SYSTEM" ++ (w.gap ++ l))) b.whole
+      ∙ sym (append_assoc w.space (codes "SYSTEM" ++ (w.gap ++ b.item)) rest ∙ ap (λ l. w.space
+      ++ l) (append_assoc (codes "SYSTEM") (w.gap ++ b.item) rest ∙ ap (λ l. codes "SYSTEM" ++ l)
+      (append_assoc w.gap b.item rest)));
 }
 
 system_some : codes "SYSTEM" ≢ []
@@ -159,7 +171,11 @@ public_steps bytes rest b =
         gap = i.gap;
         is_space = i.is_space;
         is_gap = i.is_gap;
-        whole = b.whole ∙ ap (λ l. l ++ rest) i.whole ∙ append_assoc i.space (codes "PUBLIC" ++ (i.gap ++ (i.public ++ (i.between ++ i.system)))) rest ∙ ap (λ l. i.space ++ l) (append_assoc (codes "PUBLIC") (i.gap ++ (i.public ++ (i.between ++ i.system))) rest ∙ ap (λ l. codes "PUBLIC" ++ l) (append_assoc i.gap (i.public ++ (i.between ++ i.system)) rest ∙ ap (λ l. i.gap ++ l) behind_word));
+        whole = b.whole ∙ ap (λ l. l ++ rest) i.whole ∙ append_assoc i.space (codes "PUBLIC"
+            ++ (i.gap ++ (i.public ++ (i.between ++ i.system)))) rest ∙ ap (λ l. i.space ++ l)
+            (append_assoc (codes "PUBLIC") (i.gap ++ (i.public ++ (i.between ++ i.system))) rest
+            ∙ ap (λ l. codes "PUBLIC" ++ l) (append_assoc i.gap (i.public
+            ++ (i.between ++ i.system)) rest ∙ ap (λ l. i.gap ++ l) behind_word));
         ends = literal_black IsPubidChars i.public between i.is_public;
       };
       is_public = record { item = i.public; is_item = i.is_public; whole = refl };
@@ -173,11 +189,29 @@ public_by bytes rest s =
     let p = s.is_public in
     let gap = after_blank_takes s.between s.system s.blank in
     let b = s.is_system in
-    let inner : s.public ≡ (p.item ++ (gap.space ++ b.item)) ++ rest = p.whole ∙ ap (λ l. p.item ++ l) (gap.whole ∙ ap (λ l. gap.space ++ l) b.whole ∙ sym (append_assoc gap.space b.item rest)) ∙ sym (append_assoc p.item (gap.space ++ b.item) rest) in
+    let inner : s.public ≡ (p.item ++ (gap.space ++ b.item)) ++ rest = p.whole ∙ ap (λ l. p.item
+    ++ l) (gap.whole ∙ ap (λ l. gap.space ++ l) b.whole
+    ∙ sym (append_assoc gap.space b.item rest)) ∙ sym (append_assoc p.item (gap.space ++ b.item) rest) in
     record {
       item = w.space ++ (codes "PUBLIC" ++ (w.gap ++ (p.item ++ (gap.space ++ b.item))));
-      is_item = record { space = w.space; gap = w.gap; public = p.item; between = gap.space; system = b.item; is_space = w.is_space; is_gap = w.is_gap; is_public = p.is_item; is_between = gap.some; is_system = b.is_item; whole = refl };
-      whole = w.whole ∙ ap (λ l. w.space ++ (codes "PUBLIC" ++ (w.gap ++ l))) inner ∙ sym (append_assoc w.space (codes "PUBLIC" ++ (w.gap ++ (p.item ++ (gap.space ++ b.item)))) rest ∙ ap (λ l. w.space ++ l) (append_assoc (codes "PUBLIC") (w.gap ++ (p.item ++ (gap.space ++ b.item))) rest ∙ ap (λ l. codes "PUBLIC" ++ l) (append_assoc w.gap (p.item ++ (gap.space ++ b.item)) rest)));
+      is_item = record {
+        space = w.space;
+        gap = w.gap;
+        public = p.item;
+        between = gap.space;
+        system = b.item;
+        is_space = w.is_space;
+        is_gap = w.is_gap;
+        is_public = p.is_item;
+        is_between = gap.some;
+        is_system = b.is_item;
+        whole = refl;
+      };
+      whole = w.whole ∙ ap (λ l. w.space ++ (codes "PUBLIC" ++ (w.gap ++ l))) inner
+          ∙ sym (append_assoc w.space (codes "PUBLIC"
+          ++ (w.gap ++ (p.item ++ (gap.space ++ b.item)))) rest ∙ ap (λ l. w.space ++ l)
+          (append_assoc (codes "PUBLIC") (w.gap ++ (p.item ++ (gap.space ++ b.item))) rest
+          ∙ ap (λ l. codes "PUBLIC" ++ l) (append_assoc w.gap (p.item ++ (gap.space ++ b.item)) rest)));
     }
 
 pub no_public_word : (bytes : List ℕ) → ((rest : List ℕ) → TakesWord (codes "PUBLIC") bytes rest → ⊥) → BeginsNone IsPublicId bytes
@@ -199,7 +233,9 @@ no_public_blank bytes public between w p e rest b =
     let s = public_steps bytes rest b in
     let blank : after_blank between ≡ Some s.system = ap after_blank (sym (same_between bytes public between rest w p s)) ∙ s.blank in cc
 
-pub no_public_system : (bytes public between system : List ℕ) → TakesWord (codes "PUBLIC") bytes public → Begins IsPubidLiteral public between → after_blank between ≡ Some system → BeginsNone IsSystemLiteral system → BeginsNone IsPublicId bytes
+pub no_public_system : (bytes public between system : List ℕ) →
+    TakesWord (codes "PUBLIC") bytes public → Begins IsPubidLiteral public between →
+    after_blank between ≡ Some system → BeginsNone IsSystemLiteral system → BeginsNone IsPublicId bytes
 no_public_system bytes public between system w p e none rest b =
     let s = public_steps bytes rest b in
     let blank : after_blank between ≡ Some s.system = ap after_blank (sym (same_between bytes public between rest w p s)) ∙ s.blank in

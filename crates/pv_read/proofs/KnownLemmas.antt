@@ -62,7 +62,10 @@ known_data bytes made is = record { some = is.some; are_pieces = made; no_close_
 read_to_end : (attrs own rest : List ℕ) → TakesAttributes IsKnownReference attrs own rest → rest ≡ [] → IsAttributes IsKnownReference attrs
 read_to_end attrs own rest taken e = subst (λ (l : List ℕ). IsAttributes IsKnownReference l) (sym (taken.whole ∙ ap (λ l. own ++ l) e ∙ append-nil own)) taken.are_attributes
 
-pub known_where_read : (attrs own rest : List ℕ) (empty : Bool) → TakesAttributes IsKnownReference attrs own rest → empty ≡ (length rest == 0) → (IsTrue empty → IsAttributes IsKnownReference attrs) × (IsAttributes IsKnownReference attrs → IsTrue empty)
+pub known_where_read : (attrs own rest : List ℕ) (empty : Bool) →
+    TakesAttributes IsKnownReference attrs own rest → empty ≡ (length rest == 0) →
+    (IsTrue empty → IsAttributes IsKnownReference attrs) × (IsAttributes IsKnownReference attrs →
+    IsTrue empty)
 known_where_read attrs own rest empty taken e = (
   (λ t. read_to_end attrs own rest taken (is_nothing rest empty e t)),
   (λ is. let none = (taken.only attrs [] is (sym (append-nil attrs)) refl).1 in e ∙ ap (λ l. length l == 0) none),

@@ -41,7 +41,8 @@ by_name Known bytes name rest b may = record { item = b.item; is_item = inr reco
 pub none_of_sort : (sort : References) (bytes : List ℕ) → BeginsNone IsCharRef bytes → BeginsNoEntityRef bytes → BeginsNone (IsReferenceOf sort) bytes
 none_of_sort sort bytes none none_named rest b = no_reference bytes none none_named rest record { item = b.item; is_item = are_references sort b.item b.is_item; whole = b.whole }
 
-pub none_of_name : (sort : References) (bytes name more : List ℕ) → BeginsNone IsCharRef bytes → Begins (IsEntityRef name) bytes more → (MayBeNamed sort name → ⊥) → BeginsNone (IsReferenceOf sort) bytes
+pub none_of_name : (sort : References) (bytes name more : List ℕ) → BeginsNone IsCharRef bytes →
+    Begins (IsEntityRef name) bytes more → (MayBeNamed sort name → ⊥) → BeginsNone (IsReferenceOf sort) bytes
 none_of_name Any bytes name more none named never rest b = never tt
 none_of_name Known bytes name more none named never rest b = by b.is_item
   where

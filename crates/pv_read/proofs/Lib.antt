@@ -1,16 +1,16 @@
 -- for other crates:
 pub mod DocumentFacts
 pub mod Pieces
-pub mod Decided
+pub mod DecidedReferences
 pub mod OneItem
 pub mod TextLaw
 pub mod Agreement
 pub mod NextItems
 pub mod OneMeaning
-pub mod Refusing
+pub mod RefusedRests
 pub mod Prologs
 pub mod Epilogs
-pub mod Telling
+pub mod DocumentParts
 -- of this crate:
 pub mod AgreeInvariant
 pub mod AgreeSteps

@@ -20,7 +20,9 @@ items_hold_before : {M : Type 0} (m : M) (root : List ℕ) (limit : ℕ) (end : 
 items_hold_before m root limit end = record { step = λ i left next rest form well stands is behind. one_more i (record { has_form = form; whole = refl; ends_well = well }) stands behind }
 
 module _ {M : Type 0} (m : M) where
-  same_next : (left next other end : Left M) (rest more others : List ℕ) (i j : Item) → BeginsItem i rest more → BeginsItem j rest others → left_by m left i ≡ Some next → left_by m left j ≡ Some other → EndsIn m next more end → EndsIn m other others end
+  same_next : (left next other end : Left M) (rest more others : List ℕ) (i j : Item) →
+      BeginsItem i rest more → BeginsItem j rest others → left_by m left i ≡ Some next →
+      left_by m left j ≡ Some other → EndsIn m next more end → EndsIn m other others end
   same_next left next other end rest more others i j begins at stands there ends_in =
       let same = one_item i j rest more others begins at in
       let found : Some next ≡ Some other = sym stands ∙ ap (left_by m left) same.0 ∙ there in
@@ -61,7 +63,9 @@ mutual
   all_remarked_twice f g no_trees = refl
   all_remarked_twice f g (tree t kids) = ap (λ s. tree s (map_marks_all f (map_marks_all g kids))) (remarked_twice f g t) ∙ ap (tree (map_marks (λ m. f (g m)) t)) (all_remarked_twice f g kids)
 
-same_unmarked : {M : Type 0} (m : M) (doc other : PlainDoc M) → in_epilog doc.before (map_marks (λ _. m) doc.root) doc.after ≡ in_epilog other.before (map_marks (λ _. m) other.root) other.after → unmarked_doc doc ≡ unmarked_doc other
+same_unmarked : {M : Type 0} (m : M) (doc other : PlainDoc M) →
+    in_epilog doc.before (map_marks (λ _. m) doc.root) doc.after ≡ in_epilog other.before
+    (map_marks (λ _. m) other.root) other.after → unmarked_doc doc ≡ unmarked_doc other
 same_unmarked {M} m doc other same =
     let without : M → Unit {0} = λ _. tt in
     let before : doc.before ≡ other.before = cc in

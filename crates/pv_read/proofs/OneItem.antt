@@ -45,8 +45,12 @@ sort_is (comment_or_instruction own) bytes rest b = by b.has_form
     by (inl is) = ap sort_of (b.whole ∙ ap (λ l. l ++ rest) is.whole)
     by (inr is) = ap sort_of (b.whole ∙ ap (λ l. l ++ rest) is.whole)
 sort_is (cdata_section own) bytes rest b = ap sort_of (b.whole ∙ ap (λ l. l ++ rest) b.has_form.whole)
-sort_is (start_tag name attrs) bytes rest b = ap sort_of (b.whole ∙ append_assoc (codes "<") (name ++ (attrs ++ codes ">")) rest ∙ ap (λ l. codes "<" ++ l) (append_assoc name (attrs ++ codes ">") rest)) ∙ tag_sort name ((attrs ++ codes ">") ++ rest) b.has_form.0
-sort_is (empty_tag name attrs) bytes rest b = ap sort_of (b.whole ∙ append_assoc (codes "<") (name ++ (attrs ++ codes "/>")) rest ∙ ap (λ l. codes "<" ++ l) (append_assoc name (attrs ++ codes "/>") rest)) ∙ tag_sort name ((attrs ++ codes "/>") ++ rest) b.has_form.0
+sort_is (start_tag name attrs) bytes rest b = ap sort_of (b.whole ∙ append_assoc (codes "<") (name
+    ++ (attrs ++ codes ">")) rest ∙ ap (λ l. codes "<" ++ l) (append_assoc name (attrs
+    ++ codes ">") rest)) ∙ tag_sort name ((attrs ++ codes ">") ++ rest) b.has_form.0
+sort_is (empty_tag name attrs) bytes rest b = ap sort_of (b.whole ∙ append_assoc (codes "<") (name
+    ++ (attrs ++ codes "/>")) rest ∙ ap (λ l. codes "<" ++ l) (append_assoc name (attrs
+    ++ codes "/>") rest)) ∙ tag_sort name ((attrs ++ codes "/>") ++ rest) b.has_form.0
 sort_is (end_tag name gap) bytes rest b = ap sort_of b.whole
 sort_is (text_run own) bytes rest b = ap sort_of b.whole ∙ run_sort own rest b.has_form.some (run_has_no_less own b.has_form)
 
@@ -78,7 +82,9 @@ apart xs ys e = cc
 comment_or_else : (a b bytes rest more : List ℕ) → IsComment a → IsInstruction b → bytes ≡ a ++ rest → bytes ≡ b ++ more → ⊥
 comment_or_else a b bytes rest more is other e f = apart _ _ (sym (f ∙ ap (λ l. l ++ more) other.whole) ∙ (e ∙ ap (λ l. l ++ rest) is.whole))
 
-same_misc : (a b bytes rest more : List ℕ) → BeginsItem (comment_or_instruction a) bytes rest → BeginsItem (comment_or_instruction b) bytes more → (comment_or_instruction a ≡ comment_or_instruction b) × (rest ≡ more)
+same_misc : (a b bytes rest more : List ℕ) → BeginsItem (comment_or_instruction a) bytes rest →
+    BeginsItem (comment_or_instruction b) bytes more →
+    (comment_or_instruction a ≡ comment_or_instruction b) × (rest ≡ more)
 same_misc a b bytes rest more f g = let rests = by f.has_form g.has_form in (ap comment_or_instruction (by_rest a b bytes rest more f.whole g.whole rests), rests)
   where
     by : IsCommentOrInstruction a → IsCommentOrInstruction b → rest ≡ more
@@ -98,7 +104,13 @@ declaration_or_misc a b bytes rest more f g = by g.has_form
         let behind_version = d.encoding ++ (d.standalone ++ (d.space ++ (codes "?>" ++ rest))) in
         let after = d.version ++ behind_version in
         let whole : bytes ≡ codes "<?" ++ (codes "xml" ++ after) = f.whole ∙ ap (λ l. l ++ rest) d.whole ∙ simp append_assoc refl in
-        let named : TakesName (codes "xml" ++ after) (codes "xml") after = record { is_name = xml_is_name; whole = refl; ends = part_ends (codes "version") d.version behind_version IsVersionNum d.is_version } in
+        let named : TakesName (codes "xml" ++ after) (codes "xml") after =
+        record {
+          is_name = xml_is_name;
+          whole = refl;
+          ends = part_ends (codes "version")
+              d.version behind_version IsVersionNum d.is_version;
+        } in
         no_instruction_target bytes (codes "xml" ++ after) (codes "xml") after whole named refl more (whole_of IsInstruction b bytes more is g.whole)
 
 -- at most one tag

@@ -11,7 +11,7 @@ use Rattle.pv_chars.specs.References.{IsReference}
 use Rattle.pv_chars.specs.Texts.{joined}
 use Rattle.pv_chars.specs.Units.{is_literal, IsLiteral}
 use Rattle.pv_chars.proofs.CharacterLemmas.{AreAll-append, none_in_nothing}
-use Rattle.pv_chars.proofs.Delimiting.{overlap}
+use Rattle.pv_chars.proofs.FirstDelimiters.{overlap}
 use Rattle.pv_read.specs.Takes.{IsCutBefore}
 use Rattle.pv_read.proofs.Absent.{by_holds}
 use Rattle.pv_tree.specs.Attributes.{AreMadeOf, IsTextPiece}
@@ -87,7 +87,15 @@ module _ (R : List ℕ → Type 0) (are_references : (bytes : List ℕ) → R by
         whole = below.whole;
         are_pieces = below.are_pieces;
       }
-  cut_pieces (p ∷ ps) [] more (inr is, all) free e = record { reference = p; rest = joined ps; are_literals = none_in_nothing is_literal; is_reference = is; whole = sym e; are_pieces = record { pieces = ps; are_pieces = all; whole = refl } }
+  cut_pieces (p ∷ ps) [] more (inr is, all) free e =
+      record {
+        reference = p;
+        rest = joined ps;
+        are_literals = none_in_nothing is_literal;
+        is_reference = is;
+        whole = sym e;
+        are_pieces = record { pieces = ps; are_pieces = all; whole = refl };
+      }
   cut_pieces (p ∷ ps) (x ∷ xs) more (inr is, all) free e =
       let i = reference_inner 38 p ampersand_is_mark (are_references p is) in
       let f : x ∷ (xs ++ (38 ∷ more)) ≡ 38 ∷ ((i.inner ++ codes ";") ++ joined ps) = sym e ∙ ap (λ l. l ++ joined ps) i.whole in
@@ -115,8 +123,12 @@ module _ (R : List ℕ → Type 0) (are_references : (bytes : List ℕ) → R by
   -- bytes that are no white space and mark no reference don't stand in pieces, but as literals
   pieces_have_no : (b : ℕ) → IsMark b → is_literal b ≡ false → (38 == b) ≡ false → (59 == b) ≡ false → (ps : List (List ℕ)) → AllByRecursion P ps → has_no b (joined ps) ≡ true
   pieces_have_no b m other ampersand semicolon [] all = refl
-  pieces_have_no b m other ampersand semicolon (p ∷ ps) (inl is, all) = both_have_no b p (joined ps) (rw is.whole (code_has_no is.code b m.low (literal_is is.code b is.is_literal other))) (pieces_have_no b m other ampersand semicolon ps all)
-  pieces_have_no b m other ampersand semicolon (p ∷ ps) (inr is, all) = both_have_no b p (joined ps) (reference_has_no b p m ampersand semicolon (are_references p is)) (pieces_have_no b m other ampersand semicolon ps all)
+  pieces_have_no b m other ampersand semicolon (p ∷ ps) (inl is, all) = both_have_no b p (joined ps)
+      (rw is.whole (code_has_no is.code b m.low (literal_is is.code b is.is_literal other)))
+      (pieces_have_no b m other ampersand semicolon ps all)
+  pieces_have_no b m other ampersand semicolon (p ∷ ps) (inr is, all) = both_have_no b p (joined ps)
+      (reference_has_no b p m ampersand semicolon (are_references p is))
+      (pieces_have_no b m other ampersand semicolon ps all)
 
   pub made_have_no : (b : ℕ) (bytes : List ℕ) → IsMark b → is_literal b ≡ false → (38 == b) ≡ false → (59 == b) ≡ false → AreMadeOf P bytes → has_no b bytes ≡ true
   made_have_no b bytes m other ampersand semicolon a = rw a.whole (pieces_have_no b m other ampersand semicolon a.pieces a.are_pieces)

@@ -13,7 +13,7 @@ use Rattle.pv_read.specs.Places.{stage_behind, place_reached, prolog}
 use Rattle.pv_read.specs.Steps.{TakesItem}
 use Rattle.pv_read.specs.declared.errors.DocError.{DocError}
 use Rattle.pv_read.specs.Prologs.{ReadsProlog, behind_tag}
-use Rattle.pv_read.proofs.Refusing.{Refuses-weaker}
+use Rattle.pv_read.proofs.RefusedRests.{Refuses-weaker}
 
 -- Some of two things is Some of one where they are one
 pub same_some : {A : Type 0} {x y : A} → Some x ≡ Some y → x ≡ y
@@ -34,7 +34,9 @@ behind_is m stage before (empty_tag name attrs) next closed is = cc
 behind_is m stage before (end_tag name gap) next closed is = cc
 behind_is m stage before (text_run bytes) next closed is = by_test (list_all is_space bytes) _ next is
 
-pub takes_leads : {M : Type 0} {most : Option ℕ} {m : M} {root : List ℕ} {left : Left M} {rest more : List ℕ} {i : Item} (k : ℕ) (t : TakesItem most m root left rest i more) (o : Outcome M) → DocumentRestMeans most m root (suc k) t.next more o → DocumentRestMeans most m root k left rest o
+pub takes_leads : {M : Type 0} {most : Option ℕ} {m : M} {root : List ℕ} {left : Left M} {rest
+    more : List ℕ} {i : Item} (k : ℕ) (t : TakesItem most m root left rest i more) (o : Outcome M) →
+    DocumentRestMeans most m root (suc k) t.next more o → DocumentRestMeans most m root k left rest o
 takes_leads {i = i} k t o means = item i t.begins t.stands t.no_fault means
 
 pub no_items : (most : Option ℕ) (root text : List ℕ) → ReadsProlog most root text at_front text 0
@@ -54,11 +56,15 @@ module _ {most : Option ℕ} {root text rest : List ℕ} {stage : PlainStage} {c
             let next_is : in_prolog (stage_behind stage i) ((mark ++ r.before) ++ bytes_of i) ≡ t.next = behind_is blank_mark stage (mark ++ r.before) i t.next closed t.stands in
             let left_is : in_prolog behind (mark ++ (r.before ++ bytes_of i)) ≡ t.next = rw (is_behind, ← append_assoc mark r.before (bytes_of i)) next_is in
             let count_is : next ≡ suc count = omega arith in
-            r.leads mark o (takes_leads count t o (subst (λ l. DocumentRestMeans most blank_mark root (suc count) l more o) left_is (subst (λ k. DocumentRestMeans most blank_mark root k (in_prolog behind (mark ++ (r.before ++ bytes_of i))) more o) count_is means)));
+            r.leads mark o (takes_leads count t o (subst (λ l. DocumentRestMeans most blank_mark
+            root (suc count) l more o) left_is (subst (λ k. DocumentRestMeans most blank_mark
+            root k (in_prolog behind (mark ++ (r.before ++ bytes_of i))) more o) count_is means)));
       }
 
   pub opens_by : (short : Bool) (name attrs : List ℕ) → ((before : List ℕ) → left_by blank_mark (in_prolog stage before) i ≡ Some (behind_tag before short name attrs))
-      → (mark : List ℕ) (o : Outcome Mark) → DocumentRestMeans most blank_mark root (suc count) (behind_tag (mark ++ r.before) short name attrs) more o → DocumentRestMeans most blank_mark root 0 (in_prolog at_front mark) text o
+      → (mark : List ℕ) (o : Outcome Mark) → DocumentRestMeans most blank_mark root (suc count)
+      (behind_tag (mark ++ r.before) short name attrs) more o →
+      DocumentRestMeans most blank_mark root 0 (in_prolog at_front mark) text o
   opens_by short name attrs is mark o means =
       let t = taken (in_prolog stage (mark ++ r.before)) refl in
       let next_is : behind_tag (mark ++ r.before) short name attrs ≡ t.next = same_some (sym (is (mark ++ r.before)) ∙ t.stands) in

@@ -7,14 +7,15 @@ use Rattle.pv_tree.specs.declared.nodes.Mark.{Mark}
 use Rattle.pv_read.specs.DocumentLaws.{HasOneMeaning}
 use Rattle.pv_read.specs.Items.{Item, xml_declaration, doctype, comment_or_instruction, cdata_section, start_tag, empty_tag, end_tag, text_run, HasKnownReferences, BeginsItem}
 use Rattle.pv_read.specs.Left.{Left, at_front, in_prolog, in_content, in_epilog, left_by, open_elements, IsWholeAt}
-use Rattle.pv_read.specs.Kinds.{Kind, subset, syntax, entity, mismatch, doctype_name, deep, BeginsSubset, may_stand_doctype, IsMismatch, IsOtherDoctype, opens_element, IsTooDeep, HasFault, IsFirstFault}
+use Rattle.pv_read.specs.Kinds.{Kind, subset, syntax, entity, mismatch, doctype_name, deep, BeginsSubset, may_stand_doctype, IsMismatch}
+use Rattle.pv_read.specs.Kinds.{IsOtherDoctype, opens_element, IsTooDeep, HasFault, IsFirstFault}
 use Rattle.pv_read.specs.Meaning.{Outcome, is_document, faulty, too_long, DocumentRestMeans, ends, item, fault, DocumentMeansWithin, long, items}
 use Rattle.pv_chars.specs.ByteOrderMark.{TakesByteOrderMark}
 use Rattle.pv_read.specs.Places.{place_reached, may_stand}
 use Rattle.pv_read.specs.PlainItems.{BeginsNoItem}
 use Rattle.pv_read.specs.Steps.{MeansSomething}
 use Rattle.pv_read.proofs.AtPlaces.{stands_at, none_at}
-use Rattle.pv_read.proofs.Decided.{Decided, one_of, known_is_decided}
+use Rattle.pv_read.proofs.DecidedReferences.{Decided, one_of, known_is_decided}
 use Rattle.pv_read.proofs.NextItems.{subset_is_first, nothing_begins, may_not_stand, other_reference, other_name, other_doctype, too_deep, takes}
 use Rattle.pv_read.proofs.OneItem.{one_item}
 use Rattle.pv_read.proofs.OneMeaning.{same_document_meaning}
@@ -77,7 +78,9 @@ module _ (most : Option ℕ) (root rest : List ℕ) (k : ℕ) where
   faulty_here : (left : Left Mark) (kind : Kind) → IsFirstFault most blank_mark root left rest kind → (o : Outcome Mark) × DocumentRestMeans most blank_mark root k left rest o
   faulty_here left kind is = (faulty kind k, fault kind is)
 
-  nothing_here : (left : Left Mark) → (HasFault most blank_mark root left rest subset → ⊥) → BeginsNoItem rest → (IsWholeAt left rest → ⊥) → (o : Outcome Mark) × DocumentRestMeans most blank_mark root k left rest o
+  nothing_here : (left : Left Mark) → (HasFault most blank_mark root left rest subset → ⊥) →
+      BeginsNoItem rest → (IsWholeAt left rest → ⊥) → (o : Outcome Mark)
+      × DocumentRestMeans most blank_mark root k left rest o
   nothing_here left none no_item not_whole = faulty_here left syntax (nothing_begins one_item most blank_mark root left rest none not_whole no_item)
 
   is_nothing : (bytes : List ℕ) → Decided (bytes ≡ [])
@@ -122,7 +125,9 @@ module _ (most : Option ℕ) (root rest : List ℕ) (k : ℕ) where
     by_place false e = faulty_here left syntax (may_not_stand one_item most blank_mark root left rest none i more begins (none_at most blank_mark root rest left (place_reached left) refl i e))
 
   by_subset : (left : Left Mark) → Decided (HasFault most blank_mark root left rest subset)
-      → ((HasFault most blank_mark root left rest subset → ⊥) → (o : Outcome Mark) × DocumentRestMeans most blank_mark root k left rest o) → (o : Outcome Mark) × DocumentRestMeans most blank_mark root k left rest o
+      → ((HasFault most blank_mark root left rest subset → ⊥) → (o : Outcome Mark)
+      × DocumentRestMeans most blank_mark root k left rest o) → (o : Outcome Mark)
+      × DocumentRestMeans most blank_mark root k left rest o
   by_subset left (inl is) others = faulty_here left subset (subset_is_first one_item most blank_mark root left rest is)
   by_subset left (inr none) others = others none
 

@@ -16,7 +16,13 @@ use Rattle.pv_read.proofs.DocumentFacts.{pieces_are_units, units_are_pieces}
 units_mean : (before units : List (List ℕ)) → AllUnits units → (ContainsBytes (joined units) (codes "]]>") → ⊥) → TextRestMeans before (joined units) (Ok (before ++ units))
 units_mean before [] all none = subst (λ us. TextRestMeans before [] (Ok us)) (sym (append-nil before)) (ends refl)
 units_mean before (u ∷ us) all none =
-    let below = units_mean (before ++ u ∷ []) us all.1 (λ h. none record { before = u ++ h.before; after = h.after; whole = ap (λ l. u ++ l) h.whole ∙ sym (append_assoc u h.before (codes "]]>" ++ h.after)) }) in
+    let below = units_mean (before ++ u ∷ []) us all.1
+    (λ h. none record {
+      before = u ++ h.before;
+      after = h.after;
+      whole = ap (λ l. u
+          ++ l) h.whole ∙ sym (append_assoc u h.before (codes "]]>" ++ h.after));
+    }) in
     unit u (joined us) (record { is_unit = all.0; whole = refl; no_close_mark = λ b. none record { before = []; after = b.0; whole = b.1 } })
     (subst (λ out. TextRestMeans (before ++ u ∷ []) (joined us) (Ok out)) (append_assoc before (u ∷ []) us) below)
 
@@ -34,7 +40,9 @@ record Leaves (before : List (List ℕ)) (rest : List ℕ) (out : List (List ℕ
   whole : rest ≡ joined units
   no_close_mark : holds_close_mark units ≡ false
 
-one_more : (u : List ℕ) (us : List (List ℕ)) (begins : Bool) → begins_close_mark (u ∷ us) ≡ begins → (BeginsCloseMark (joined (u ∷ us)) → ⊥) → holds_close_mark us ≡ false → (begins || holds_close_mark us) ≡ false
+one_more : (u : List ℕ) (us : List (List ℕ)) (begins : Bool) → begins_close_mark (u ∷ us) ≡ begins →
+    (BeginsCloseMark (joined (u ∷ us)) → ⊥) → holds_close_mark us ≡ false →
+    (begins || holds_close_mark us) ≡ false
 one_more u us true is none below = absurd (none (begins_bytes (u ∷ us) is))
 one_more u us false is none below = below
 

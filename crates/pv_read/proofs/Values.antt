@@ -18,8 +18,20 @@ pub record IsQuoteMark (q : ℕ) : Type 0 where
   pub alone : encode q ≡ q ∷ []
 
 quote_by : (q : ℕ) (double single : Bool) → (q == 34) ≡ double → (q == 39) ≡ single → (double || single) ≡ true → IsQuoteMark q
-quote_by q true single e f is = subst IsQuoteMark (sym ((Decides-eqb q 34).0 e)) record { is_mark = double_quote_is_mark; no_ampersand = refl; no_semicolon = refl; alone = encode_ascii 34 (omega arith) }
-quote_by q false true e f is = subst IsQuoteMark (sym ((Decides-eqb q 39).0 f)) record { is_mark = single_quote_is_mark; no_ampersand = refl; no_semicolon = refl; alone = encode_ascii 39 (omega arith) }
+quote_by q true single e f is = subst IsQuoteMark (sym ((Decides-eqb q 34).0 e))
+    record {
+      is_mark = double_quote_is_mark;
+      no_ampersand = refl;
+      no_semicolon = refl;
+      alone = encode_ascii 34 (omega arith);
+    }
+quote_by q false true e f is = subst IsQuoteMark (sym ((Decides-eqb q 39).0 f))
+    record {
+      is_mark = single_quote_is_mark;
+      no_ampersand = refl;
+      no_semicolon = refl;
+      alone = encode_ascii 39 (omega arith);
+    }
 quote_by q false false e f is = cc
 
 pub quote_marks : (q : ℕ) → is_quote q ≡ true → IsQuoteMark q

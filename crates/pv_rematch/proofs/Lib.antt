@@ -1,10 +1,10 @@
 -- for other crates:
-pub mod Changing
-pub mod Counting
+pub mod ChangedNumbers
+pub mod TokenNumbers
 -- of this crate:
-pub mod Answering
-pub mod Leading
-pub mod Reading
-pub mod Splicing
-pub mod Turning
-pub mod Walking
+pub mod KeptAnswers
+pub mod LeadingPoints
+pub mod ReadStates
+pub mod SplicedPoints
+pub mod TurnedPoints
+pub mod KeptWalks

@@ -7,7 +7,8 @@ use Rattle.pv_rules.specs.Kinds.{OfContent, OfName, OfPart, OfRest, OfSite, ToNo
 use Rattle.pv_rules.specs.Numbering.{first_part, part_at, rest_at}
 use Rattle.pv_rules.specs.Sites.{PlainSite, content_site, name_site, part_site, rest_site}
 use Rattle.pv_rules.specs.Rules.{Goal, Rule, over}
-use Rattle.pv_rules.specs.Rules.{any_name, any_none, any_text, children_part, empty_none, kept, missing, mixed_name, mixed_none, mixed_text, opt_none, opt_one, part_choice, part_name, part_seq, plus_more, plus_one, rest_last, rest_then, star_more, star_none}
+use Rattle.pv_rules.specs.Rules.{any_name, any_none, any_text, children_part, empty_none, kept, missing, mixed_name, mixed_none, mixed_text, opt_none}
+use Rattle.pv_rules.specs.Rules.{opt_one, part_choice, part_name, part_seq, plus_more, plus_one, rest_last, rest_then, star_more, star_none}
 
 pub by_kind : (g : PlainDtd) (w : List PlainToken) (s : PlainSite) (i j c : ℕ) (xs : List Goal) →
     Rule g w (over s i j) c xs → OfSite g w i j c xs s

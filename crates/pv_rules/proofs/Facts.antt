@@ -4,7 +4,7 @@ use Rattle.pv_model.specs.Plain.{PlainModel, PlainPart, PlainParts, children, ch
 use Rattle.pv_dtd.specs.Plain.{PlainDtd, model_of, parts_in, parts_in_model, parts_in_models}
 use Rattle.pv_rules.specs.Numbering.{IsMemberAt, first_part, numbered_particle, numbered_models, part_at, parts_before, rest_at}
 use Rattle.pv_rules.specs.PartLaws.{PartsByNumber}
-use Rattle.pv_rules.proofs.Located.{first_items, others_items, part_after, part_items, part_is, part_within, rest_items, rest_is}
+use Rattle.pv_rules.proofs.PartNumbers.{first_items, others_items, part_after, part_items, part_is, part_within, rest_items, rest_is}
 use Rattle.pv_rules.proofs.Numbers.{choice_items, length-models, length-numbered_particle, listed_at, model_items}
 
 module _ (g : PlainDtd) where

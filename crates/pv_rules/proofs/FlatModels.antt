@@ -6,7 +6,7 @@ use Rattle.pv_rules.specs.Flat.{flat_contents, flat_model, flat_models, flat_nam
 use Rattle.pv_rules.specs.declared.flat.FlatContent.{FlatContent}
 use Rattle.pv_rules.specs.declared.flat.FlatPart.{FlatPart}
 use Rattle.pv_rules.specs.declared.flat.Membership.TheVariants as membership
-use Rattle.pv_rules.proofs.Flattening.{length-flat_part}
+use Rattle.pv_rules.proofs.FlatParts.{length-flat_part}
 
 length-flat_names : (q : ℕ) (ys : List ℕ) → length (flat_names q ys) ≡ length ys
 length-flat_names q [] = refl

@@ -1,11 +1,11 @@
 -- for other crates:
 pub mod ByKind
-pub mod Derived
-pub mod Deriving
+pub mod DerivationLaws
+pub mod DerivationsMade
 pub mod Facts
 pub mod FlatContents
 pub mod FlatKinds
-pub mod Formed
+pub mod FormedParts
 pub mod Members
 pub mod SitesKept
 pub mod Spans
@@ -14,7 +14,7 @@ pub mod BarrierRows
 pub mod ClosedSites
 pub mod FlatModels
 pub mod FlatNumbers
-pub mod Flattening
-pub mod Located
+pub mod FlatParts
+pub mod PartNumbers
 pub mod Numbers
 pub mod Rests

@@ -10,7 +10,8 @@ use Rattle.pv_dtd.specs.Facts.{are_known}
 use Rattle.pv_dtd.specs.Plain.{PlainDtd, declared, mentions, names_in, names_in_all, names_in_model}
 use Rattle.pv_rules.specs.Laws.{RulesKeepSites}
 use Rattle.pv_rules.specs.Numbering.{Numbered, first_part, listed_name, numbered_particle, numbered_choices, numbered_members, numbered_model, numbered_models, part_at, rest_at}
-use Rattle.pv_rules.specs.Rules.{any_name, any_none, any_text, children_part, empty_none, kept, missing, mixed_name, mixed_none, mixed_text, opt_none, opt_one, part_choice, part_name, part_seq, plus_more, plus_one, rest_last, rest_then, star_more, star_none}
+use Rattle.pv_rules.specs.Rules.{any_name, any_none, any_text, children_part, empty_none, kept, missing, mixed_name, mixed_none, mixed_text, opt_none}
+use Rattle.pv_rules.specs.Rules.{opt_one, part_choice, part_name, part_seq, plus_more, plus_one, rest_last, rest_then, star_more, star_none}
 use Rattle.pv_rules.proofs.Facts.{parts_by_number}
 
 -- a part that is a name has a number below n

@@ -1,5 +1,6 @@
 -- The line of an edit that applies to some document is read again.
-use Rattle.std.proofs.Common.{◌≡◌, ℕ, ◌+◌, ◌/◌, ◌<◌, ◌≤◌, ◌⊎◌, inl, inr, List, [], ◌∷◌, ◌++◌, map, length, ◌||◌, Option, None, Bool, true, false, not, nat_lt, refl, ap, subst, ◌∙◌, append_assoc, arith, codes, decimal}
+use Rattle.std.proofs.Common.{◌≡◌, ℕ, ◌+◌, ◌/◌, ◌<◌, ◌≤◌, ◌⊎◌, inl, inr, List, [], ◌∷◌, ◌++◌, map, length, ◌||◌, Option, None, Bool, true, false, not}
+use Rattle.std.proofs.Common.{nat_lt, refl, ap, subst, ◌∙◌, append_assoc, arith, codes, decimal}
 use Rattle.std.proofs.lemmas.Bool.{and_parts, cases_lt, not-false}
 use Rattle.std.proofs.lemmas.Bool.Decides.{nat_tests}
 use Rattle.std.specs.List.{list_all, list_any}
@@ -7,7 +8,7 @@ use lib.Utf8.{encode, encodes, next}
 use Rattle.pv_chars.proofs.NameLemmas.{name_is_run, IsName-is_name}
 use Rattle.pv_chars.proofs.Utf8Lemmas.{one_byte, two_bytes, three_bytes, four_bytes}
 use Rattle.pv_chars.specs.Characters.{is_name_char}
-use Rattle.pv_edit.proofs.Leading.{given-reason}
+use Rattle.pv_edit.proofs.InverseLeads.{given-reason}
 use Rattle.pv_edit.specs.Given.{is_line_end, is_new_name, is_new_text, is_character_data}
 use Rattle.pv_edit.specs.Reasons.{kids_at, lacks_element, lacks_list, lacks_node, lacks_text, reason_of, unless}
 use Rattle.pv_edit.specs.declared.edits.Edit.{Edit}
@@ -37,7 +38,14 @@ code-free d c low other = by (cases_lt c 128) (cases_lt c 2048) (cases_lt c 6553
     by (inl h) _ _ = rw (one_byte c h) (other, tt)
     by (inr l) (inl h) _ = rw (two_bytes c l h) (high (192 + c / 64) (omega arith), (high (next c) (omega arith), tt))
     by (inr _) (inr l) (inl h) = rw (three_bytes c l h) (high (224 + c / 4096) (omega arith), (high (next (c / 64)) (omega arith), (high (next c) (omega arith), tt)))
-    by (inr _) (inr _) (inr l) = rw (four_bytes c l) (high (240 + c / 262144) (omega arith), (high (next (c / 4096)) (omega arith), (high (next (c / 64)) (omega arith), (high (next c) (omega arith), tt))))
+    by (inr _) (inr _) (inr l) =
+        rw (four_bytes c l) (
+          high (240 + c / 262144) (omega arith),
+          (
+            high (next (c / 4096)) (omega arith),
+            (high (next (c / 64)) (omega arith), (high (next c) (omega arith), tt)),
+          ),
+        )
 
 codes-free : (d : ℕ) (cs : List ℕ) → d < 128 → is_name_char d ≡ false → list_all is_name_char cs ≡ true → Free d (encodes cs)
 codes-free d [] low other all = tt

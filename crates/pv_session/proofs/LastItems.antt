@@ -37,7 +37,9 @@ nothing_last [] x e = absurd cc
 nothing_last (y ∷ front) x e = absurd cc
 
 -- what it leaves of a list with a last element
-pub popped : {A : Type 0} (xs front new : List A) (x : A) (o : Option A) (n m : ℕ) → xs ≡ front ++ x ∷ [] → xs ≡ new ++ option_to_list o → new ≡ take (n - 1) xs → MatchOption o ((n ≡ 0) × (m ≡ 0)) (λ _. m + 1 ≡ n) → new ≡ front
+pub popped : {A : Type 0} (xs front new : List A) (x : A) (o : Option A) (n m : ℕ) →
+    xs ≡ front ++ x ∷ [] → xs ≡ new ++ option_to_list o → new ≡ take (n - 1) xs →
+    MatchOption o ((n ≡ 0) × (m ≡ 0)) (λ _. m + 1 ≡ n) → new ≡ front
 popped xs front new x None n m e f r h = absurd (nothing_last front x (sym e ∙ popped_none xs new n f r h.0))
 popped xs front new x (Some y) n m e f r h = sym (same_from_push front new x y (sym e ∙ f)).0
 

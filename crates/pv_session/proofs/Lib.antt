@@ -1,8 +1,8 @@
 -- for other crates:
-pub mod Stamped
+pub mod StampsAlone
 pub mod Steps
 pub mod Ways
 -- of this crate:
 pub mod LastItems
-pub mod Opened
+pub mod WaysToOpened
 pub mod Moves

@@ -19,8 +19,8 @@ use Rattle.pv_session.specs.Keeping.{IsEditMade, IsSession, KeepsWays, LeadsOn, 
 use Rattle.pv_session.specs.Sessions.{PlainSession, session_on, next_move, stamped_document}
 use Rattle.pv_session.specs.Steps.{IsEditStep, IsRedoStep, IsUndoStep, PlainAnswer, accepted, behind_move, is_done, lacks_history, no_past, redone, refusal_of, refused, undone}
 use Rattle.pv_session.proofs.LastItems.{HasLast, has_some}
-use Rattle.pv_session.proofs.Opened.{led_opened}
-use Rattle.pv_session.proofs.Stamped.{begun_doc, begun_unmarked, stamped_same}
+use Rattle.pv_session.proofs.WaysToOpened.{led_opened}
+use Rattle.pv_session.proofs.StampsAlone.{begun_doc, begun_unmarked, stamped_same}
 use Rattle.pv_session.proofs.Steps.{not_empty}
 use Rattle.pv_session.proofs.Ways.{IsLast, IsNext, both_empty, empty_both, goes_back, last_edit, leads_more, leads_on_more, next_undone, replays, same_before}
 use Rattle.pv_tree.specs.Marks.{unmarked_doc}
@@ -33,7 +33,9 @@ abbrev pub session_of : StampedDoc → List Edit → List Inverse → List Edit 
 session_of m edits ways gone moves =
     record { dtd = m.dtd; root = m.root; opened = opened_doc ways (unmarked_doc m.doc); past = edits; undone = gone; moves = moves; doc = m.doc }
 
-module _ (one : LeadsToOne Unit) (marks : HoldsByOtherMarks ℕ Unit) (m : StampedDoc) (edits : List Edit) (ways : List Inverse) (gone : List Edit) (moves : ℕ) (k : KeepsWays (session_of m edits ways gone moves) ways) where
+module _ (one : LeadsToOne Unit) (marks : HoldsByOtherMarks ℕ Unit) (m : StampedDoc)
+    (edits : List Edit) (ways : List Inverse) (gone : List Edit) (moves : ℕ)
+    (k : KeepsWays (session_of m edits ways gone moves) ways) where
   abbrev s : PlainSession
   s = session_of m edits ways gone moves
 
@@ -52,7 +54,9 @@ module _ (one : LeadsToOne Unit) (marks : HoldsByOtherMarks ℕ Unit) (m : Stamp
   kept_now = marks.kept (λ _. tt) m.doc.root k.kept
 
   -- ---- an edit
-  module _ (edit : Edit) (n : ℕ) (is_next : n ≡ next_move moves) (done : Done) (way : Inverse) (after : StampedDoc) (e : IsEdited m edit n done way after) (holdable : IsHoldable after.dtd after.doc) (kept : IsKept after.doc.root) where
+  module _ (edit : Edit) (n : ℕ) (is_next : n ≡ next_move moves) (done : Done) (way : Inverse)
+      (after : StampedDoc) (e : IsEdited m edit n done way after) (holdable : IsHoldable after.dtd
+      after.doc) (kept : IsKept after.doc.root) where
     same_dtd : after.dtd ≡ m.dtd
     same_dtd = ap (λ (a : StampedDoc). a.dtd) e.is_after
 
@@ -150,7 +154,9 @@ module _ (one : LeadsToOne Unit) (marks : HoldsByOtherMarks ℕ Unit) (m : Stamp
     pub holdable_before : IsHoldable s.dtd last_made.before
     holdable_before = last_made.holdable
 
-    module _ (n : ℕ) (is_next : n ≡ next_move moves) (done : Done) (after : StampedDoc) (r : IsReverted m way edit last_made.before n done after) (holdable : IsHoldable after.dtd after.doc) (kept : IsKept after.doc.root) where
+    module _ (n : ℕ) (is_next : n ≡ next_move moves) (done : Done) (after : StampedDoc)
+        (r : IsReverted m way edit last_made.before n done after) (holdable : IsHoldable after.dtd
+        after.doc) (kept : IsKept after.doc.root) where
       back_dtd : after.dtd ≡ m.dtd
       back_dtd = ap (λ (a : StampedDoc). a.dtd) r.is_after
 
@@ -187,7 +193,13 @@ module _ (one : LeadsToOne Unit) (marks : HoldsByOtherMarks ℕ Unit) (m : Stamp
             let d : after.doc ≡ behind_move s (changed_lists (undoes edit)) (doc_back 0 m.doc (inverse_of last_made.before.root edit)) =
             back_doc ∙ ap (λ (i : ℕ). stamp_lists i (changed_lists (undoes edit)) (doc_back 0 m.doc way)) is_next
             ∙ ap (λ (w : Inverse). behind_move s (changed_lists (undoes edit)) (doc_back 0 m.doc w)) (sym last_made.made.is_inverse) in
-            let parts : b ≡ record s { past = before; undone = gone ++ edit ∷ []; moves = next_move moves; doc = behind_move s (changed_lists (undoes edit)) (doc_back 0 m.doc (inverse_of last_made.before.root edit)) } =
+            let parts : b ≡ record s {
+              past = before;
+              undone = gone ++ edit ∷ [];
+              moves = next_move moves;
+              doc = behind_move s (changed_lists (undoes edit))
+                  (doc_back 0 m.doc (inverse_of last_made.before.root edit));
+            } =
             (let x = back_dtd in let y = back_root in let z = back_opened in cc) in
             undone edit before last_made.before done.left done.bad e (replays s.dtd s.root s.opened last_made.before before fewer last_made.led) r.led parts r.is_left r.is_bad
             (ap (λ (i : ℕ). is_done i done.left done.bad) r.is_checked)
@@ -212,7 +224,9 @@ module _ (one : LeadsToOne Unit) (marks : HoldsByOtherMarks ℕ Unit) (m : Stamp
   can_redo edit l = next_undone s.dtd s.root now k.last l.front edit (subst (λ (es : List Edit). LeadsOn s.dtd s.root now es k.last) l.whole k.undone)
 
 -- a refused edit
-refused_by : (s : PlainSession) (edit : Edit) (a : EditAnswer) → HasGround 0 s.dtd s.root s.doc edit a → (told : Option PlainAnswer) → refusal_of a ≡ told → MatchOption told (s ≡ s) (λ answer. IsEditStep s edit answer s)
+refused_by : (s : PlainSession) (edit : Edit) (a : EditAnswer) →
+    HasGround 0 s.dtd s.root s.doc edit a → (told : Option PlainAnswer) → refusal_of a ≡ told →
+    MatchOption told (s ≡ s) (λ answer. IsEditStep s edit answer s)
 refused_by s edit a h None e = refl
 refused_by s edit a h (Some answer) e = refused a h e refl
 
@@ -230,7 +244,9 @@ begun_keeps m edits gone ways p w u holdable kept = record {
   undone = rw u refl;
 }
 
-pub begun_is : (g : PlainDtd) (root : List ℕ) (doc : PlainDoc Mark) (m : StampedDoc) → m ≡ record { dtd = g; root = root; doc = doc_as (λ _. 0) doc } → (edits gone : List Edit) (ways : List Inverse) → edits ≡ [] → ways ≡ [] → gone ≡ [] →
+pub begun_is : (g : PlainDtd) (root : List ℕ) (doc : PlainDoc Mark) (m : StampedDoc) →
+    m ≡ record { dtd = g; root = root; doc = doc_as (λ _. 0) doc } →
+    (edits gone : List Edit) (ways : List Inverse) → edits ≡ [] → ways ≡ [] → gone ≡ [] →
     session_of m edits ways gone 0 ≡ session_on g root (unmarked_doc doc)
 begun_is g root doc m e edits gone ways p w u =
     rw (e, p, w, u)
@@ -238,8 +254,12 @@ begun_is g root doc m e edits gone ways p w u =
     ∙ ap (λ (d : PlainDoc ℕ). record { dtd = g; root = root; opened = unmarked_doc doc; past = []; undone = []; moves = 0; doc = d }) (sym (begun_doc doc)))
 
 -- a refused edit, with room for one more
-pub refused_step : (now : PlainSession) (m : StampedDoc) (edits : List Edit) (ways : List Inverse) (gone : List Edit) (moves : ℕ) → session_of m edits ways gone moves ≡ now → (edit : Edit) (a : EditAnswer) → HasGround 0 m.dtd m.root m.doc edit a →
+pub refused_step : (now : PlainSession) (m : StampedDoc) (edits : List Edit) (ways : List Inverse)
+    (gone : List Edit) (moves : ℕ) → session_of m edits ways gone moves ≡ now →
+    (edit : Edit) (a : EditAnswer) → HasGround 0 m.dtd m.root m.doc edit a →
     (after : StampedDoc) → after ≡ m → (edits' : List Edit) (ways' : List Inverse) → edits' ≡ edits → ways' ≡ ways →
     MatchOption (edit_answer (Err a)) (session_of after edits' ways' gone moves ≡ now) (λ answer. IsEditStep now edit answer (session_of after edits' ways' gone moves))
 refused_step now m edits ways gone moves v edit a h after e edits' ways' p w =
-    rw (e, p, w) (subst (λ (s : PlainSession). MatchOption (edit_answer (Err a)) (session_of m edits ways gone moves ≡ s) (λ answer. IsEditStep s edit answer (session_of m edits ways gone moves))) v (refuse_step (session_of m edits ways gone moves) edit a h))
+    rw (e, p, w) (subst (λ (s : PlainSession). MatchOption (edit_answer (Err a))
+    (session_of m edits ways gone moves ≡ s) (λ answer. IsEditStep s edit answer
+    (session_of m edits ways gone moves))) v (refuse_step (session_of m edits ways gone moves) edit a h))

@@ -17,7 +17,9 @@ use Rattle.pv_session.proofs.Ways.{one_replay}
 use Rattle.pv_tree.specs.Plain.{PlainDoc}
 
 -- two moves that end alike and changed as many lists
-same_done : HasOneOpen → HasOneBad → (s t : PlainSession) (a b : PlainAnswer) (i j m n k l : ℕ) → HasOpen (stamped_document s) m → HasOpen (stamped_document t) n → HasBad (stamped_document s) k → HasBad (stamped_document t) l → s ≡ t → i ≡ j →
+same_done : HasOneOpen → HasOneBad → (s t : PlainSession) (a b : PlainAnswer) (i j m n k l : ℕ) →
+    HasOpen (stamped_document s) m → HasOpen (stamped_document t) n →
+    HasBad (stamped_document s) k → HasBad (stamped_document t) l → s ≡ t → i ≡ j →
     a ≡ is_done i m k → b ≡ is_done j n l → (a ≡ b) × (s ≡ t)
 same_done one_open one_bad s t a b i j m n k l p q u v e c x y =
     let f = one_open (stamped_document t) m n (subst (λ (r : PlainSession). HasOpen (stamped_document r) m) e p) q in
@@ -45,7 +47,14 @@ module _ (before : PlainSession) (edit : Edit) where
     edit_one : (s t : PlainSession) (a b : PlainAnswer) → Is a s → Is b t → (a ≡ b) × (s ≡ t)
     edit_one s t a b (accepted x m o p e h u q) (accepted y n l r f k v w) =
         let same = same_given _ x y p.is_edited r.is_edited in
-        let z : s ≡ t = e ∙ ap (λ (d : PlainDoc ℕ). record before { past = before.past ++ edit ∷ []; undone = []; moves = next_move before.moves; doc = behind_move before (changed_lists (makes edit)) d }) same ∙ sym f in
+        let z : s ≡ t = e ∙ ap
+        (λ (d : PlainDoc ℕ).
+        record before {
+          past = before.past ++ edit ∷ [];
+          undone = [];
+          moves = next_move before.moves;
+          doc = behind_move before (changed_lists (makes edit)) d;
+        }) same ∙ sym f in
         same_done one_open one_bad s t a b _ _ m n o l h k u v z refl q w
     edit_one s t a b (accepted x m o p e h u q) (refused y r f k) = absurd (not_told b y f (no_ground 0 0 before.dtd before.root before.doc before.doc edit x y refl p r))
     edit_one s t a b (refused y r f k) (accepted x m o p e h u q) = absurd (not_told a y f (no_ground 0 0 before.dtd before.root before.doc before.doc edit x y refl p r))
@@ -110,4 +119,10 @@ redo_one one_open one_bad before s t a b (none_undone e' w' f') (redone x rest d
 redo_one one_open one_bad before s t a b (none_undone e w f) (none_undone e' w' f') = same_refused before s t a b lacks_history w w' f f'
 
 pub one_answer : HasOneOpen → HasOneBad → AcceptedHasNoGround ℕ ℕ → HasOneGround ℕ → StepsHaveOneAnswer
-one_answer one_open one_bad no_ground one_ground = record { edit = λ edit before s t a b p q. edit_one before edit one_open one_bad no_ground one_ground s t a b p q; undo = undo_one one_open one_bad; redo = redo_one one_open one_bad }
+one_answer one_open one_bad no_ground one_ground =
+    record {
+      edit = λ edit before s t a b p q. edit_one before edit one_open one_bad no_ground
+          one_ground s t a b p q;
+      undo = undo_one one_open one_bad;
+      redo = redo_one one_open one_bad;
+    }

@@ -45,7 +45,9 @@ module _ (g : PlainDtd) (root : List ℕ) where
 
   -- ---- the past
   -- one more edit
-  pub leads_more : (doc last after : PlainDoc Unit) (edits : List Edit) (ways : List Inverse) (edit : Edit) (way : Inverse) → LeadsTo g root doc edits ways last → IsHoldable g last → IsEditMade g root last edit way after →
+  pub leads_more : (doc last after : PlainDoc Unit) (edits : List Edit) (ways : List Inverse)
+      (edit : Edit) (way : Inverse) → LeadsTo g root doc edits ways last → IsHoldable g last →
+      IsEditMade g root last edit way after →
       LeadsTo g root doc (edits ++ edit ∷ []) (ways ++ way ∷ []) after
   leads_more doc last after [] [] edit way l holdable made =
       (after, subst (IsHoldable g) l holdable, subst (λ (d : PlainDoc Unit). IsEditMade g root d edit way after) l made, refl)
@@ -60,7 +62,9 @@ module _ (g : PlainDtd) (root : List ℕ) where
     pub holdable : IsHoldable g before
     pub made : IsEditMade g root before edit way after
 
-  pub last_edit : (doc after : PlainDoc Unit) (edits : List Edit) (ways : List Inverse) (edit : Edit) (way : Inverse) → LeadsTo g root doc (edits ++ edit ∷ []) (ways ++ way ∷ []) after → IsLast doc edits ways edit way after
+  pub last_edit : (doc after : PlainDoc Unit) (edits : List Edit) (ways : List Inverse)
+      (edit : Edit) (way : Inverse) → LeadsTo g root doc (edits ++ edit ∷ []) (ways
+      ++ way ∷ []) after → IsLast doc edits ways edit way after
   last_edit doc after [] [] edit way (next, holdable, made, l) = record { before = doc; led = refl; holdable = holdable; made = subst (IsEditMade g root doc edit way) (sym l) made }
   last_edit doc after [] (w ∷ []) edit way (next, holdable, made, l) = absurd l
   last_edit doc after [] (w ∷ v ∷ ways) edit way (next, holdable, made, l) = absurd l
@@ -82,11 +86,15 @@ module _ (g : PlainDtd) (root : List ℕ) where
   empty_both doc after (edit ∷ edits) (way ∷ ways) l e = absurd cc
 
   -- the way back leads back from a document whatever its marks are
-  abbrev pub goes_back : {M : Type 0} (before : PlainDoc Unit) (edit : Edit) (way : Inverse) (edited : PlainDoc M) → IsEditMade g root before edit way (unmarked_doc edited) → LeadsBack way edited before
+  abbrev pub goes_back : {M : Type 0} (before : PlainDoc Unit) (edit : Edit) (way : Inverse)
+      (edited : PlainDoc M) → IsEditMade g root before edit way (unmarked_doc edited) →
+      LeadsBack way edited before
   goes_back before edit way edited made = record { edit = edit; kept = made.kept; is_edited = made.accepted.is_edited; is_inverse = made.is_inverse }
 
   -- ---- undone edits
-  pub leads_on_more : (doc next after : PlainDoc Unit) (edits : List Edit) (edit : Edit) → LeadsOn g root next edits after → IsAccepted tt g root doc edit next → LeadsOn g root doc (edits ++ edit ∷ []) after
+  pub leads_on_more : (doc next after : PlainDoc Unit) (edits : List Edit) (edit : Edit) →
+      LeadsOn g root next edits after → IsAccepted tt g root doc edit next →
+      LeadsOn g root doc (edits ++ edit ∷ []) after
   leads_on_more doc next after [] edit l a = (doc, refl, subst (IsAccepted tt g root doc edit) (sym l) a)
   leads_on_more doc next after (e ∷ edits) edit (last, l, b) a = (last, leads_on_more doc next last edits edit l a, b)
 

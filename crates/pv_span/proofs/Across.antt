@@ -13,7 +13,7 @@ use Rattle.pv_layout.specs.ColumnRules.{cell}
 use Rattle.pv_span.specs.DoneSpans.{cells_across, row_of, rows_done}
 use Rattle.pv_span.specs.Lines.{done_value}
 use Rattle.pv_span.specs.declared.done.DoneSpans.{DoneSpans}
-use Rattle.pv_layout.proofs.Putting.{each_cell}
+use Rattle.pv_layout.proofs.PutValues.{each_cell}
 
 module _ (cells : List ℕ) (columns spans k : ℕ) where
   abbrev value : ℕ → ℕ

@@ -15,9 +15,9 @@ use Rattle.pv_span.specs.Charts.{IsFilled, PlainChart, value_of}
 use Rattle.pv_layout.specs.ColumnRules.{cell}
 use Rattle.pv_layout.specs.Columns.{AreFit, PlainSites, column_of}
 use Rattle.pv_layout.specs.Forms.{PlainForm}
-use Rattle.pv_span.proofs.Finishing.{derives_something, is_weight}
-use Rattle.pv_layout.proofs.Sharing.{column_derives}
-use Rattle.pv_layout.proofs.Standing.{site_derives}
+use Rattle.pv_span.proofs.FinishedSpans.{derives_something, is_weight}
+use Rattle.pv_layout.proofs.SharedSites.{column_derives}
+use Rattle.pv_layout.proofs.ColumnsAsSites.{site_derives}
 
 -- a word that fits under a DTD with columns is short
 pub is_short : (g : PlainDtd) (n : ℕ) → FitsWeights g n → 0 < columns_of g → n < 8192
@@ -30,7 +30,9 @@ is_short g n f some = elim (cases_lt n 8192) [
       )
 ]
 
-module _ (g : PlainDtd) (w : List PlainToken) (m : PlainSites) (forms : List PlainForm) (fit : AreFit g m forms) (known : IsTrue (are_known g)) (some_names : declared g ≤ length g.names) (t : PlainChart)
+module _ (g : PlainDtd) (w : List PlainToken) (m : PlainSites) (forms : List PlainForm)
+    (fit : AreFit g m forms) (known : IsTrue (are_known g)) (some_names : declared g
+    ≤ length g.names) (t : PlainChart)
     (f : IsFilled forms w t) (s : PlainSite) (i j : ℕ) (has : HasSite g s) (span : IsSpan w i j) where
   abbrev value : ℕ
   value = value_of t (cell (column_of m s) i j)

@@ -1,4 +1,4 @@
--- The same of charts of the program.
+-- Values that fall from column to column, in charts of the program.
 use Rattle.std.proofs.Common.{Bool, List, Some, ap, arith, inl, inr, length, slice_get, ℕ, ◌+◌, ◌<◌, ◌∙◌, ◌≡◌, ◌≤◌, ◌⊎◌}
 use Rattle.std.proofs.lemmas.Bool.{cases_lt}
 use Rattle.pv_model.specs.Plain.{PlainToken}
@@ -12,8 +12,8 @@ use Rattle.pv_span.specs.PlainForms.{DiffersInRow, IsAttainedSoFar, plain_chart}
 use Rattle.pv_span.specs.Waits.{AreHeld, HaveFallen, IsHeld, IsHeldFrom, IsLoweredTo, Waits}
 use Rattle.pv_span.specs.declared.charts.Chart.{Chart}
 use Rattle.pv_span.specs.declared.waiting.Waiting.{Waiting}
-use Rattle.pv_span.proofs.Holding.{StillWaits, begin_more, less_held, lowered_below, lowered_held, none_held, place_more}
-use Rattle.pv_span.proofs.Settling.{at_hand}
+use Rattle.pv_span.proofs.WaitingColumns.{StillWaits, begin_more, less_held, lowered_below, lowered_held, none_held, place_more}
+use Rattle.pv_span.proofs.LoweredRows.{at_hand}
 
 module _ (g : List PlainForm) (w : List PlainToken) (i j : ℕ) (t new : Chart) (a : IsAttainedSoFar g w t) (b : IsAttainedSoFar g w new) (p : t.from ≡ i) (q : t.to ≡ j) (s : DiffersInRow t new)
     (before behind : Waiting) (f : HaveFallen before behind t.row.items new.row.items) where
@@ -36,13 +36,18 @@ module _ (g : List PlainForm) (w : List PlainToken) (i j : ℕ) (t new : Chart) 
   pub first_held : (c : ℕ) (x : Bool) → c < length t.row.items → IsLoweredTo (IsLeastAt g w (value_of (plain_chart t)) (cell c i j)) t.row.items new.row.items c x →
       IsHeld g w i j (Waits behind) (plain_chart new) c
   first_held c x lt l n xs r =
-      lowered_held g w i j (plain_chart t) (plain_chart new) old_one new_one s.2 same_rows (Waits behind) f.each c n l.sum xs r (lowered_below t.row.items new.row.items c _ x lt l.lowered) (l.is_sum.below n xs r)
+      lowered_held g w i j (plain_chart t) (plain_chart new) old_one new_one s.2 same_rows
+      (Waits behind) f.each c n l.sum xs r (lowered_below t.row.items new.row.items c _ x lt
+      l.lowered) (l.is_sum.below n xs r)
 
   -- to that of the rules with a right side over the whole span
   pub next_held : (c v : ℕ) (x : Bool) → c < length t.row.items → IsLoweredTo (IsSumFrom g w (value_of (plain_chart t)) (cell c i j) v) t.row.items new.row.items c x →
       IsHeldFrom g w i j (Waits behind) (plain_chart t) (plain_chart new) c v
   next_held c v x lt l n xs d r h k =
-      lowered_held g w i j (plain_chart t) (plain_chart new) old_one new_one s.2 same_rows (Waits behind) f.each c n l.sum xs r (lowered_below t.row.items new.row.items c _ x lt l.lowered) (l.is_sum.below n xs d r h (let e = at_hand g w i j (plain_chart t) old_one d in omega arith))
+      lowered_held g w i j (plain_chart t) (plain_chart new) old_one new_one s.2 same_rows
+      (Waits behind) f.each c n l.sum xs r (lowered_below t.row.items new.row.items c _ x lt
+      l.lowered) (l.is_sum.below n xs d r h
+      (let e = at_hand g w i j (plain_chart t) old_one d in omega arith))
 
   pub one_begun : (k : ℕ) → ((c : ℕ) → c < k → IsHeld g w i j (Waits before) (plain_chart t) c) → IsHeld g w i j (Waits behind) (plain_chart new) k →
       (c : ℕ) → c < k + 1 → IsHeld g w i j (Waits behind) (plain_chart new) c

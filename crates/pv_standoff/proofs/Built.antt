@@ -1,5 +1,6 @@
 -- What a document in the making is, by the number of units that have been taken.
-use Rattle.std.proofs.Common.{suc, max, ◌≡◌, inl, inr, ℕ, ◌+◌, ◌-◌, ◌<◌, ◌≤◌, List, [], ◌∷◌, ◌++◌, length, length-drop, take, drop, get_or, map, reverse, refl, sym, ◌∙◌, ap, subst, arith, append_assoc}
+use Rattle.std.proofs.Common.{suc, max, ◌≡◌, inl, inr, ℕ, ◌+◌, ◌-◌, ◌<◌, ◌≤◌, List, [], ◌∷◌, ◌++◌, length, length-drop, take, drop, get_or, map}
+use Rattle.std.proofs.Common.{reverse, refl, sym, ◌∙◌, ap, subst, arith, append_assoc}
 use Rattle.std.specs.List.{AllByRecursion}
 use Rattle.std.proofs.lemmas.List.{drop-drop, take_rest, map-append, reverse-append, get_or-map, drop_more, take_more, length-map, length-reverse, take-append-drop}
 use Rattle.std.specs.Borrow.{Bor}
@@ -17,9 +18,9 @@ use Rattle.pv_chars.specs.Units.{units_in}
 use Rattle.pv_standoff.specs.Texts.{SpellsUnits}
 use Rattle.pv_standoff.proofs.TextLemmas.{spelled-units, spells-drop}
 use Rattle.pv_standoff.proofs.Lists.{all-map}
-use Rattle.pv_standoff.proofs.Sorted.{Among, all-among}
+use Rattle.pv_standoff.proofs.OneSortedOrder.{Among, all-among}
 use Rattle.pv_standoff.proofs.Stacks.{open_depth, IsBuilt, start, close_step, open_step, end_step}
-use Rattle.pv_standoff.proofs.Opening.{within_text, cut_rest, fits}
+use Rattle.pv_standoff.proofs.OpenRanges.{within_text, cut_rest, fits}
 
 module _ (root : List ℕ) (text : List (List ℕ)) where
   -- `at` units have been taken, and these ranges opened

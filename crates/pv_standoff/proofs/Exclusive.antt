@@ -16,8 +16,8 @@ use Rattle.pv_standoff.specs.Nested.{Nests, HasTwice, HasCrossing, Refuses}
 use Rattle.pv_standoff.specs.Refused.{IsFirstOutside, IsFirstTwice, IsFirstCrossing}
 use Rattle.pv_standoff.specs.Spans.{StandsForRanges}
 use Rattle.pv_standoff.proofs.Lists.{cuts}
-use Rattle.pv_standoff.proofs.Sorted.{Among, all-among, all-permutation, among-contains, before_or_not, hits, hits_alike, no_hits_at, one_order, self_hits, none_twice-permutation, place_cases}
-use Rattle.pv_standoff.proofs.Opening.{among-middle}
+use Rattle.pv_standoff.proofs.OneSortedOrder.{Among, all-among, all-permutation, among-contains, before_or_not, hits, hits_alike, no_hits_at, one_order, self_hits, none_twice-permutation, place_cases}
+use Rattle.pv_standoff.proofs.OpenRanges.{among-middle}
 use Rattle.pv_standoff.proofs.One.{one_document}
 
 twice_again : (a b : List Range) (r q : Range) → NoneTwice (a ++ r ∷ q ∷ b) → HaveSamePlace r q → ⊥
@@ -182,7 +182,9 @@ one_twice (y ∷ a) r x c (y' ∷ a') r' x' c' p n n' s s' = one_twice a r x c a
 
 same_place_twice : (ranges s s' : List Range) (r r' : Range) → IsSortedFrom ranges s → IsSortedFrom ranges s' → IsFirstTwice s r → IsFirstTwice s' r' → HaveSamePlace r r'
 same_place_twice ranges s s' r r' i i' f f' =
-    let same = same_places s s' i.in_order i'.in_order (λ p. let a = sum_by-IsPermutation (hits p) ranges s i.permutation in let b = sum_by-IsPermutation (hits p) ranges s' i'.permutation in omega (arith, a, b)) in
+    let same = same_places s s' i.in_order i'.in_order
+    (λ p. let a = sum_by-IsPermutation (hits p) ranges s i.permutation in
+    let b = sum_by-IsPermutation (hits p) ranges s' i'.permutation in omega (arith, a, b)) in
     one_twice f.before r f.second f.after f'.before r' f'.second f'.after (subst (λ z. SamePlaces z (f'.before ++ r' ∷ f'.second ∷ f'.after)) f.is_split (subst (SamePlaces s) f'.is_split same))
     f.once f'.once f.same f'.same
 

@@ -10,18 +10,20 @@ use Rattle.pv_standoff.specs.declared.ranges.Range.{Range}
 use Rattle.pv_standoff.specs.Spans.{document_of_root, root_of, spans_of_all, span_of, StandsForRanges}
 use Rattle.pv_standoff.specs.Laws.{HasDocument}
 use Rattle.pv_standoff.proofs.Lists.{all-map, all-right}
-use Rattle.pv_standoff.proofs.Sorted.{Among, all-among, among-all, all-recursion, contains-among, among-contains}
+use Rattle.pv_standoff.proofs.OneSortedOrder.{Among, all-among, among-all, all-recursion, contains-among, among-contains}
 use Rattle.pv_standoff.specs.Stacks.{stack_depth, PlainOpen, with_text, stack_units, add, tree_of, write, opened, HoldRanges}
 use Rattle.pv_standoff.proofs.Stacks.{close_depth, open_depth, end_depth, IsBuilt, start, close_step, open_step, end_step}
 use Rattle.pv_standoff.proofs.Order.{sorted_from}
-use Rattle.pv_standoff.proofs.Uncrossed.{among-append, between_in, none_cross_in}
-use Rattle.pv_standoff.proofs.Opening.{within_text, cut_rest, close_until, fits}
+use Rattle.pv_standoff.proofs.NoCrossing.{among-append, between_in, none_cross_in}
+use Rattle.pv_standoff.proofs.OpenRanges.{within_text, cut_rest, close_until, fits}
 
 later_from : {n : ℕ} (r x : Range) → n ≡ r.from → (IsRangeBefore x r → ⊥) → n ≤ x.from
 later_from r x e b = grind arith
 
 module _ (root : List ℕ) (text : List (List ℕ)) where
-  close_all : (done : List Range) (f : PlainOpen) (fs : List PlainOpen) (rest : List (List ℕ)) → IsBuilt root text done f fs rest → (kids : Forest Mark) × HoldRanges text done kids × (stack_depth (f ∷ fs) ≤ suc (depth_of_all kids))
+  close_all : (done : List Range) (f : PlainOpen) (fs : List PlainOpen) (rest : List (List ℕ)) →
+      IsBuilt root text done f fs rest → (kids : Forest Mark) × HoldRanges text done kids
+      × (stack_depth (f ∷ fs) ≤ suc (depth_of_all kids))
   close_all done f [] rest b = (forest_of (with_text f.kids rest), end_step root text done f rest b, (let e = end_depth f rest in omega (arith, e)))
   close_all done f (g ∷ fs) rest b =
       let n = f.to - length (stack_units (f ∷ g ∷ fs)) in

@@ -18,7 +18,7 @@ use Rattle.pv_standoff.specs.Ranges.{AreNamed, MAX_RANGES}
 use Rattle.pv_standoff.specs.Spans.{StandsForRanges, document_of_root, root_of, span_of, units_of_all, spans_of_all, AreBare, AreApart, BeginsWithText}
 use Rattle.pv_standoff.specs.declared.ranges.Range.{Range}
 use Rattle.pv_standoff.proofs.Lists.{all-left, all-right}
-use Rattle.pv_standoff.proofs.Sorted.{all-permutation}
+use Rattle.pv_standoff.proofs.OneSortedOrder.{all-permutation}
 use Rattle.pv_standoff.proofs.TextLemmas.{spells-left, spells-right}
 use Rattle.pv_standoff.specs.Texts.{SpellsUnits}
 

@@ -1,18 +1,18 @@
 -- for other crates:
 -- of this crate:
 pub mod Lists
-pub mod Sorted
+pub mod OneSortedOrder
 pub mod Same
 pub mod One
 pub mod Pushes
 pub mod Stacks
 pub mod Order
-pub mod Uncrossed
-pub mod Opening
+pub mod NoCrossing
+pub mod OpenRanges
 pub mod Exists
-pub mod Compared
+pub mod SortedOrder
 pub mod Built
-pub mod Crossing
+pub mod FirstCrossing
 pub mod Exclusive
 pub mod TextLemmas
 pub mod Facts

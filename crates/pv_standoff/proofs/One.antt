@@ -5,7 +5,7 @@ use Rattle.std.proofs.lemmas.List.Sorted.{All-permutation}
 use Rattle.pv_standoff.specs.declared.ranges.Range.{Range}
 use Rattle.pv_standoff.specs.Spans.{document_of_root, root_of, span_of}
 use Rattle.pv_standoff.specs.Laws.{OneDocument}
-use Rattle.pv_standoff.proofs.Sorted.{all-recursion, one_order}
+use Rattle.pv_standoff.proofs.OneSortedOrder.{all-recursion, one_order}
 use Rattle.pv_standoff.proofs.Same.{IsFull, same_forests}
 
 full_spans : (rs : List Range) → AllByRecursion (λ r. r.from < r.to) rs → AllByRecursion IsFull (map span_of rs)

@@ -6,7 +6,7 @@ use Rattle.std.proofs.lemmas.List.Sorted.{IsPermutation-refl, IsPermutation-sym,
 use Rattle.pv_standoff.specs.Ranges.{IsRangeBefore, AreSorted, IsSortedFrom}
 use Rattle.pv_standoff.specs.declared.ranges.Range.{Range}
 use Rattle.pv_standoff.proofs.Lists.{all-map}
-use Rattle.pv_standoff.proofs.Sorted.{Among, all-among, among-all, before_once}
+use Rattle.pv_standoff.proofs.OneSortedOrder.{Among, all-among, among-all, before_once}
 
 pub before_cases : (q r : Range) → IsRangeBefore q r ⊎ (IsRangeBefore q r → ⊥)
 before_cases q r = elim (cases_order q.from r.from) [

@@ -88,7 +88,9 @@ same_forests n (tree (element x t g k m) r) (tree (element x' t' g' k' m') r') b
     let tails : spans_of_all n k ++ spans_of_all (n + length (units_of_all k)) r ≡ spans_of_all n k' ++ spans_of_all (n + length (units_of_all k')) r' = cc in
     let tails' = rw (sym em) at tails in
     let f' : AllByRecursion IsFull (spans_of_all n k' ++ spans_of_all (n + length (units_of_all k)) r') = rw tails' at f.1 in
-    let here = same_split (λ z. z.from) (n + length (units_of_all k)) (spans_of_all n k) (spans_of_all n k') (spans_of_all (n + length (units_of_all k)) r) (spans_of_all (n + length (units_of_all k)) r')
+    let here = same_split (λ z. z.from) (n + length (units_of_all k)) (spans_of_all n k)
+    (spans_of_all n k') (spans_of_all (n + length (units_of_all k)) r)
+    (spans_of_all (n + length (units_of_all k)) r')
     (begin_before n k (all-left IsFull (spans_of_all n k) _ f.1))
     (rw (sym em) at (begin_before n k' (all-left IsFull (spans_of_all n k') _ f')))
     (begin_after (n + length (units_of_all k)) r)

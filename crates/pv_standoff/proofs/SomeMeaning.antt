@@ -18,12 +18,12 @@ use Rattle.pv_standoff.specs.declared.errors.NestError.TheVariants as error
 use Rattle.pv_standoff.specs.declared.errors.RangesError.{RangesError}
 use Rattle.pv_standoff.specs.declared.errors.RangesError.TheVariants.{Limit, Syntax}
 use Rattle.pv_standoff.specs.declared.ranges.Range.{Range}
-use Rattle.pv_standoff.proofs.Crossing.{none_cross_push, once_push}
+use Rattle.pv_standoff.proofs.FirstCrossing.{none_cross_push, once_push}
 use Rattle.pv_standoff.proofs.Exclusive.{all_full}
 use Rattle.pv_standoff.proofs.Exists.{has_one}
 use Rattle.pv_standoff.proofs.Order.{sorted_from}
 use Rattle.pv_standoff.proofs.ReadingLemmas.{no_range, spell-length, spell-push, spelled-range_of}
-use Rattle.pv_standoff.proofs.Sorted.{Among, all-among, contains-among, none_twice-permutation, place_cases}
+use Rattle.pv_standoff.proofs.OneSortedOrder.{Among, all-among, contains-among, none_twice-permutation, place_cases}
 
 -- ---- outside
 inside_cases : (n : ℕ) (r : Range) → IsInsideText n r ⊎ (IsInsideText n r → ⊥)

@@ -7,7 +7,8 @@ use Rattle.pv_standoff.specs.declared.ranges.Range.{Range}
 use Rattle.pv_standoff.specs.Spans.{Span, spans_of, spans_of_all, AreBare, AreApart, span_of}
 use Rattle.pv_standoff.specs.Stacks.{stack_depth, PlainOpen, with_text, open_units, open_span, open_spans, stack_units, stack_spans, write, tree_of, add, opened, HoldRanges}
 use Rattle.pv_standoff.proofs.Lists.{all-map}
-use Rattle.pv_standoff.proofs.Pushes.{depth-push, depth-with_text, EndsWithText, units-push, spans-push, bare-push, apart-push, end-push, units-with_text, spans-with_text, bare-with_text, apart-with_text}
+use Rattle.pv_standoff.proofs.Pushes.{depth-push, depth-with_text, EndsWithText, units-push, spans-push, bare-push, apart-push, end-push}
+use Rattle.pv_standoff.proofs.Pushes.{units-with_text, spans-with_text, bare-with_text, apart-with_text}
 
 -- each begins where those round it are so far, ends within them, and has fine kids
 abbrev pub AreOpen : List PlainOpen → Type 0

@@ -10,7 +10,7 @@ use Rattle.pv_tree.specs.Words.{word_of}
 use Rattle.pv_missing.specs.Weighing.{site_of, whole}
 use Rattle.pv_tables.specs.Values.{HasWholeValue, HaveTotal, listed_value}
 use Rattle.pv_tables.specs.declared.tables.Table.{Table}
-use Rattle.pv_table_check.proofs.Placed.{same_list}
+use Rattle.pv_table_check.proofs.ListPlaces.{same_list}
 
 module _ {M : Type 0} (g : PlainDtd) (root : List ℕ) (doc : PlainDoc M) where
   abbrev Has : Table → ℕ → Type 0

@@ -36,10 +36,16 @@ light_value cases es o x = by_case (cases es x)
     by_case (inr (v, none)) = omega arith
 
 -- the entries of a site, or those of them that begin at a place, give it the values that all give it
-pub same_value_by : ListedOrNot → (es : List Entry) → AllPairs Precedes es → (anywhere : Bool) (probe : Entry) (found : List Entry) → AreLike es anywhere probe found → AllPairs Precedes found → (i j : ℕ) → (anywhere ≡ false → i ≡ probe.from) → listed_value found (over (plain_site probe.site) i j) ≡ listed_value es (over (plain_site probe.site) i j)
+pub same_value_by : ListedOrNot → (es : List Entry) → AllPairs Precedes es →
+    (anywhere : Bool) (probe : Entry) (found : List Entry) → AreLike es anywhere probe found →
+    AllPairs Precedes found → (i j : ℕ) → (anywhere ≡ false → i ≡ probe.from) →
+    listed_value found (over (plain_site probe.site) i j) ≡ listed_value es (over (plain_site probe.site) i j)
 same_value_by cases es q anywhere probe found a p i j from = by_case (cases es (over (plain_site probe.site) i j))
   where
-    by_case : IsListed es (over (plain_site probe.site) i j) ⊎ IsUnlisted es (over (plain_site probe.site) i j) → listed_value found (over (plain_site probe.site) i j) ≡ listed_value es (over (plain_site probe.site) i j)
+    by_case : IsListed es (over (plain_site probe.site) i j)
+        ⊎ IsUnlisted es (over (plain_site probe.site) i j) →
+        listed_value found (over (plain_site probe.site) i j) ≡ listed_value es
+        (over (plain_site probe.site) i j)
     by_case (inl (e, m, g, v)) =
         let here = a.all e m (record { same_site = ap (λ (x : Goal). x.site) g; same_from = λ f. ap (λ (x : Goal). x.from) g ∙ from f }) in
         let own = own_value found p cases e here in
@@ -72,7 +78,9 @@ module _ (cases : ListedOrNot) (es : List Entry) (o : AreAscendingEntries es) wh
   site_cases probe found a i j = by_case (cases es (over (plain_site probe.site) i j))
     where
       by_case : IsListed es (over (plain_site probe.site) i j) ⊎ IsUnlisted es (over (plain_site probe.site) i j) →
-          ((e : Entry) × Contains found e × (e.from ≡ i) × (e.to ≡ j) × (listed_value es (over (plain_site probe.site) i j) ≡ e.value)) ⊎ (listed_value es (over (plain_site probe.site) i j) ≡ heaviest)
+          ((e : Entry) × Contains found e × (e.from ≡ i) × (e.to ≡ j)
+          × (listed_value es (over (plain_site probe.site) i j) ≡ e.value))
+          ⊎ (listed_value es (over (plain_site probe.site) i j) ≡ heaviest)
       by_case (inl (e, m, g, v)) = inl (e, a.all e m (record { same_site = ap (λ (x : Goal). x.site) g; same_from = λ f. absurd cc }), ap (λ (x : Goal). x.from) g, ap (λ (x : Goal). x.to) g, v)
       by_case (inr (v, none)) = inr v
 
@@ -81,7 +89,9 @@ module _ (cases : ListedOrNot) (es : List Entry) (o : AreAscendingEntries es) wh
   start_cases probe found a j = by_case (cases es (over (plain_site probe.site) probe.from j))
     where
       by_case : IsListed es (over (plain_site probe.site) probe.from j) ⊎ IsUnlisted es (over (plain_site probe.site) probe.from j) →
-          ((e : Entry) × Contains found e × (e.to ≡ j) × (listed_value es (over (plain_site probe.site) probe.from j) ≡ e.value)) ⊎ (listed_value es (over (plain_site probe.site) probe.from j) ≡ heaviest)
+          ((e : Entry) × Contains found e × (e.to ≡ j)
+          × (listed_value es (over (plain_site probe.site) probe.from j) ≡ e.value))
+          ⊎ (listed_value es (over (plain_site probe.site) probe.from j) ≡ heaviest)
       by_case (inl (e, m, g, v)) = inl (e, a.all e m (record { same_site = ap (λ (x : Goal). x.site) g; same_from = λ f. ap (λ (x : Goal). x.from) g }), ap (λ (x : Goal). x.to) g, v)
       by_case (inr (v, none)) = inr v
 
@@ -93,11 +103,15 @@ module _ (cases : ListedOrNot) (es : List Entry) (o : AreAscendingEntries es) wh
     pub all_one : ((k : ℕ) (d : Entry) → k < length found → IsWithin (get_or found k d)) → WeighsAsOne es left (plain_site probe.site) cost
     all_one h i j = by_case (site_cases probe found a i j)
       where
-        by_case : ((e : Entry) × Contains found e × (e.from ≡ i) × (e.to ≡ j) × (listed_value es (over (plain_site probe.site) i j) ≡ e.value)) ⊎ (listed_value es (over (plain_site probe.site) i j) ≡ heaviest) →
+        by_case : ((e : Entry) × Contains found e × (e.from ≡ i) × (e.to ≡ j)
+            × (listed_value es (over (plain_site probe.site) i j) ≡ e.value))
+            ⊎ (listed_value es (over (plain_site probe.site) i j) ≡ heaviest) →
             listed_value es (over left i j) ≤ min heaviest (cost + listed_value es (over (plain_site probe.site) i j))
         by_case (inl (e, m, f, t, v)) =
             let w = by_items IsWithin found h e m in
-            let x : listed_value es (over left i j) ≤ cost + e.value = subst (λ k. listed_value es (over left k j) ≤ cost + e.value) f (subst (λ k. listed_value es (over left e.from k) ≤ cost + e.value) t w) in
+            let x : listed_value es (over left i j) ≤ cost + e.value =
+            subst (λ k. listed_value es (over left k j) ≤ cost + e.value) f
+            (subst (λ k. listed_value es (over left e.from k) ≤ cost + e.value) t w) in
             let y = is_light (over left i j) in omega arith
         by_case (inr v) = let y = is_light (over left i j) in omega arith
 
@@ -105,7 +119,9 @@ module _ (cases : ListedOrNot) (es : List Entry) (o : AreAscendingEntries es) wh
     one_within h e m = let l = a.like e m in let v = like_value true probe e l.0 l.1 in let x = h e.from e.to in omega arith
 
   -- ---- a second site after an entry, by the entries of the first site
-  module _ (ls : List Entry) (lo : AreAscendingEntries ls) (left : PlainSite) (one : Entry) (inner : Bool) (probe : Entry) (from : probe.from ≡ one.to) (found : List Entry) (a : AreLike es false probe found) where
+  module _ (ls : List Entry) (lo : AreAscendingEntries ls) (left : PlainSite) (one : Entry)
+      (inner : Bool) (probe : Entry) (from : probe.from ≡ one.to) (found : List Entry)
+      (a : AreLike es false probe found) where
     abbrev pub IsWithinBoth : Entry → Type 0
     IsWithinBoth e = (inner ≡ true → one.to < e.to) → listed_value ls (over left one.from e.to) ≤ one.value + e.value
 
@@ -115,11 +131,15 @@ module _ (cases : ListedOrNot) (es : List Entry) (o : AreAscendingEntries es) wh
     pub all_behind : ((k : ℕ) (d : Entry) → k < length found → IsWithinBoth (get_or found k d)) → Behind
     all_behind h j more = by_case (start_cases probe found a j)
       where
-        by_case : ((e : Entry) × Contains found e × (e.to ≡ j) × (listed_value es (over (plain_site probe.site) probe.from j) ≡ e.value)) ⊎ (listed_value es (over (plain_site probe.site) probe.from j) ≡ heaviest) →
+        by_case : ((e : Entry) × Contains found e × (e.to ≡ j)
+            × (listed_value es (over (plain_site probe.site) probe.from j) ≡ e.value))
+            ⊎ (listed_value es (over (plain_site probe.site) probe.from j) ≡ heaviest) →
             listed_value ls (over left one.from j) ≤ min heaviest (one.value + listed_value es (over (plain_site probe.site) one.to j))
         by_case (inl (e, m, t, v)) =
             let w = by_items IsWithinBoth found h e m in
-            let x : listed_value ls (over left one.from j) ≤ one.value + e.value = subst (λ k. listed_value ls (over left one.from k) ≤ one.value + e.value) t (w (λ i. let l = more i in omega arith)) in
+            let x : listed_value ls (over left one.from j) ≤ one.value + e.value =
+            subst (λ k. listed_value ls (over left one.from k) ≤ one.value + e.value) t
+            (w (λ i. let l = more i in omega arith)) in
             let z : listed_value es (over (plain_site probe.site) one.to j) ≡ e.value = subst (λ k. listed_value es (over (plain_site probe.site) k j) ≡ e.value) from v in
             let y = light_value cases ls lo (over left one.from j) in omega arith
         by_case (inr v) =
@@ -142,11 +162,16 @@ module _ (cases : ListedOrNot) (es : List Entry) (o : AreAscendingEntries es) wh
     pub all_two : ((k : ℕ) (d : Entry) → k < length found → IsFirstWithin (get_or found k d)) → WeighsAsTwo es left (plain_site probe.site) second outer inner
     all_two h i k j more behind = by_case (site_cases probe found a i k)
       where
-        by_case : ((e : Entry) × Contains found e × (e.from ≡ i) × (e.to ≡ k) × (listed_value es (over (plain_site probe.site) i k) ≡ e.value)) ⊎ (listed_value es (over (plain_site probe.site) i k) ≡ heaviest) →
+        by_case : ((e : Entry) × Contains found e × (e.from ≡ i) × (e.to ≡ k)
+            × (listed_value es (over (plain_site probe.site) i k) ≡ e.value))
+            ⊎ (listed_value es (over (plain_site probe.site) i k) ≡ heaviest) →
             listed_value es (over left i j) ≤ min heaviest (listed_value es (over (plain_site probe.site) i k) + listed_value es (over second k j))
         by_case (inl (e, m, f, t, v)) =
             let w = by_items IsFirstWithin found h e m (λ o. let l = more o in omega arith) j (λ n. let l = behind n in omega arith) in
-            let x = subst (λ n. listed_value es (over left n j) ≤ min heaviest (e.value + listed_value es (over second k j))) f (subst (λ n. listed_value es (over left e.from j) ≤ min heaviest (e.value + listed_value es (over second n j))) t w) in
+            let x = subst (λ n. listed_value es (over left n j) ≤ min heaviest
+            (e.value + listed_value es (over second k j))) f
+            (subst (λ n. listed_value es (over left e.from j) ≤ min heaviest
+            (e.value + listed_value es (over second n j))) t w) in
             subst (λ n. listed_value es (over left i j) ≤ min heaviest (n + listed_value es (over second k j))) (sym v) x
         by_case (inr v) = let y = is_light (over left i j) in omega arith
 
@@ -162,9 +187,13 @@ module _ (cases : ListedOrNot) (es : List Entry) (o : AreAscendingEntries es) wh
     IsWithinText e = (i : ℕ) → suc i ≡ e.from → slice_get w i ≡ Some text → listed_value es (over (content_site x) i e.to) ≤ e.value
 
     pub all_text : ((k : ℕ) (d : Entry) → k < length found → IsWithinText (get_or found k d)) → WeighsAsBehindText es w x
-    all_text h i j at = by_case (subst (λ s. ((e : Entry) × Contains found e × (e.from ≡ suc i) × (e.to ≡ j) × (listed_value es (over s (suc i) j) ≡ e.value)) ⊎ (listed_value es (over s (suc i) j) ≡ heaviest)) site (site_cases probe found a (suc i) j))
+    all_text h i j at = by_case (subst (λ s. ((e : Entry) × Contains found e × (e.from ≡ suc i)
+        × (e.to ≡ j) × (listed_value es (over s (suc i) j) ≡ e.value))
+        ⊎ (listed_value es (over s (suc i) j) ≡ heaviest)) site (site_cases probe found a (suc i) j))
       where
-        by_case : ((e : Entry) × Contains found e × (e.from ≡ suc i) × (e.to ≡ j) × (listed_value es (over (content_site x) (suc i) j) ≡ e.value)) ⊎ (listed_value es (over (content_site x) (suc i) j) ≡ heaviest) →
+        by_case : ((e : Entry) × Contains found e × (e.from ≡ suc i) × (e.to ≡ j)
+            × (listed_value es (over (content_site x) (suc i) j) ≡ e.value))
+            ⊎ (listed_value es (over (content_site x) (suc i) j) ≡ heaviest) →
             listed_value es (over (content_site x) i j) ≤ min heaviest (listed_value es (over (content_site x) (suc i) j))
         by_case (inl (e, m, f, t, v)) =
             let b = by_items IsWithinText found h e m i (sym f) at in

@@ -131,7 +131,9 @@ module _ (cases : ListedOrNot) (es : List Entry) (o : AreAscendingEntries es) (p
     pub each_member : AreNoLess es p found → Each
     each_member h s is i k j outer inner = by_case (cases es (over s i k))
       where
-        by_case : IsListed es (over s i k) ⊎ IsUnlisted es (over s i k) → listed_value es (over (plain_site p.left) i j) ≤ min heaviest (listed_value es (over s i k) + listed_value es (over (plain_site p.second) k j))
+        by_case : IsListed es (over s i k) ⊎ IsUnlisted es (over s i k) →
+            listed_value es (over (plain_site p.left) i j) ≤ min heaviest (listed_value es
+            (over s i k) + listed_value es (over (plain_site p.second) k j))
         by_case (inl (e, m, g, v)) =
             let site : plain_site e.site ≡ s = ap (λ (x : Goal). x.site) g in
             let f : e.from ≡ i = ap (λ (x : Goal). x.from) g in

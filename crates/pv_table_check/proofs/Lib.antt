@@ -1,6 +1,6 @@
 -- of this crate:
 pub mod AddedUp
-pub mod Ascending
+pub mod AscendingLists
 pub mod AtSites
 pub mod ByForms
 pub mod ClosedSites
@@ -12,7 +12,7 @@ pub mod LikeEntries
 pub mod FewMembers
 pub mod MadeTables
 pub mod PathSteps
-pub mod Placed
+pub mod ListPlaces
 pub mod RowValues
 pub mod Sequences
 pub mod TableParts

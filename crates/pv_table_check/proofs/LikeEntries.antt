@@ -1,5 +1,6 @@
 -- The entries of a site, or those of them that begin at one place.
-use Rattle.std.proofs.Common.{◌≡◌, ◌<◌, ◌≤◌, ◌+◌, ◌-◌, ◌⊎◌, Bool, true, false, ℕ, List, Some, refl, inl, inr, sym, ◌∙◌, ap, subst, length, slice_get, slice_range, get_or, drop, length-drop, length-take-le, arith}
+use Rattle.std.proofs.Common.{◌≡◌, ◌<◌, ◌≤◌, ◌+◌, ◌-◌, ◌⊎◌, Bool, true, false, ℕ, List, Some, refl, inl, inr, sym, ◌∙◌, ap, subst, length, slice_get}
+use Rattle.std.proofs.Common.{slice_range, get_or, drop, length-drop, length-take-le, arith}
 use Rattle.std.specs.List.{AllPairs, Contains}
 use Rattle.std.proofs.lemmas.Bool.{cases_lt}
 use Rattle.std.proofs.lemmas.List.{get_or-drop, get_or-take}
@@ -12,7 +13,8 @@ use Rattle.pv_table_check.specs.Lookup.{AreLike, IsLeastProbe, IsLike}
 use Rattle.pv_table_check.proofs.EntryOrder.{at_contains, contains_at, in_order}
 
 -- what stands between a least probe and an entry that is like it is like it too
-module _ (told : SitesAreTold) (anywhere : Bool) (probe d e : Entry) (least : IsLeastProbe anywhere probe) (behind : Precedes d probe → ⊥) (before : Precedes d e) (like : IsLike anywhere probe e) where
+module _ (told : SitesAreTold) (anywhere : Bool) (probe d e : Entry) (least : IsLeastProbe anywhere
+    probe) (behind : Precedes d probe → ⊥) (before : Precedes d e) (like : IsLike anywhere probe e) where
   rank : kind_rank (plain_site e.site) ≡ kind_rank (plain_site probe.site)
   rank = ap kind_rank like.same_site
 
@@ -22,7 +24,9 @@ module _ (told : SitesAreTold) (anywhere : Bool) (probe d e : Entry) (least : Is
   same_rank : kind_rank (plain_site d.site) ≡ kind_rank (plain_site probe.site)
   same_rank = by_case before (cases_lt (kind_rank (plain_site d.site)) (kind_rank (plain_site probe.site)))
     where
-      by_case : Precedes d e → (kind_rank (plain_site d.site) < kind_rank (plain_site probe.site)) ⊎ (kind_rank (plain_site probe.site) ≤ kind_rank (plain_site d.site)) → kind_rank (plain_site d.site) ≡ kind_rank (plain_site probe.site)
+      by_case : Precedes d e → (kind_rank (plain_site d.site) < kind_rank (plain_site probe.site))
+          ⊎ (kind_rank (plain_site probe.site) ≤ kind_rank (plain_site d.site)) →
+          kind_rank (plain_site d.site) ≡ kind_rank (plain_site probe.site)
       by_case b (inl less) = absurd (behind (inl less))
       by_case (inl b) (inr more) = let r = rank in absurd (omega arith)
       by_case (inr (b, c)) (inr more) = b ∙ rank
@@ -30,7 +34,10 @@ module _ (told : SitesAreTold) (anywhere : Bool) (probe d e : Entry) (least : Is
   same_number : site_number (plain_site d.site) ≡ site_number (plain_site probe.site)
   same_number = by_case before (cases_lt (site_number (plain_site d.site)) (site_number (plain_site probe.site)))
     where
-      by_case : Precedes d e → (site_number (plain_site d.site) < site_number (plain_site probe.site)) ⊎ (site_number (plain_site probe.site) ≤ site_number (plain_site d.site)) → site_number (plain_site d.site) ≡ site_number (plain_site probe.site)
+      by_case : Precedes d e →
+          (site_number (plain_site d.site) < site_number (plain_site probe.site))
+          ⊎ (site_number (plain_site probe.site) ≤ site_number (plain_site d.site)) →
+          site_number (plain_site d.site) ≡ site_number (plain_site probe.site)
       by_case b (inl less) = absurd (behind (inr (same_rank, inl less)))
       by_case (inl b) (inr more) = let r = rank in let s = same_rank in absurd (omega arith)
       by_case (inr (b, inl c)) (inr more) = let r = number in absurd (omega arith)

@@ -61,7 +61,9 @@ module _ (g : PlainDtd) (root : List ℕ) {M : Type 0} where
   ascend : (lists : List (Listed M)) (ts : List Table) → AllPairs IsListBefore lists → AreTables g root lists ts → AllPairs Before ts
   ascend _ _ p no_list = λ i j d lt within. absurd (omega arith)
   ascend _ _ p (possible_list list lists t ts q i a) = AllPairs-cons Before t ts
-      (All-weaker (IsAt lists) (Before t) (λ u h. subst (λ x. IsPathBefore t.path x) (sym h.2) (subst (λ x. IsPathBefore x h.0.path) (sym i.is_path) (first_before IsListBefore list lists p h.0 h.1))) ts (at_lists lists ts a))
+      (All-weaker (IsAt lists) (Before t) (λ u h. subst (λ x. IsPathBefore t.path x) (sym h.2)
+      (subst (λ x. IsPathBefore x h.0.path) (sym i.is_path) (first_before IsListBefore list
+      lists p h.0 h.1))) ts (at_lists lists ts a))
       (ascend lists ts (others IsListBefore list lists p) a)
   ascend _ _ p (other_list list lists ts q a) = ascend lists ts (others IsListBefore list lists p) a
 

@@ -1,5 +1,6 @@
 -- Values that are laid out, and sums of them.
-use Rattle.std.proofs.Common.{◌≡◌, ◌<◌, ◌≤◌, ◌+◌, ◌-◌, ◌⊎◌, Bool, true, false, ℕ, List, Some, refl, inl, inr, suc, sym, ap, subst, min, length, slice_get, get_or, drop, length-drop, arith, ◌∙◌, [], ◌∷◌, ◌++◌, zero, if◌then◌else◌}
+use Rattle.std.proofs.Common.{◌≡◌, ◌<◌, ◌≤◌, ◌+◌, ◌-◌, ◌⊎◌, Bool, true, false, ℕ, List, Some, refl, inl, inr, suc, sym, ap, subst, min, length}
+use Rattle.std.proofs.Common.{slice_get, get_or, drop, length-drop, arith, ◌∙◌, [], ◌∷◌, ◌++◌, zero, if◌then◌else◌}
 use Rattle.std.proofs.lemmas.Bool.{cases_lt}
 use Rattle.std.proofs.lemmas.List.Elements.{All-contains}
 use Rattle.std.proofs.lemmas.List.{get_or-drop, get_or_push, length_push}
@@ -39,7 +40,9 @@ module _ (cases : ListedOrNot) (es : List Entry) (most : ℕ) (o : AreOverPlaces
       by_case (inr (v, none)) = inr v
 
   -- a site after an entry weighs no less exactly where no sum of two values is less
-  module _ (l s : PlainSite) (from to v : ℕ) (inner : Bool) (ls ss : List ℕ) (lv : AreValuesFrom es l most from ls) (sv : AreValuesFrom es s most to ss) (rise : from ≤ to) (n : ℕ) (is : n ≡ (if inner then 1 else 0)) where
+  module _ (l s : PlainSite) (from to v : ℕ) (inner : Bool) (ls ss : List ℕ)
+      (lv : AreValuesFrom es l most from ls) (sv : AreValuesFrom es s most to ss) (rise : from ≤ to)
+      (n : ℕ) (is : n ≡ (if inner then 1 else 0)) where
     abbrev start : ℕ
     start = (to - from) + n
 
@@ -114,5 +117,7 @@ module _ (es : List Entry) (s : PlainSite) (from : ℕ) where
           get_or_push values v 0 k last ∙ e ∙ ap (λ j. listed_value es (over s from j)) same
 
 -- the row of a place
-pub row_at : (es : List Entry) (s : PlainSite) (most : ℕ) (rows : List Row) → AreValueRows es s most rows → (i : ℕ) (r : Row) → r ≡ get_or rows i r → i < length rows → AreValuesFrom es s most i r.values.items
+pub row_at : (es : List Entry) (s : PlainSite) (most : ℕ) (rows : List Row) →
+    AreValueRows es s most rows → (i : ℕ) (r : Row) → r ≡ get_or rows i r → i < length rows →
+    AreValuesFrom es s most i r.values.items
 row_at es s most rows are i r e lt = are.each i r (slice_get-get_or rows i r lt ∙ ap Some (sym e))

@@ -21,9 +21,11 @@ use Rattle.pv_tables.specs.declared.tables.Entry.{Entry}
 use Rattle.pv_tables.specs.declared.tables.Table.{Table}
 use Rattle.pv_table_check.specs.ClosedEntries.{AreOver}
 use Rattle.pv_table_check.specs.ClosedTables.{IsClosedTable, IsFirstWideTable, IsListOf, IsNarrowTable}
-use Rattle.pv_table_check.proofs.Placed.{same_list}
+use Rattle.pv_table_check.proofs.ListPlaces.{same_list}
 
-module _ {M : Type 0} (g : PlainDtd) (root : List ℕ) (doc : PlainDoc M) (t : Table) (site : PlainSite) (kids : Forest M) (f : IsListOf g root (lists_of doc) t.path site kids) (w : List PlainToken) (e : w ≡ word_of g kids) where
+module _ {M : Type 0} (g : PlainDtd) (root : List ℕ) (doc : PlainDoc M) (t : Table)
+    (site : PlainSite) (kids : Forest M) (f : IsListOf g root (lists_of doc) t.path site kids)
+    (w : List PlainToken) (e : w ≡ word_of g kids) where
   same_word : w ≡ word_of g f.list.kids
   same_word = e ∙ ap (word_of g) (sym f.are_kids)
 

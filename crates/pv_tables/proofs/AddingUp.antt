@@ -27,11 +27,13 @@ use Rattle.pv_tables.specs.Tables.{AreAllEntries, AreTables, IsTableOf}
 use Rattle.pv_tables.specs.Values.{HasWholeValue, HaveTotal, listed_value}
 use Rattle.pv_tables.specs.declared.tables.Table.{Table}
 use Rattle.pv_tables.proofs.OneTables.{Splits, none_of, split_tables}
-use Rattle.pv_tables.proofs.Summing.{same_word}
+use Rattle.pv_tables.proofs.WeightSums.{same_word}
 use Rattle.pv_tables.proofs.Values.{entry_weighs}
 
 -- a name's number is below the count of names
-place_behind : (ns : List (List ℕ)) (x : List ℕ) (y : ℕ) (b : Bool) (o : Option ℕ) → ((k : ℕ) → place_of ns x ≡ Some k → k < length ns) → place_of ns x ≡ o → (if b then Some 0 else option_map suc o) ≡ Some y → y < suc (length ns)
+place_behind : (ns : List (List ℕ)) (x : List ℕ) (y : ℕ) (b : Bool) (o : Option ℕ) →
+    ((k : ℕ) → place_of ns x ≡ Some k → k < length ns) → place_of ns x ≡ o →
+    (if b then Some 0 else option_map suc o) ≡ Some y → y < suc (length ns)
 place_behind ns x y true o more h f = let z : 0 ≡ y = cc in omega arith
 place_behind ns x y false None more h f = absurd cc
 place_behind ns x y false (Some k) more h f = let z : suc k ≡ y = cc in let l = more k h in omega arith
@@ -69,14 +71,22 @@ module _ (M : Type 0) where
 
       by_places : (i < j) ⊎ (j ≤ i) → (j < i) ⊎ (i ≤ j) → a ≡ b
       by_places (inl less) more = absurd (apart a b (subst (λ (x : Listed M). IsListBefore x b) one (subst (λ (y : Listed M). IsListBefore (get_or lists i b) y) m (ascend i j b less k))) e)
-      by_places (inr more) (inl less) = absurd (apart b a (subst (λ (x : Listed M). IsListBefore x a) other (subst (λ (y : Listed M). IsListBefore (get_or lists j a) y) h (ascend j i a less l))) (sym e))
+      by_places (inr more) (inl less) =
+          absurd (apart b a (subst (λ (x : Listed M). IsListBefore x a) other
+          (subst (λ (y : Listed M). IsListBefore (get_or lists j a) y) h (ascend j i a less l))) (sym e))
       by_places (inr more) (inr less) = sym one ∙ (let same : i ≡ j = omega arith in ap (λ n. get_or lists n b) same) ∙ m
 
   module _ (follows : LiveFollows) (once : OneLiveWord) (g : PlainDtd) (root : List ℕ) where
     -- the whole-list value of its table is the weight of a live list
     table_weighs : (list : Listed M) (t : Table) (s : PlainSite) → IsLive g root list → site_of g root list.owner ≡ Some s → IsTableOf g list t →
         Weighs g root list (listed_value t.entries (whole s (word_of g list.kids)))
-    table_weighs list t s live is_site of = (s, is_site, entry_weighs g (word_of g list.kids) t.entries entries s 0 (length (word_of g list.kids)) (owner_has_site g root list.owner s is_site) (omega arith, omega arith))
+    table_weighs list t s live is_site of = (
+      s,
+      is_site,
+      entry_weighs g (word_of g list.kids) t.entries entries s 0
+          (length (word_of g list.kids)) (owner_has_site g root list.owner s is_site)
+          (omega arith, omega arith),
+    )
       where
         entries : AreAllEntries g (word_of g list.kids) t.entries
         entries = subst (λ (v : List PlainToken). AreAllEntries g v t.entries) (same_word follows once M g root list.owner list.kids of.live live of.is_live) of.entries
@@ -84,12 +94,17 @@ module _ (M : Type 0) where
     module _ (proper : IsProperDtd g) (nothing : ValidMissesNone M) (all : List (Listed M)) (ascend : AllPairs IsListBefore all) where
       value_weighs : (list : Listed M) (t : Table) (a : ℕ) → Contains all list → IsLive g root list → IsTableOf g list t → HasWholeValue g root all t a → Weighs g root list a
       value_weighs list t a here live of v =
-          subst (Weighs g root list) (sym v.is_value) (subst (λ (k : List PlainToken). Weighs g root list (listed_value t.entries (whole v.site k))) (ap (λ (l : Listed M). word_of g l.kids) same) (table_weighs list t v.site live (ap (λ (l : Listed M). site_of g root l.owner) same ∙ v.is_site) of))
+          subst (Weighs g root list) (sym v.is_value) (subst (λ (k : List PlainToken). Weighs g root
+          list (listed_value t.entries (whole v.site k)))
+          (ap (λ (l : Listed M). word_of g l.kids) same) (table_weighs list t v.site live
+          (ap (λ (l : Listed M). site_of g root l.owner) same ∙ v.is_site) of))
         where
           same : list ≡ v.list
           same = same_place all ascend list v.list here v.is_listed (sym of.is_path ∙ v.is_path)
 
-      weigh_one : (list : Listed M) (lists : List (Listed M)) (v : Verdict) (ts : List Table) (s : ℕ) → Contains all list → IsLive g root list → IsVerdict g root list v → Splits g M root list lists ts →
+      weigh_one : (list : Listed M) (lists : List (Listed M)) (v : Verdict) (ts : List Table)
+          (s : ℕ) → Contains all list → IsLive g root list → IsVerdict g root list v →
+          Splits g M root list lists ts →
           ((us : List Table) (n : ℕ) → AreTables g root lists us → HaveTotal g root all us n → WeighInAll g root lists n) → HaveTotal g root all ts s → WeighInAll g root (list ∷ lists) s
       weigh_one list lists verdict.Valid ts s here live is (inl (p, more)) rest h = absurd (p.1 is.1)
       weigh_one list lists verdict.Valid ts s here live is (inr (p, are)) rest h = (0, s, omega arith, (nothing g root list proper is).1, rest ts s are h)
@@ -99,7 +114,9 @@ module _ (M : Type 0) where
       weigh_one list lists verdict.Possible ts s here live is (inr (p, are)) rest h = absurd (p is)
       weigh_one list lists verdict.Impossible ts s here live is split rest h = absurd (is live)
 
-      all_weigh : (lists : List (Listed M)) (vs : List Verdict) (ts : List Table) (s : ℕ) → ((l : Listed M) → Contains lists l → Contains all l) → AllByRecursion (IsLive g root) lists → AreVerdicts g root lists vs →
+      all_weigh : (lists : List (Listed M)) (vs : List Verdict) (ts : List Table) (s : ℕ) →
+          ((l : Listed M) → Contains lists l → Contains all l) →
+          AllByRecursion (IsLive g root) lists → AreVerdicts g root lists vs →
           AreTables g root lists ts → HaveTotal g root all ts s → WeighInAll g root lists s
       all_weigh [] vs ts s sub live are tables h = subst (λ (ys : List Table). HaveTotal g root all ys s) (none_of g M root ts tables) h
       all_weigh (list ∷ lists) vs ts s sub live (v, rest, e, is, more) tables h =

@@ -1,6 +1,6 @@
 -- for other crates:
 pub mod AddingUp
-pub mod Summing
+pub mod WeightSums
 pub mod Values
 -- of this crate:
 pub mod OneTables

@@ -10,7 +10,9 @@ use Rattle.pv_dtd.specs.Plain.{PlainDtd, declared, model_of}
 use Rattle.pv_rules.specs.Derivations.{DeriveAll, Derives, IsClosed, IsWeight, by_rule, heaviest, none_left, one_more, sum_of}
 use Rattle.pv_rules.specs.Laws.{RulesAreOverSpans}
 use Rattle.pv_rules.specs.PlainForms.{plain_site}
-use Rattle.pv_rules.specs.Rules.{Goal, IsKnownWord, IsSpan, Rule, any_name, any_none, any_text, children_part, empty_none, kept, missing, mixed_name, mixed_none, mixed_text, opt_none, opt_one, over, part_choice, part_name, part_seq, plus_more, plus_one, rest_last, rest_then, star_more, star_none}
+use Rattle.pv_rules.specs.Rules.{Goal, IsKnownWord, IsSpan, Rule, any_name, any_none, any_text, children_part, empty_none, kept, missing, mixed_name}
+use Rattle.pv_rules.specs.Rules.{mixed_none, mixed_text, opt_none, opt_one, over, part_choice, part_name, part_seq, plus_more, plus_one, rest_last}
+use Rattle.pv_rules.specs.Rules.{rest_then, star_more, star_none}
 use Rattle.pv_rules.specs.Sites.{HasSite, PlainSite, content_site, name_site, part_site, rest_site}
 use Rattle.pv_rules.specs.declared.sites.Site.{Site}
 use Rattle.pv_rules.specs.declared.sites.Site.TheVariants as site
@@ -67,7 +69,9 @@ first_listed e es x false same (inl (f, (k, lt, h), is, v)) = inl (f, (suc k, om
 first_listed e es x false same (inr (v, none)) = inr (rw same v, λ f m is. none_here f m is)
   where
     none_here : (f : Entry) → Contains (e ∷ es) f → goal_of f ≡ x → ⊥
-    none_here f (zero, lt, h) is = let i = itself (goal_of e) in let g : goal_of e ≡ x = ap goal_of h ∙ is in let s : are_same_goals (goal_of e) x ≡ true = subst (λ y. are_same_goals (goal_of e) y ≡ true) g i in cc
+    none_here f (zero, lt, h) is = let i = itself (goal_of e) in let g : goal_of e ≡ x =
+        ap goal_of h ∙ is in let s : are_same_goals (goal_of e) x ≡ true =
+        subst (λ y. are_same_goals (goal_of e) y ≡ true) g i in cc
     none_here f (suc k, lt, h) is = none f (k, omega arith, h) is
 
 pub listed_cases : (es : List Entry) (x : Goal) → IsListed es x ⊎ IsUnlisted es x
@@ -81,7 +85,14 @@ at_least none (inr more) = more
 -- where no number is the weight, there is no derivation of less than the cut
 none_below : {G : Type 0} (R : G → ℕ → List G → Type 0) (x : G) → ((k : ℕ) → k < heaviest → IsWeight R x k → ⊥) → (n m : ℕ) → m < n → n ≤ heaviest → Derives R m x → ⊥
 none_below R x none zero m lt le d = omega arith
-none_below R x none (suc n) m lt le d = none m (omega arith) (record { bounded = omega arith; least = λ k f. at_least (λ less. none_below R x none n k (omega arith) (omega arith) f) (cases_lt k m); reached = λ below. d })
+none_below R x none (suc n) m lt le d =
+    none m (omega arith)
+    (record {
+      bounded = omega arith;
+      least = λ k f. at_least (λ less. none_below R x none n k
+          (omega arith) (omega arith) f) (cases_lt k m);
+      reached = λ below. d;
+    })
 
 abbrev site_with : PlainSite → Site
 site_with (content_site x) = site.Content (record { 0 = x })
@@ -105,7 +116,9 @@ module _ (g : PlainDtd) (w : List PlainToken) (es : List Entry) (are : AreAllEnt
 
   module _ (s : PlainSite) (i j : ℕ) (is_site : HasSite g s) (span : IsSpan w i j) where
     weight_at : IsListed es (over s i j) ⊎ IsUnlisted es (over s i j) → IsWeight (Rule g w) (over s i j) (listed_value es (over s i j))
-    weight_at (inl (e, m, is, v)) = let P : ℕ → Type 0 = IsWeight (Rule g w) (over s i j) in let Q : Goal → Type 0 = λ y. IsWeight (Rule g w) y e.value in subst P (sym v) (subst Q is (is_entry e m).weighs)
+    weight_at (inl (e, m, is, v)) = let P : ℕ → Type 0 = IsWeight (Rule g w) (over s i j) in
+        let Q : Goal → Type 0 = λ y. IsWeight (Rule g w) y e.value in
+        subst P (sym v) (subst Q is (is_entry e m).weighs)
     weight_at (inr (v, none)) = record { bounded = omega arith; least = λ n d. far n d (cases_lt n heaviest); reached = λ below. absurd (omega arith) }
       where
         no_weight : (k : ℕ) → k < heaviest → IsWeight (Rule g w) (over s i j) k → ⊥
@@ -126,7 +139,12 @@ module _ (g : PlainDtd) (w : List PlainToken) (es : List Entry) (are : AreAllEnt
 
   -- goals whose values aren't past the cut are of sites of the DTD, and derive these values
   one_reached : (x : Goal) → listed_value es x < heaviest → IsListed es x ⊎ IsUnlisted es x → Derives (Rule g w) (listed_value es x) x × HasSite g x.site
-  one_reached x lt (inl (e, m, is, v)) = (subst (λ k. Derives (Rule g w) k x) (sym v) (subst (λ y. Derives (Rule g w) e.value y) is ((is_entry e m).weighs.reached (is_entry e m).light)), subst (λ (y : Goal). HasSite g y.site) is (is_entry e m).is_site)
+  one_reached x lt (inl (e, m, is, v)) = (
+    subst (λ k. Derives (Rule g w) k x) (sym v) (subst (λ y. Derives (Rule g w) e.value y) is
+        ((is_entry e m).weighs.reached (is_entry e m).light)),
+    subst (λ (y : Goal). HasSite g y.site)
+        is (is_entry e m).is_site,
+  )
   one_reached x lt (inr (v, none)) = absurd (omega arith)
 
   all_reached : (xs : List Goal) → sum_of (listed_value es) xs < heaviest → DeriveAll (Rule g w) (sum_of (listed_value es) xs) xs × AllByRecursion (λ x. HasSite g x.site) xs
@@ -162,12 +180,17 @@ module _ (g : PlainDtd) (w : List PlainToken) (es : List Entry) (are : AreAllEnt
     site_of_rule _ _ _ (rest_last q i j p s e) h = rw e refl
     site_of_rule _ _ _ (rest_then q i k j p r ps l m o e) h = rw e refl
 
-    closed_at : (x : Goal) (c : ℕ) (xs : List Goal) → Rule g w x c xs → (c + sum_of (listed_value es) xs < heaviest) ⊎ (heaviest ≤ c + sum_of (listed_value es) xs) → listed_value es x ≤ min heaviest (c + sum_of (listed_value es) xs)
+    closed_at : (x : Goal) (c : ℕ) (xs : List Goal) → Rule g w x c xs →
+        (c + sum_of (listed_value es) xs < heaviest)
+        ⊎ (heaviest ≤ c + sum_of (listed_value es) xs) →
+        listed_value es x ≤ min heaviest (c + sum_of (listed_value es) xs)
     closed_at x c xs r (inl less) =
         let all = all_reached xs (omega arith) in
         let is_site = site_of_rule x c xs r all.1 in
         let span = (spans x.site x.from x.to c xs r).0 in
-        let least = (entry_weighs x.site x.from x.to is_site span).least (c + sum_of (listed_value es) xs) (by_rule (c + sum_of (listed_value es) xs) c (sum_of (listed_value es) xs) x xs refl r all.0) in
+        let least = (entry_weighs x.site x.from x.to is_site span).least
+        (c + sum_of (listed_value es) xs) (by_rule (c + sum_of (listed_value es) xs) c
+        (sum_of (listed_value es) xs) x xs refl r all.0) in
         omega arith
     closed_at x c xs r (inr more) = let b = bounded_at x (listed_cases es x) in omega arith
 

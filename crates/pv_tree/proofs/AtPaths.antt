@@ -73,7 +73,9 @@ at_root root list b = record {
 at_document_node : {M : Type 0} (root : Tree M) (list : Listed M) → record { path = []; owner = the_document; kids = tree root no_trees } ≡ list → IsListAt root list
 at_document_node root list e = subst (IsListAt root) e (record { has_owner = refl; has_kids = refl })
 
-stands : {M : Type 0} (doc : PlainDoc M) (list : Listed M) → (record { path = []; owner = the_document; kids = tree doc.root no_trees } ≡ list) ⊎ Contains (lists_at (0 ∷ []) doc.root) list → IsListAt doc.root list
+stands : {M : Type 0} (doc : PlainDoc M) (list : Listed M) →
+    (record { path = []; owner = the_document; kids = tree doc.root no_trees } ≡ list)
+    ⊎ Contains (lists_at (0 ∷ []) doc.root) list → IsListAt doc.root list
 stands doc list (inl e) = at_document_node doc.root list e
 stands doc list (inr c) = at_root doc.root list (All-contains (IsListBelow (0 ∷ []) doc.root) (lists_at (0 ∷ []) doc.root) list (all_below (0 ∷ []) doc.root) c)
 

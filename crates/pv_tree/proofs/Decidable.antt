@@ -92,7 +92,14 @@ to_held : (part bytes : List ℕ) → Parts Anything (Begun part) bytes → Cont
 to_held part bytes h = record { before = h.front; after = h.is_back.back; whole = h.whole ∙ ap (λ l. h.front ++ l) (h.is_back.whole ∙ ap (λ l. l ++ h.is_back.back) h.is_back.is_front) }
 
 from_held : (part bytes : List ℕ) → ContainsBytes bytes part → Parts Anything (Begun part) bytes
-from_held part bytes h = record { front = h.before; back = part ++ h.after; is_front = tt; is_back = record { front = part; back = h.after; is_front = refl; is_back = tt; whole = refl }; whole = h.whole }
+from_held part bytes h =
+    record {
+      front = h.before;
+      back = part ++ h.after;
+      is_front = tt;
+      is_back = record { front = part; back = h.after; is_front = refl; is_back = tt; whole = refl };
+      whole = h.whole;
+    }
 
 pub holds : (part bytes : List ℕ) → Dec (ContainsBytes bytes part)
 holds part bytes = decided_by (to_held part bytes) (from_held part bytes) (in_parts Anything (Begun part) (λ l. yes tt) (in_parts (λ l. l ≡ part) Anything (λ l. are_same l part) (λ l. yes tt)) bytes)

@@ -142,7 +142,9 @@ abbrev IsValueIn : ℕ → List ℕ → Type 0
 IsValueIn quote = Lead (quote ∷ []) (Trail (AreMadeOf (IsValuePiece quote IsKnownReference)) (quote ∷ []))
 
 value_in : (quote : ℕ) (bytes : List ℕ) → Dec (IsValueIn quote bytes)
-value_in quote = lead (quote ∷ []) (Trail (AreMadeOf (IsValuePiece quote IsKnownReference)) (quote ∷ [])) (trail (AreMadeOf (IsValuePiece quote IsKnownReference)) (quote ∷ []) (made (IsValuePiece quote IsKnownReference) (value_piece quote)))
+value_in quote = lead (quote ∷ []) (Trail (AreMadeOf (IsValuePiece quote IsKnownReference))
+    (quote ∷ [])) (trail (AreMadeOf (IsValuePiece quote IsKnownReference)) (quote ∷ [])
+    (made (IsValuePiece quote IsKnownReference) (value_piece quote)))
 
 to_value : (quote : ℕ) (bytes : List ℕ) → is_quote quote ≡ true → IsValueIn quote bytes → IsAttValue IsKnownReference bytes
 to_value quote bytes is h = record { quote = quote; value = h.is_rest.first; is_quote = is; is_value = h.is_rest.is_first; whole = h.whole ∙ ap (λ l. quote ∷ l) h.is_rest.whole }
@@ -198,7 +200,19 @@ attribute bytes =
       front = a.space;
       back = a.name ++ (a.equals ++ a.value);
       is_front = a.is_space;
-      is_back = record { front = a.name; back = a.equals ++ a.value; is_front = a.is_name; is_back = record { front = a.equals; back = a.value; is_front = a.is_eq; is_back = a.is_value; whole = refl }; whole = refl };
+      is_back = record {
+        front = a.name;
+        back = a.equals ++ a.value;
+        is_front = a.is_name;
+        is_back = record {
+          front = a.equals;
+          back = a.value;
+          is_front = a.is_eq;
+          is_back = a.is_value;
+          whole = refl;
+        };
+        whole = refl;
+      };
       whole = a.whole;
     })
     (in_parts IsSpace IsBehindSpace space (in_parts IsName IsBehindName name (in_parts IsEq (IsAttValue IsKnownReference) equals att_value)) bytes)
@@ -229,9 +243,22 @@ IsRemark l = IsChars l × ((ContainsBytes l (codes "--") → ⊥) × (EndsInDash
 comment : (bytes : List ℕ) → Dec (IsComment bytes)
 comment bytes =
     decided_by
-    (λ h. let t = h.is_rest in record { text = t.first; are_chars = t.is_first.0; no_dashes = t.is_first.1.0; no_dash_at_end = λ front e. t.is_first.1.1 record { first = front; is_first = tt; whole = e }; whole = h.whole ∙ ap (λ l. codes "<!--" ++ l) t.whole })
+    (λ h. let t = h.is_rest in
+    record {
+      text = t.first;
+      are_chars = t.is_first.0;
+      no_dashes = t.is_first.1.0;
+      no_dash_at_end = λ front e. t.is_first.1.1 record {
+        first = front;
+        is_first = tt;
+        whole = e;
+      };
+      whole = h.whole ∙ ap (λ l. codes "<!--" ++ l) t.whole;
+    })
     (λ c. record { rest = c.text ++ codes "-->"; is_rest = record { first = c.text; is_first = (c.are_chars, (c.no_dashes, λ d. c.no_dash_at_end d.first d.whole)); whole = refl }; whole = c.whole })
-    (lead (codes "<!--") (Trail IsRemark (codes "-->")) (trail IsRemark (codes "-->") (λ l. both (are_chars l) (both (never (holds (codes "--") l)) (never (trail (λ l. Unit {0}) (codes "-") (λ l. yes tt) l))))) bytes)
+    (lead (codes "<!--") (Trail IsRemark (codes "-->")) (trail IsRemark (codes "-->")
+    (λ l. both (are_chars l) (both (never (holds (codes "--") l))
+    (never (trail (λ l. Unit {0}) (codes "-") (λ l. yes tt) l))))) bytes)
 
 target : (bytes : List ℕ) → Dec (IsTarget bytes)
 target bytes = decided_by (λ h. record { is_name = h.0; not_xml = h.1 }) (λ t. (t.is_name, t.not_xml)) (both (name bytes) (never (are_same (map to_ascii_lowercase bytes) (codes "xml"))))
@@ -261,7 +288,13 @@ instruction bytes =
     })
     (λ i. record {
       rest = i.target ++ (i.behind ++ codes "?>");
-      is_rest = record { front = i.target; back = i.behind ++ codes "?>"; is_front = i.is_target; is_back = record { first = i.behind; is_first = (i.is_behind, i.no_end); whole = refl }; whole = refl };
+      is_rest = record {
+        front = i.target;
+        back = i.behind ++ codes "?>";
+        is_front = i.is_target;
+        is_back = record { first = i.behind; is_first = (i.is_behind, i.no_end); whole = refl };
+        whole = refl;
+      };
       whole = i.whole;
     })
     (lead (codes "<?") (Parts IsTarget (Trail IsBehind (codes "?>"))) (in_parts IsTarget (Trail IsBehind (codes "?>")) target (trail IsBehind (codes "?>") behind_target)) bytes)

@@ -31,11 +31,15 @@ root_invalid g root doc bad = record {
 }
 
 -- the others come after it
-pub below_invalid : {M : Type 0} (g : PlainDtd) (root path : List ℕ) (doc : PlainDoc M) → IsRootElement root doc.root → IsFirstNot (IsValidList g root) (lists_at (0 ∷ []) doc.root) path → IsFirstNot (IsValidList g root) (lists_of doc) path
+pub below_invalid : {M : Type 0} (g : PlainDtd) (root path : List ℕ) (doc : PlainDoc M) →
+    IsRootElement root doc.root → IsFirstNot (IsValidList g root) (lists_at (0 ∷ []) doc.root)
+    path → IsFirstNot (IsValidList g root) (lists_of doc) path
 below_invalid g root path doc is f =
     first_behind (IsValidList g root) (record { path = []; owner = the_document; kids = tree doc.root no_trees } ∷ []) (lists_at (0 ∷ []) doc.root) path ((is, refl), tt) f
 
-pub all_valid : {M : Type 0} (g : PlainDtd) (root : List ℕ) (doc : PlainDoc M) → HasUnits doc.root → IsRootElement root doc.root → AllByRecursion (IsValidList g root) (lists_at (0 ∷ []) doc.root) → IsValid g root (view doc.root)
+pub all_valid : {M : Type 0} (g : PlainDtd) (root : List ℕ) (doc : PlainDoc M) → HasUnits doc.root →
+    IsRootElement root doc.root → AllByRecursion (IsValidList g root) (lists_at (0 ∷ []) doc.root) →
+    IsValid g root (view doc.root)
 all_valid g root doc units is all = (valid_lists g root doc units).0 ((is, refl), all)
 
 -- a document is valid exactly where no list was found

@@ -5,8 +5,8 @@ pub mod Levels
 pub mod Forests
 pub mod Owners
 pub mod PathOrder
-pub mod Finding
-pub mod Searching
+pub mod NodePlaces
+pub mod ListSearches
 pub mod Marks
 pub mod Walks
 pub mod ValidLists

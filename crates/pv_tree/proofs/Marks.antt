@@ -125,7 +125,9 @@ valid_from g root list valid = elim list.owner as (λ o. IsValidBy g root o (all
   | an_element x ↦ own_valid_from g x list.kids
 ] valid
 
-all_to : {M : Type 0} (P : Listed M → Type 0) (Q : Listed Unit → Type 0) → ((list : Listed M) → P list → Q (unmarked_list list)) → (lists : List (Listed M)) → AllByRecursion P lists → AllByRecursion Q (map unmarked_list lists)
+all_to : {M : Type 0} (P : Listed M → Type 0) (Q : Listed Unit → Type 0) → ((list : Listed M) →
+    P list → Q (unmarked_list list)) → (lists : List (Listed M)) → AllByRecursion P lists →
+    AllByRecursion Q (map unmarked_list lists)
 all_to P Q to [] all = tt
 all_to P Q to (list ∷ lists) all = (to list all.0, all_to P Q to lists all.1)
 
@@ -135,7 +137,9 @@ pub all-without_marks : {M : Type 0} (P : Listed M → Type 0) (Q : Listed Unit 
 all-without_marks P Q to doc all = subst (AllByRecursion Q) (sym (lists_of-without_marks doc)) (all_to P Q to (lists_of doc) all)
 
 -- and the first that isn't so stays where it is
-pub first-without_marks : {M : Type 0} (P : Listed M → Type 0) (Q : Listed Unit → Type 0) → ((list : Listed M) → P list → Q (unmarked_list list)) → ((list : Listed M) → Q (unmarked_list list) → P list) →
+pub first-without_marks : {M : Type 0} (P : Listed M → Type 0) (Q : Listed Unit → Type 0) →
+    ((list : Listed M) → P list → Q (unmarked_list list)) → ((list : Listed M) →
+    Q (unmarked_list list) → P list) →
     (path : List ℕ) (doc : PlainDoc M) → IsFirstNot P (lists_of doc) path → IsFirstNot Q (lists_of (unmarked_doc doc)) path
 first-without_marks P Q to from path doc f = record {
   before = map unmarked_list f.before;
@@ -148,5 +152,7 @@ first-without_marks P Q to from path doc f = record {
 }
 
 -- the first invalid list stays where it is
-pub first_invalid-without_marks : {M : Type 0} (g : PlainDtd) (root path : List ℕ) (doc : PlainDoc M) → IsFirstNot (IsValidList g root) (lists_of doc) path → IsFirstNot (IsValidList g root) (lists_of (unmarked_doc doc)) path
+pub first_invalid-without_marks : {M : Type 0} (g : PlainDtd) (root path : List ℕ)
+    (doc : PlainDoc M) → IsFirstNot (IsValidList g root) (lists_of doc) path →
+    IsFirstNot (IsValidList g root) (lists_of (unmarked_doc doc)) path
 first_invalid-without_marks g root path doc f = first-without_marks (IsValidList g root) (IsValidList g root) (valid_to g root) (valid_from g root) path doc f

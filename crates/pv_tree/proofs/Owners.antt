@@ -29,7 +29,9 @@ place_of-below (n ∷ ns) x y e = below_first (bytes_eq x n) x n ns y refl (plac
 abbrev pub model_for : PlainDtd → Option ℕ → Option PlainModel
 model_for g owner = option_and_then (model_of g) owner
 
-pub own_valid_to : {M : Type 0} (g : PlainDtd) (owner : Option ℕ) (m : PlainModel) (kids : Forest M) → model_for g owner ≡ Some m → (m ≡ empty → kids ≡ no_trees) → Allows (declared g) m (word_of g kids) → IsOwnValid g owner kids
+pub own_valid_to : {M : Type 0} (g : PlainDtd) (owner : Option ℕ) (m : PlainModel)
+    (kids : Forest M) → model_for g owner ≡ Some m → (m ≡ empty → kids ≡ no_trees) →
+    Allows (declared g) m (word_of g kids) → IsOwnValid g owner kids
 own_valid_to g (Some y) m kids is none allowed = record { number = y; is_owner = refl; model = m; is_model = is; no_kids = none; allowed = allowed }
 own_valid_to g None m kids is none allowed = cc
 
@@ -37,7 +39,9 @@ same_model : {M : Type 0} (g : PlainDtd) (owner : Option ℕ) (m : PlainModel) (
 same_model g (Some y) m kids is v = let e : y ≡ v.number = cc in let f : model_of g v.number ≡ Some v.model = v.is_model in let k : model_of g v.number ≡ Some m = rw (← e) is in cc
 same_model g None m kids is v = cc
 
-pub own_valid_from : {M : Type 0} (g : PlainDtd) (owner : Option ℕ) (m : PlainModel) (kids : Forest M) → model_for g owner ≡ Some m → IsOwnValid g owner kids → (m ≡ empty → kids ≡ no_trees) × Allows (declared g) m (word_of g kids)
+pub own_valid_from : {M : Type 0} (g : PlainDtd) (owner : Option ℕ) (m : PlainModel)
+    (kids : Forest M) → model_for g owner ≡ Some m → IsOwnValid g owner kids →
+    (m ≡ empty → kids ≡ no_trees) × Allows (declared g) m (word_of g kids)
 own_valid_from g owner m kids is v =
     let e = same_model g owner m kids is v in
     (λ h. v.no_kids (e ∙ h), rw (← e) v.allowed)

@@ -124,5 +124,7 @@ document_before doc list b = rw b.is_path tt
 pub lists_ascend : {M : Type 0} (doc : PlainDoc M) → AllPairs IsListBefore (lists_of doc)
 lists_ascend doc =
     AllPairs-cons IsListBefore (record { path = []; owner = the_document; kids = tree doc.root no_trees }) (lists_at (0 ∷ []) doc.root)
-    (All-weaker (IsBelow (0 ∷ [])) (IsListBefore (record { path = []; owner = the_document; kids = tree doc.root no_trees })) (document_before doc) (lists_at (0 ∷ []) doc.root) (all_below (0 ∷ []) doc.root))
+    (All-weaker (IsBelow (0 ∷ []))
+    (IsListBefore (record { path = []; owner = the_document; kids = tree doc.root no_trees }))
+    (document_before doc) (lists_at (0 ∷ []) doc.root) (all_below (0 ∷ []) doc.root))
     (ascend_at (0 ∷ []) doc.root)

@@ -74,7 +74,9 @@ mutual
   good_lists g root path (cdata_node bytes) h p r = tt
   good_lists g root path (misc_node bytes) h p r = tt
 
-  good_all_lists : {M : Type 0} (g : PlainDtd) (root path : List ℕ) (i : ℕ) (kids : Forest M) → HaveUnits kids → AreGood g (view_all kids) → AllByRecursion (IsValidList g root) (lists_from path i kids)
+  good_all_lists : {M : Type 0} (g : PlainDtd) (root path : List ℕ) (i : ℕ) (kids : Forest M) →
+      HaveUnits kids → AreGood g (view_all kids) → AllByRecursion (IsValidList g root)
+      (lists_from path i kids)
   good_all_lists g root path i no_trees p r = tt
   good_all_lists g root path i (tree t rest) p r =
       all_joined _ (lists_at (path ++ i ∷ []) t) (lists_from path (suc i) rest) (good_lists g root (path ++ i ∷ []) t (view_all rest) p.0 r)

@@ -52,7 +52,9 @@ pub left_none : (here : Siblings) → here.nodes.now ≡ [] → left_of [] here 
 left_none here e = rw e refl
 
 -- a node that is no element is passed by
-pub left_by : (above : List Siblings) (here after : Siblings) (node : Node) → here.nodes.now ≡ node ∷ after.nodes.now → after.next ≡ here.next + 1 → ((path : List ℕ) → marked_at path (plain node) ≡ []) → left_of above here ≡ left_of above after
+pub left_by : (above : List Siblings) (here after : Siblings) (node : Node) →
+    here.nodes.now ≡ node ∷ after.nodes.now → after.next ≡ here.next + 1 → ((path : List ℕ) →
+    marked_at path (plain node) ≡ []) → left_of above here ≡ left_of above after
 left_by above here after node e next none = rw (e, next, none (places_above above ++ here.next ∷ []), add-one) refl
 
 -- the list of an element comes next, and then those of its kids

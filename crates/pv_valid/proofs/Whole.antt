@@ -36,11 +36,15 @@ first_told g root path doc units f = record { valid = (λ none. absurd (some_is_
     some_is_some : IsNone (Some path) → ⊥
     some_is_some none = cc
 
-found_told : (g : PlainDtd) (root : List ℕ) (doc : PlainDoc Mark) (found : Option (List ℕ)) → HasUnits doc.root → IsRootElement root doc.root → TellsFirst (IsValidList g root) (lists_at (0 ∷ []) doc.root) found → Tells g root doc found
+found_told : (g : PlainDtd) (root : List ℕ) (doc : PlainDoc Mark) (found : Option (List ℕ)) →
+    HasUnits doc.root → IsRootElement root doc.root →
+    TellsFirst (IsValidList g root) (lists_at (0 ∷ []) doc.root) found → Tells g root doc found
 found_told g root doc None units is all = record { valid = (λ _. all_valid g root doc units is all, λ _. refl); first = tt }
 found_told g root doc (Some path) units is f = first_told g root path doc units (below_invalid g root path doc is f)
 
-module _ {limits : TextLimits} (g : PlainDtd) (root bytes : List ℕ) (lists : OpenLists _ _) (doc : PlainDoc Mark) (means : DocumentMeansWithin limits blank_mark root bytes (is_document doc)) (r : ReadsLists (validity_by g) root lists doc.root) where
+module _ {limits : TextLimits} (g : PlainDtd) (root bytes : List ℕ) (lists : OpenLists _ _)
+    (doc : PlainDoc Mark) (means : DocumentMeansWithin limits blank_mark root bytes
+    (is_document doc)) (r : ReadsLists (validity_by g) root lists doc.root) where
   units : HasUnits doc.root
   units =
       let text = (spelled_where_meant blank_mark root bytes doc means).0 in

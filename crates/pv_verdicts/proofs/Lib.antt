@@ -1,6 +1,6 @@
 -- for other crates:
-pub mod Splicing
+pub mod SplicedLists
 -- of this crate:
-pub mod Answering
-pub mod Differing
-pub mod Following
+pub mod CountAnswers
+pub mod ListDifferences
+pub mod ReplacedParts

@@ -1,5 +1,5 @@
 -- of this crate:
-pub mod Certified
+pub mod LeastByTests
 pub mod InOrder
 pub mod MadePack
 pub mod NoText

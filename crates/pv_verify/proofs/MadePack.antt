@@ -21,7 +21,7 @@ use Rattle.pv_compare.specs.Kept.{AreMarks, attributes_of}
 use Rattle.pv_verify.specs.Tests.{HasTotals, PassesTest}
 use Rattle.pv_verify.specs.declared.answers.Why.{Why}
 use Rattle.pv_verify.specs.declared.answers.Why.TheVariants as why
-use Rattle.pv_verify.proofs.Certified.{first_before, others_ascend}
+use Rattle.pv_verify.proofs.LeastByTests.{first_before, others_ascend}
 
 -- ---- lists put together
 left_item : {X : Type 0} (xs ys : List X) (k : ℕ) (x : X) → slice_get xs k ≡ Some x → slice_get (xs ++ ys) k ≡ Some x
@@ -101,7 +101,11 @@ marked m e _ _ _ (out_new _ i _ added one two x h h1 h2 k' h' s j o p) =
       ends = last m i e one two x [] k' h' a b;
       ascend = subst (AllPairs (λ y z. y < z)) (sym s) (AllPairs-cons (λ y z. y < z) m (one ++ two) behind (both_ascend m i e one two x [] k' h' a b));
       each = subst (All (IsPlainAt m e (elem x [] k' h'))) (sym s)
-          (All-cons (IsPlainAt m e (elem x [] k' h')) m (one ++ two) (omega arith, (let q = last m i e one two x [] k' h' a b in omega arith), rw zero_apart refl) (both_plain m i e one two x [] k' h' a b));
+          (All-cons (IsPlainAt m e (elem x [] k' h')) m (one ++ two) (
+            omega arith,
+            (let q = last m i e one two x [] k' h' a b in omega arith),
+            rw zero_apart refl,
+          ) (both_plain m i e one two x [] k' h' a b));
     }
 
 are_marks : (e : ℕ) (marks : List ℕ) (h h' : Hedge) → LeavesOut 0 e marks h h' → AreMarks marks h'

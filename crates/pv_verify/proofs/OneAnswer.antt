@@ -63,7 +63,9 @@ module _ {M : Type 0} (g : PlainDtd) (root : List ℕ) (doc : PlainDoc M) (pack 
       where
         by_case : ((test ≡ why.Body) × IsNoText) ⊎ FailsFirst g root doc pack test → ⊥
         by_case (inl (e, none)) = none acc.body (acc.passes why.Body)
-        by_case (inr f) = f.fails (subst (λ (body : PlainDoc Mark). PassesTest g root doc pack body test) (same_body one root pack.body acc.body f.body (acc.passes why.Body) f.is_body) (acc.passes test))
+        by_case (inr f) = f.fails (subst (λ (body : PlainDoc Mark). PassesTest g root doc pack body
+            test) (same_body one root pack.body acc.body f.body (acc.passes why.Body) f.is_body)
+            (acc.passes test))
 
 pub one_answer : (M : Type 0) → DocumentsMeanOne → OneAnswer M
 one_answer M one g root doc pack = record { one_first = one_first g root doc pack one; not_both = not_both g root doc pack one }

@@ -100,7 +100,9 @@ no-number-line word most bytes digits rest test small line none n behind l =
     cc
 
 -- the number is past the most
-pub past-number-line : (word : List ℕ) (most : ℕ) (bytes digits rest : List ℕ) (m : ℕ) → has_no_feed word ≡ true → most ≤ MAX_NUMBER → IsLineOf word bytes digits rest → number_spelled digits ≡ Some m → most < m →
+pub past-number-line : (word : List ℕ) (most : ℕ) (bytes digits rest : List ℕ) (m : ℕ) →
+    has_no_feed word ≡ true → most ≤ MAX_NUMBER → IsLineOf word bytes digits rest →
+    number_spelled digits ≡ Some m → most < m →
     (n : ℕ) (behind : List ℕ) → IsNumberLine word most bytes n behind → ⊥
 past-number-line word most bytes digits rest m test small line is past n behind l =
     let same = one-line-of word bytes digits rest (decimal n) behind test line (number-is-line word most bytes n behind small l) in

@@ -36,13 +36,23 @@ one-more number b d more n rest is small g =
       ended = g.ended;
     }
 
-less-by : (number b d : ℕ) (more : List ℕ) (n : ℕ) (rest digits : List ℕ) → IsDigit b d → AllDigits 10 digits → n ≡ digits_value_after 10 number digits → n ≤ MAX_NUMBER → b ∷ more ≡ digits ++ rest → BeginsNoDigit rest →
+less-by : (number b d : ℕ) (more : List ℕ) (n : ℕ) (rest digits : List ℕ) → IsDigit b d →
+    AllDigits 10 digits → n ≡ digits_value_after 10 number digits → n ≤ MAX_NUMBER →
+    b ∷ more ≡ digits ++ rest → BeginsNoDigit rest →
     GoesOnTo (number * 10 + d) more n rest
 less-by number b d more n rest [] digit all value within whole ended = absurd (subst BeginsNoDigit (sym whole) ended digit.range)
 less-by number b d more n rest (c ∷ cs) digit all value within whole ended =
     let first : c ≡ b = cc in
     let others : more ≡ cs ++ rest = cc in
-    record { digits = cs; are_digits = all.1; value = value ∙ ap (λ m. digits_value_after 10 (number * 10 + m) cs) (ap digit_value first ∙ digit.value); within = within; whole = others; ended = ended }
+    record {
+      digits = cs;
+      are_digits = all.1;
+      value = value
+          ∙ ap (λ m. digits_value_after 10 (number * 10 + m) cs) (ap digit_value first ∙ digit.value);
+      within = within;
+      whole = others;
+      ended = ended;
+    }
 
 pub one-less : (number b d : ℕ) (more : List ℕ) (n : ℕ) (rest : List ℕ) → b ≡ 48 + d → d < 10 → GoesOnTo number (b ∷ more) n rest → GoesOnTo (number * 10 + d) more n rest
 one-less number b d more n rest is small g = less-by number b d more n rest g.digits (digit-is b d is small) g.are_digits g.value g.within g.whole g.ended
@@ -66,7 +76,9 @@ pub record IsPartRead (first : ℕ) (bytes : List ℕ) (number : ℕ) (rest : Li
 pub nothing-read : (first : ℕ) (bytes : List ℕ) → first ≤ MAX_NUMBER → IsPartRead first bytes first bytes
 nothing-read first bytes small = record { within = small; ahead = λ n behind g. g; back = λ n behind g. g }
 
-pub digit-read : (first : ℕ) (bytes : List ℕ) (number : ℕ) (rest : List ℕ) (b d : ℕ) (more : List ℕ) (next : ℕ) → IsPartRead first bytes number rest → rest ≡ b ∷ more → b ≡ 48 + d → d < 10 → next ≡ number * 10 + d → next ≤ MAX_NUMBER →
+pub digit-read : (first : ℕ) (bytes : List ℕ) (number : ℕ) (rest : List ℕ) (b d : ℕ) (more : List ℕ)
+    (next : ℕ) → IsPartRead first bytes number rest → rest ≡ b ∷ more → b ≡ 48 + d → d < 10 →
+    next ≡ number * 10 + d → next ≤ MAX_NUMBER →
     IsPartRead first bytes next more
 digit-read first bytes number rest b d more next read front is small sum within = record {
   within = within;
@@ -74,7 +86,9 @@ digit-read first bytes number rest b d more next read front is small sum within 
   back = λ n behind g. read.back n behind (subst (λ l. GoesOnTo number l n behind) (sym front) (one-more number b d more n behind is small (subst (λ m. GoesOnTo m more n behind) sum g)));
 }
 
-pub past-read : (first : ℕ) (bytes : List ℕ) (number : ℕ) (rest : List ℕ) (b d : ℕ) (more : List ℕ) → IsPartRead first bytes number rest → rest ≡ b ∷ more → b ≡ 48 + d → d < 10 → MAX_NUMBER < number * 10 + d →
+pub past-read : (first : ℕ) (bytes : List ℕ) (number : ℕ) (rest : List ℕ) (b d : ℕ)
+    (more : List ℕ) → IsPartRead first bytes number rest → rest ≡ b ∷ more → b ≡ 48 + d → d < 10 →
+    MAX_NUMBER < number * 10 + d →
     (n : ℕ) (behind : List ℕ) → GoesOnTo first bytes n behind → ⊥
 past-read first bytes number rest b d more read front is small past n behind g =
     too-much number b d more n behind is small past (subst (λ l. GoesOnTo number l n behind) front (read.ahead n behind g))
@@ -131,7 +145,16 @@ to-first bytes b d rest n behind front is small a =
     let whole : b ∷ rest ≡ f.first ∷ (f.others ++ behind) = sym front ∙ a.whole ∙ ap (λ l. l ++ behind) f.is in
     let first : f.first ≡ b = cc in
     let others : rest ≡ f.others ++ behind = cc in
-    record { digits = f.others; are_digits = f.are_digits; value = sym f.value ∙ ap (λ m. digits_value_after 10 m f.others) (ap digit_value first ∙ digit.value); within = a.within; whole = others; ended = a.ended }
+    record {
+      digits = f.others;
+      are_digits = f.are_digits;
+      value = sym f.value
+          ∙ ap (λ m. digits_value_after 10 m f.others) (ap digit_value first ∙ digit.value);
+      within =
+          a.within;
+      whole = others;
+      ended = a.ended;
+    }
 
 -- 0, with no digit after it
 pub zero-at : (bytes : List ℕ) (b d : ℕ) (rest : List ℕ) → bytes ≡ b ∷ rest → b ≡ 48 + d → d ≡ 0 → BeginsNoDigit rest → IsNumberAt bytes 0 rest
@@ -184,7 +207,9 @@ stop-behind stop other bytes n rest b = record { within = b.within; whole = b.wh
 pub number-then : (stop : ℕ) (bytes : List ℕ) (n : ℕ) (behind rest : List ℕ) → IsNumberAt bytes n behind → behind ≡ stop ∷ rest → IsNumberThen stop bytes n rest
 number-then stop bytes n behind rest a is = record { within = a.within; whole = a.whole ∙ ap (λ l. decimal n ++ l) is }
 
-pub no-number-then : (stop : ℕ) → (IsAsciiDigit stop → ⊥) → (bytes : List ℕ) → ((n : ℕ) (behind : List ℕ) → IsNumberAt bytes n behind → ⊥) → (n : ℕ) (rest : List ℕ) → IsNumberThen stop bytes n rest → ⊥
+pub no-number-then : (stop : ℕ) → (IsAsciiDigit stop → ⊥) → (bytes : List ℕ) →
+    ((n : ℕ) (behind : List ℕ) → IsNumberAt bytes n behind → ⊥) → (n : ℕ) (rest : List ℕ) →
+    IsNumberThen stop bytes n rest → ⊥
 no-number-then stop other bytes none n rest b = none n (stop ∷ rest) (stop-behind stop other bytes n rest b)
 
 pub no-stop-behind : (stop : ℕ) → (IsAsciiDigit stop → ⊥) → (bytes : List ℕ) (n : ℕ) (behind : List ℕ) → IsNumberAt bytes n behind → ((rest : List ℕ) → behind ≡ stop ∷ rest → ⊥) →

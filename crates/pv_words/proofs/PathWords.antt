@@ -123,7 +123,9 @@ pub last-read : (word places rest : List ℕ) (n : ℕ) → bytes_eq word (codes
 last-read word places rest n other so at is =
     path_spelled-pieces word other ∙ so ∙ ap (λ ws. option_map (λ ns. places ++ ns) (numbers_spelled ws)) at ∙ rw is refl
 
-pub none-read : (word places rest piece : List ℕ) (others : List (List ℕ)) → bytes_eq word (codes ".") ≡ false → AreReadOn word places rest → between_dots rest ≡ piece ∷ others → number_spelled piece ≡ None →
+pub none-read : (word places rest piece : List ℕ) (others : List (List ℕ)) →
+    bytes_eq word (codes ".") ≡ false → AreReadOn word places rest →
+    between_dots rest ≡ piece ∷ others → number_spelled piece ≡ None →
     path_spelled word ≡ None
 none-read word places rest piece others other so at is =
     path_spelled-pieces word other ∙ so ∙ ap (λ ws. option_map (λ ns. places ++ ns) (numbers_spelled ws)) at ∙ rw is refl

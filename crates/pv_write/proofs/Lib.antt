@@ -1,5 +1,5 @@
 -- of this crate:
-pub mod Spelled
-pub mod Merged
+pub mod WrittenTexts
+pub mod MergedTexts
 pub mod Runs
 pub mod Views

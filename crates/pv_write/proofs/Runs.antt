@@ -30,6 +30,8 @@ pub run_alone : (units : List (List ℕ)) → AllUnits units → units ≢ [] �
 run_alone units all some opens = run units all some (rw append-nil at (close_mark_none units [] opens refl))
 
 -- these units, and more after them
-pub run_with : (units more : List (List ℕ)) → AllUnits units → units ≢ [] → AllUnits more → is_open units more ≡ true → holds_close_mark more ≡ false → IsRun (units ++ more) (joined units ++ joined more)
+pub run_with : (units more : List (List ℕ)) → AllUnits units → units ≢ [] → AllUnits more →
+    is_open units more ≡ true → holds_close_mark more ≡ false → IsRun (units ++ more) (joined units
+    ++ joined more)
 run_with units more all some all_more opens none =
     subst (IsRun (units ++ more)) (joined-append units more) (run (units ++ more) (AllUnits-append units more all all_more) (some_append units more some) (close_mark_none units more opens none))

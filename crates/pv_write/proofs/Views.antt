@@ -16,7 +16,7 @@ use Rattle.pv_read.specs.Grammar.{SpellsNode, SpellsContent, IsElement}
 use Rattle.pv_read.proofs.DocumentFacts.{data_open, no_front, units_are_cut}
 use Rattle.pv_write.specs.Text.{tree_text, forest_text, doc_text}
 use Rattle.pv_write.specs.Writes.{IsLegalDocument, SpellsView}
-use Rattle.pv_write.proofs.Merged.{put, merged, merged_all, view_before-merged, depth_of-merged, front_units-merged}
+use Rattle.pv_write.proofs.MergedTexts.{put, merged, merged_all, view_before-merged, depth_of-merged, front_units-merged}
 use Rattle.pv_write.proofs.Runs.{IsRun, run_alone, run_with}
 
 -- a text before content that is spelled
@@ -46,7 +46,9 @@ no_kids no_trees fits = refl
 no_kids (tree t kids) fits = cc
 
 mutual
-  pub element_spelled : {M : Type 0} (t : Tree M) → IsTrue (has_names t) → IsTrue (is_formed t) → HasUnits t → IsLegal t → IsTrue (has_no_close_mark t) → IsElement t → SpellsNode (merged t) (tree_text t)
+  pub element_spelled : {M : Type 0} (t : Tree M) → IsTrue (has_names t) → IsTrue (is_formed t) →
+      HasUnits t → IsLegal t → IsTrue (has_no_close_mark t) → IsElement t →
+      SpellsNode (merged t) (tree_text t)
   element_spelled (element x attrs short kids mark) named formed units legal closed is =
       let fits = and_parts (fits_kids short kids) (are_formed kids) formed in
       let names = and_parts (is_name x) (have_names kids) named in
@@ -58,7 +60,9 @@ mutual
   element_spelled (cdata_node section) named formed some legal closed is = absurd is
   element_spelled (misc_node misc) named formed some legal closed is = absurd is
 
-  content_spelled : {M : Type 0} (kids : Forest M) → IsTrue (have_names kids) → IsTrue (are_formed kids) → HaveUnits kids → AreLegal kids → IsTrue (have_no_close_mark kids) → SpellsContent (merged_all kids) (forest_text kids)
+  content_spelled : {M : Type 0} (kids : Forest M) → IsTrue (have_names kids) →
+      IsTrue (are_formed kids) → HaveUnits kids → AreLegal kids → IsTrue (have_no_close_mark kids) →
+      SpellsContent (merged_all kids) (forest_text kids)
   content_spelled no_trees named formed units legal closed = refl
   content_spelled (tree t kids) named formed units legal closed =
       let is_formed_all = and_parts (is_formed t) (are_formed kids) formed in

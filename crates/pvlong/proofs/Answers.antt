@@ -16,7 +16,9 @@ use Rattle.pvlong.specs.Requests.{PlainRequest, request, request_of}
 use Rattle.pvlong.specs.declared.requests.Question.{Question}
 
 -- its files stopped it
-pub files_refused : (question : Question) (dtd root doc : List ℕ) (before after : ShelfNow) (stop : Stop) → ReturnsOver {X = Fetched} (AreFiles before.files (dtd ∷ doc ∷ [])) plain_fetched fetching_stage before after (Err stop) →
+pub files_refused : (question : Question) (dtd root doc : List ℕ) (before after : ShelfNow)
+    (stop : Stop) → ReturnsOver {X = Fetched} (AreFiles before.files (dtd ∷ doc ∷ [])) plain_fetched
+    fetching_stage before after (Err stop) →
     FindsAnswer (Some (request question dtd root doc)) before after (Err stop)
 files_refused question dtd root doc before after stop over = record {
   files = over.files;

@@ -28,7 +28,9 @@ module _ (root : List ℕ) (g : PlainDtd) (doc : PlainDoc Mark) where
   exact_line c (Ok r) told is = is_least c.count told.least is
   exact_line c (Err e) told is = tt
 
-  pub between_line : {E : Type 0} (least : ℕ) (c : Completion) (result : Result Response E) → IsWithinBounds g root doc least c → IfOk result (λ r. plain_response r ≡ with_line Done (bounds_text least c.count)) →
+  pub between_line : {E : Type 0} (least : ℕ) (c : Completion) (result : Result Response E) →
+      IsWithinBounds g root doc least c → IfOk result (λ r. plain_response r ≡ with_line Done
+      (bounds_text least c.count)) →
       IfOk result (λ r. TellsNumber root g doc (plain_response r))
   between_line least c (Ok r) told is = is_between least c.count told.less told.missing (inserts c told.completion) is
   between_line least c (Err e) told is = tt

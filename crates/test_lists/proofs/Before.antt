@@ -9,7 +9,7 @@ use Rattle.pv_model.specs.PlainForms.{plain_token}
 use Rattle.pv_model.specs.declared.models.Token.{Token}
 use Rattle.pv_verdicts.specs.Judged.{IsJudged}
 use Rattle.pv_verdicts.specs.declared.judged.Judged.{Judged}
-use Rattle.pv_verdicts.proofs.Splicing.{spliced_back}
+use Rattle.pv_verdicts.proofs.SplicedLists.{spliced_back}
 
 pub judged_before : (g : PlainDtd) (owner : Option Of) (judged : Judged)
     (word came after : List Token) (from to : ℕ) → from ≤ to → to ≤ length word →

@@ -1,6 +1,6 @@
-use Rattle.law_drill_counts.proofs.Counting.{LineLaws}
+use Rattle.law_drill_counts.proofs.LineCounts.{LineLaws}
 use Rattle.law_drill_counts.proofs.Formula.{counts_by_formula, responds_by_formula}
-use Rattle.law_drill_counts.proofs.Opening.{Reading, drills_begin}
+use Rattle.law_drill_counts.proofs.OpenedDrill.{Reading, drills_begin}
 use Rattle.law_drill_counts.proofs.laws.drill_counts_law.Goals as goal
 
 pub returns : goal.returns

@@ -1,4 +1,4 @@
-use Rattle.law_drill_counts.proofs.Printing.{prints_formula}
+use Rattle.law_drill_counts.proofs.PrintedDrill.{prints_formula}
 use Rattle.law_drill_counts.proofs.laws.drill_prints_law.Goals as goal
 
 pub returns : goal.returns

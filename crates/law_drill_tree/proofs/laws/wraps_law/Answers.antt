@@ -1,5 +1,5 @@
 use Rattle.std.proofs.Common.{length, refl}
-use Rattle.law_drill_tree.proofs.Wrapping.{wrap_made}
+use Rattle.law_drill_tree.proofs.WrappedSections.{wrap_made}
 use Rattle.law_drill_tree.proofs.laws.wraps_law.Goals as goal
 
 pub returns : goal.returns

@@ -1,4 +1,4 @@
-use Rattle.law_free.proofs.Deriving.{live_derives_nothing}
+use Rattle.law_free.proofs.ShortDerivations.{live_derives_nothing}
 use Rattle.law_free.proofs.laws.live_law.Goals as goal
 
 pub returns : goal.returns

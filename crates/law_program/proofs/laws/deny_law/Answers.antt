@@ -1,4 +1,4 @@
-use Rattle.law_program.proofs.Denying.{denies_impossible}
+use Rattle.law_program.proofs.JudgedDenials.{denies_impossible}
 use Rattle.law_program.proofs.laws.deny_law.Goals as goal
 
 pub returns : goal.returns

@@ -1,4 +1,4 @@
-use Rattle.law_program.proofs.Accepting.{accepts_least}
+use Rattle.law_program.proofs.VerifiedPacks.{accepts_least}
 use Rattle.law_program.proofs.laws.verify_law.Goals as goal
 
 pub returns : goal.returns

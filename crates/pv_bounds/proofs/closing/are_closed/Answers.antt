@@ -1,4 +1,4 @@
-use Rattle.pv_bounds.proofs.Closed.{below_sites}
+use Rattle.pv_bounds.proofs.ClosedFronts.{below_sites}
 use Rattle.pv_bounds.proofs.closing.are_closed.Goals as goal
 
 pub returns : goal.returns

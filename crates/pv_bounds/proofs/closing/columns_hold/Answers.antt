@@ -5,7 +5,7 @@ use Rattle.pv_layout.specs.FormForms.{plain_all, plain_form}
 use Rattle.pv_layout.specs.Forms.{form_at, of_none}
 use Rattle.pv_bounds.specs.Fronts.{cost_from, empty_cost}
 use Rattle.pv_bounds.specs.HoldingForms.{ColumnHolds, FormCutsHold}
-use Rattle.pv_bounds.proofs.Cutting.{below_one_more}
+use Rattle.pv_bounds.proofs.LevelCuts.{below_one_more}
 use Rattle.pv_bounds.proofs.closing.columns_hold.Goals as goal
 
 pub loop-number-preserved : goal.loop-number-preserved

@@ -3,7 +3,7 @@ use Rattle.pv_model.specs.PlainForms.{plain_token}
 use Rattle.pv_layout.specs.FormForms.{plain_form}
 use Rattle.pv_bounds.specs.Fronts.{cost_from, empty_cost}
 use Rattle.pv_bounds.specs.HoldingForms.{ColumnHolds}
-use Rattle.pv_bounds.proofs.Cutting.{below_one_more}
+use Rattle.pv_bounds.proofs.LevelCuts.{below_one_more}
 use Rattle.pv_bounds.proofs.columns.places_hold.Goals as goal
 
 pub loop-place-preserved : goal.loop-place-preserved

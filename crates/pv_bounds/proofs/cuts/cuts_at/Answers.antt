@@ -5,7 +5,7 @@ use Rattle.pv_model.specs.PlainForms.{plain_token}
 use Rattle.pv_bounds.specs.Fronts.{least_to}
 use Rattle.pv_bounds.specs.Windows.{TellsReach}
 use Rattle.pv_bounds.specs.declared.fronts.Reach.{Reach}
-use Rattle.pv_bounds.proofs.Cutting.{first_one_more, window_cuts}
+use Rattle.pv_bounds.proofs.LevelCuts.{first_one_more, window_cuts}
 use Rattle.pv_bounds.proofs.cuts.cuts_at.Goals as goal
 
 pub loop-index-preserved : goal.loop-index-preserved

@@ -3,7 +3,7 @@ use Rattle.pv_model.specs.PlainForms.{plain_token}
 use Rattle.pv_bounds.specs.Fronts.{cost_from, empty_cost}
 use Rattle.pv_bounds.specs.HoldingForms.{CutsHold}
 use Rattle.pv_bounds.specs.Windows.{IsWindow}
-use Rattle.pv_bounds.proofs.Cutting.{from_one_more}
+use Rattle.pv_bounds.proofs.LevelCuts.{from_one_more}
 use Rattle.pv_bounds.proofs.Told.{window_more}
 use Rattle.pv_bounds.proofs.cuts.cuts_hold.Goals as goal
 

@@ -1,4 +1,4 @@
-use Rattle.pv_bounds.proofs.Bounding.{is_bound}
+use Rattle.pv_bounds.proofs.ListBounds.{is_bound}
 use Rattle.pv_bounds.proofs.laws.below_sites_law.Goals as goal
 
 pub returns : goal.returns

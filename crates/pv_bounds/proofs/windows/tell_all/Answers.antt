@@ -1,7 +1,7 @@
 use Rattle.std.proofs.Common.{arith, get_or}
 use Rattle.pv_bounds.specs.Windows.{TellsReach}
 use Rattle.pv_bounds.specs.declared.fronts.Reach.{Reach}
-use Rattle.pv_bounds.proofs.Cutting.{first_one_more}
+use Rattle.pv_bounds.proofs.LevelCuts.{first_one_more}
 use Rattle.pv_bounds.proofs.Told.{keeps_both}
 use Rattle.pv_bounds.proofs.windows.tell_all.Goals as goal
 

@@ -5,7 +5,7 @@ use Rattle.pv_tree.specs.PlainForms.{forest, plain_end}
 use Rattle.pv_tree.proofs.Forests.{forest-drop, forest-end}
 use Rattle.pv_tree.proofs.Levels.{plain-Elem}
 use Rattle.pv_cache.specs.WellMarked.{bad_in_all}
-use Rattle.pv_cache.proofs.Telling.{all-bad-within, own-bad-small}
+use Rattle.pv_cache.proofs.TreeMarks.{all-bad-within, own-bad-small}
 use Rattle.pv_cache.proofs.bad_lists.+count.Goals as goal
 
 pub bad_in-overflow_add-result : goal.bad_in-overflow_add-result

@@ -1,12 +1,12 @@
 use Rattle.std.proofs.Common.{arith, ap, ◌≤◌, ◌∙◌}
 use Rattle.std.specs.List.{between}
-use Rattle.pv_edit.proofs.Filled.{slice_plain}
+use Rattle.pv_edit.proofs.FilledKids.{slice_plain}
 use Rattle.pv_edit.specs.Fitting.{plain_filling}
 use Rattle.pv_tree.specs.Legal.{MAX_NODES}
 use Rattle.pv_tree.specs.Plain.{forest_of, nodes_in_all}
 use Rattle.pv_tree.specs.PlainForms.{plain_all}
 use Rattle.pv_cache.specs.BadLists.{bad_gone}
-use Rattle.pv_cache.proofs.Counting.{few-between}
+use Rattle.pv_cache.proofs.ImpossibleCounts.{few-between}
 use Rattle.pv_cache.proofs.bad_lists.bad_taken.Goals as goal
 
 pub bad_gone-requires-clause-fits : goal.bad_gone-requires-clause-fits

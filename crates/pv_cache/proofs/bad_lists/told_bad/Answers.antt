@@ -1,6 +1,6 @@
 use Rattle.std.proofs.Common.{arith}
 use Rattle.pv_tree.specs.PlainForms.{plain}
-use Rattle.pv_cache.proofs.Telling.{bad-within, own-bad-small}
+use Rattle.pv_cache.proofs.TreeMarks.{bad-within, own-bad-small}
 use Rattle.pv_cache.proofs.bad_lists.told_bad.Goals as goal
 
 pub overflow_add-result : goal.overflow_add-result

@@ -1,6 +1,6 @@
 use Rattle.std.proofs.Common.{List, ap, arith, refl, ◌∙◌}
 use Rattle.std.proofs.lemmas.List.{length-map}
-use Rattle.pv_edit.proofs.Filled.{slice_plain}
+use Rattle.pv_edit.proofs.FilledKids.{slice_plain}
 use Rattle.pv_tree.specs.Plain.{Tree, forest_of}
 use Rattle.pv_tree.specs.PlainForms.{plain}
 use Rattle.pv_tree.specs.declared.nodes.Mark.{Mark}

@@ -2,7 +2,7 @@ use Rattle.std.proofs.Common.{None, Some, [], ap, arith, drop, suc, sym, ◌+◌
 use Rattle.pv_cache.specs.Firsts.{first_bad_at, first_bad_from, first_or}
 use Rattle.pv_tree.specs.Plain.{no_trees, nodes_in_all}
 use Rattle.pv_tree.specs.PlainForms.{forest, plain}
-use Rattle.pv_tree.proofs.Finding.{places_back}
+use Rattle.pv_tree.proofs.NodePlaces.{places_back}
 use Rattle.pv_tree.proofs.Forests.{forest-drop, forest-end, length-nodes}
 use Rattle.pv_cache.proofs.firsts.+seek.Goals as goal
 

@@ -1,4 +1,4 @@
-use Rattle.pv_cache.proofs.Counting.{mended-counted}
+use Rattle.pv_cache.proofs.ImpossibleCounts.{mended-counted}
 use Rattle.pv_cache.proofs.laws.mended_count_law.Goals as goal
 
 pub returns : goal.returns

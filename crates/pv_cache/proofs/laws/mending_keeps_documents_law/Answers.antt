@@ -1,4 +1,4 @@
-use Rattle.pv_cache.proofs.Unmarked.{doc-as}
+use Rattle.pv_cache.proofs.MarksAlone.{doc-as}
 use Rattle.pv_cache.proofs.laws.mending_keeps_documents_law.Goals as goal
 
 pub returns : goal.returns

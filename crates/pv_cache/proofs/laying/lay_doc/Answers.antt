@@ -3,10 +3,10 @@ use Rattle.pv_tree.specs.Plain.{without_marks}
 use Rattle.pv_tree.specs.PlainForms.{plain}
 use Rattle.pv_tree.specs.PlainDocs.{plain_doc}
 use Rattle.pv_edit.specs.Inverses.{IsKept}
-use Rattle.pv_edit.proofs.Prepared.{doc-kept}
+use Rattle.pv_edit.proofs.PreparedChanges.{doc-kept}
 use Rattle.pv_cache.proofs.Laid.{laid_root}
 use Rattle.pv_cache.proofs.LaidLevels.{root_counted}
-use Rattle.pv_cache.proofs.Unmarked.{still-kept}
+use Rattle.pv_cache.proofs.MarksAlone.{still-kept}
 use Rattle.pv_cache.proofs.laying.lay_doc.Goals as goal
 
 pub invariant_of-doc : goal.invariant_of-doc

@@ -1,5 +1,5 @@
 use Rattle.std.proofs.Common.{arith}
-use Rattle.pv_cache.proofs.Exchanging.{came-told, marks-same}
+use Rattle.pv_cache.proofs.ExchangedKids.{came-told, marks-same}
 use Rattle.pv_cache.proofs.mending.mark_after.Goals as goal
 
 pub told_in-came-requires-clause-left : goal.told_in-came-requires-clause-left

@@ -3,8 +3,8 @@ use Rattle.pv_tree.specs.Plain.{without_marks}
 use Rattle.pv_tree.specs.PlainForms.{plain}
 use Rattle.pv_edit.specs.Inverses.{IsKept}
 use Rattle.pv_cache.specs.Mending.{mend_owner}
-use Rattle.pv_edit.proofs.Prepared.{doc-kept}
-use Rattle.pv_cache.proofs.Unmarked.{below-as, owner-as, still-kept}
+use Rattle.pv_edit.proofs.PreparedChanges.{doc-kept}
+use Rattle.pv_cache.proofs.MarksAlone.{below-as, owner-as, still-kept}
 use Rattle.pv_cache.proofs.mending.mend_inside.Goals as goal
 
 pub invariant_of-doc : goal.invariant_of-doc

@@ -2,8 +2,8 @@ use Rattle.std.proofs.Common.{◌∙◌, ap}
 use Rattle.pv_tree.specs.Plain.{without_marks}
 use Rattle.pv_tree.specs.PlainForms.{plain}
 use Rattle.pv_edit.specs.Inverses.{IsKept}
-use Rattle.pv_edit.proofs.Prepared.{doc-kept}
-use Rattle.pv_cache.proofs.Unmarked.{root-as, still-kept}
+use Rattle.pv_edit.proofs.PreparedChanges.{doc-kept}
+use Rattle.pv_cache.proofs.MarksAlone.{root-as, still-kept}
 use Rattle.pv_cache.proofs.mending.mend_top.Goals as goal
 
 pub invariant_of-doc : goal.invariant_of-doc

@@ -1,7 +1,7 @@
 use Rattle.std.proofs.Common.{[], ap, append-nil, arith, drop, sym, ◌+◌, ◌++◌, ◌∙◌, ◌∷◌, ◌≡◌}
 use Rattle.pv_tree.specs.Plain.{no_trees, nodes_in_all}
 use Rattle.pv_tree.specs.PlainForms.{forest, plain}
-use Rattle.pv_tree.proofs.Finding.{places_back}
+use Rattle.pv_tree.proofs.NodePlaces.{places_back}
 use Rattle.pv_tree.proofs.Forests.{forest-drop, forest-end, length-nodes}
 use Rattle.pv_cache.specs.Rows.{rows_at, rows_from}
 use Rattle.pv_cache.proofs.ToldRows.{one_more}

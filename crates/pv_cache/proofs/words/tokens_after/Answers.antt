@@ -4,10 +4,10 @@ use Rattle.std.proofs.lemmas.List.{take_rest}
 use Rattle.pv_dtd.specs.PlainForms.{plain_dtd}
 use Rattle.pv_edit.specs.Changes.{in_place_of}
 use Rattle.pv_edit.specs.Fitting.{plain_filling}
-use Rattle.pv_edit.proofs.Filled.{slice_plain}
+use Rattle.pv_edit.proofs.FilledKids.{slice_plain}
 use Rattle.pv_tree.specs.PlainForms.{plain_all}
-use Rattle.pv_cache.proofs.Joining.{bare-after}
-use Rattle.pv_cache.proofs.Splicing.{are-spliced, tokens-counted, tokens-long}
+use Rattle.pv_cache.proofs.JoinedWords.{bare-after}
+use Rattle.pv_cache.proofs.SplicedTokens.{are-spliced, tokens-counted, tokens-long}
 use Rattle.pv_cache.proofs.words.tokens_after.Goals as goal
 
 pub what_comes-requires : goal.what_comes-requires

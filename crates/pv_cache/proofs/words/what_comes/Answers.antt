@@ -1,6 +1,6 @@
-use Rattle.pv_edit.proofs.Filled.{inner_is}
+use Rattle.pv_edit.proofs.FilledKids.{inner_is}
 use Rattle.pv_tree.specs.PlainForms.{plain_all}
-use Rattle.pv_cache.proofs.Joining.{around-comes, named-comes}
+use Rattle.pv_cache.proofs.JoinedWords.{around-comes, named-comes}
 use Rattle.pv_cache.proofs.words.what_comes.Goals as goal
 
 pub returns-in-Around : goal.returns-in-Around

@@ -1,4 +1,4 @@
-use Rattle.pv_edit.proofs.Filled.{slice_plain}
+use Rattle.pv_edit.proofs.FilledKids.{slice_plain}
 use Rattle.pv_cache.proofs.words.words_after.Goals as goal
 
 pub inner_word-requires-clause-fits : goal.inner_word-requires-clause-fits

@@ -31,17 +31,23 @@ returns-in_err-from-clause-entry c =
 
 pub returns-then-value-gt-MAX_MISSING-clause-entry : goal.returns-then-value-gt-MAX_MISSING-clause-entry
 returns-then-value-gt-MAX_MISSING-clause-entry c =
-    rw c.in_ok-letter.ensures (value-past c.in_ok-letter.letter c.in_ok-number.number c.in_ok-letter.behind_kind.now c.in_ok-number.behind_number.now c.in_ok-from.from c.in_ok-from.to c.in_ok-from.value c.in_ok-from.rest.now
+    rw c.in_ok-letter.ensures (value-past c.in_ok-letter.letter c.in_ok-number.number
+    c.in_ok-letter.behind_kind.now c.in_ok-number.behind_number.now c.in_ok-from.from
+    c.in_ok-from.to c.in_ok-from.value c.in_ok-from.rest.now
     c.in_ok-number.ensures c.in_ok-from.ensures c.if-value-gt-MAX_MISSING.true)
 
 pub returns-clause-entry : goal.returns-clause-entry
 returns-clause-entry c =
     let e : Entry = record { site = c.in_ok-site.site; from = c.in_ok-from.from; to = c.in_ok-from.to; value = c.in_ok-from.value } in
-    rw c.in_ok-letter.ensures (entry-stands c.in_ok-letter.letter c.in_ok-letter.behind_kind.now e c.in_ok-number.behind_number.now c.in_ok-from.rest.now c.in_ok-site.ensures.0 (rw c.in_ok-site.ensures.1 c.in_ok-number.ensures)
+    rw c.in_ok-letter.ensures (entry-stands c.in_ok-letter.letter c.in_ok-letter.behind_kind.now e
+    c.in_ok-number.behind_number.now c.in_ok-from.rest.now c.in_ok-site.ensures.0
+    (rw c.in_ok-site.ensures.1 c.in_ok-number.ensures)
     c.in_ok-from.ensures (omega (arith, c.if-value-gt-MAX_MISSING.false)))
 
 pub returns-clause-within : goal.returns-clause-within
 returns-clause-within c =
     let e : Entry = record { site = c.in_ok-site.site; from = c.in_ok-from.from; to = c.in_ok-from.to; value = c.in_ok-from.value } in
-    behind-shorter c.args.bytes.now e c.in_ok-from.rest.now (rw c.in_ok-letter.ensures (entry-stands c.in_ok-letter.letter c.in_ok-letter.behind_kind.now e c.in_ok-number.behind_number.now c.in_ok-from.rest.now c.in_ok-site.ensures.0
+    behind-shorter c.args.bytes.now e c.in_ok-from.rest.now (rw c.in_ok-letter.ensures
+    (entry-stands c.in_ok-letter.letter c.in_ok-letter.behind_kind.now e
+    c.in_ok-number.behind_number.now c.in_ok-from.rest.now c.in_ok-site.ensures.0
     (rw c.in_ok-site.ensures.1 c.in_ok-number.ensures) c.in_ok-from.ensures (omega (arith, c.if-value-gt-MAX_MISSING.false))))

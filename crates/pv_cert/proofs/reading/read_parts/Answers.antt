@@ -19,4 +19,7 @@ pub returns-clause-read : goal.returns-clause-read
 returns-clause-read c =
     let head = c.in_ok-head.head in
     let stand = c.in_ok-head.ensures.read in
-    parts-read c.args.bytes.now head.total head.marks.items head.body.now head.rest.now c.in_ok-tables.tables.items _ _ c.requires stand c.in_ok-tables.ensures.read (body-between c.args.bytes.now head.total head.marks.items head.body.now head.rest.now _ _ stand refl refl)
+    parts-read c.args.bytes.now head.total head.marks.items head.body.now head.rest.now
+    c.in_ok-tables.tables.items _ _ c.requires stand c.in_ok-tables.ensures.read
+    (body-between c.args.bytes.now head.total head.marks.items head.body.now head.rest.now _ _
+    stand refl refl)

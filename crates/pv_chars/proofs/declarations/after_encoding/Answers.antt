@@ -14,4 +14,6 @@ returns-in_err-value c =
 
 pub returns-then-not-is_enc_name : goal.returns-then-not-is_enc_name
 returns-then-not-is_enc_name c =
-    no_value_of (codes "encoding") c.args.bytes.now IsEncName (λ none. cc) refl c.in_ok-value.value.now c.in_ok-value.rest.now c.in_ok-value.ensures (iff_false c.is_enc_name.ensures c.if-not-is_enc_name.true)
+    no_value_of (codes "encoding") c.args.bytes.now IsEncName (λ none. cc) refl
+    c.in_ok-value.value.now c.in_ok-value.rest.now c.in_ok-value.ensures
+    (iff_false c.is_enc_name.ensures c.if-not-is_enc_name.true)

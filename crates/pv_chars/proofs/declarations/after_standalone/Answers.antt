@@ -14,4 +14,6 @@ returns-in_err-value c =
 
 pub returns-then-not-is_yes_or_no : goal.returns-then-not-is_yes_or_no
 returns-then-not-is_yes_or_no c =
-    no_value_of (codes "standalone") c.args.bytes.now IsYesOrNo (λ none. cc) refl c.in_ok-value.value.now c.in_ok-value.rest.now c.in_ok-value.ensures (iff_false c.is_yes_or_no.ensures c.if-not-is_yes_or_no.true)
+    no_value_of (codes "standalone") c.args.bytes.now IsYesOrNo (λ none. cc) refl
+    c.in_ok-value.value.now c.in_ok-value.rest.now c.in_ok-value.ensures
+    (iff_false c.is_yes_or_no.ensures c.if-not-is_yes_or_no.true)

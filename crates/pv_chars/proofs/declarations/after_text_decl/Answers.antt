@@ -28,7 +28,18 @@ returns c =
     let first = passes_by IsVersionInfo start version c.after_version.result c.after_version.ensures c.unwrap_or-version.ensures in
     let second = passes_by IsEncodingDecl version encoding c.after_encoding.result c.after_encoding.ensures c.unwrap_or-encoding.ensures in
     let third = passes_by IsStandaloneDecl encoding end c.after_standalone.result c.after_standalone.ensures c.unwrap_or-end.ensures in
-    match_same _ ((rest : List ℕ) → c.after_space.result.now ≢ codes "?>" ++ rest) (BeginsNone IsTextDecl bytes) (λ r. c.after_space.result.now ≡ codes "?>" ++ r.now) (λ r. Begins IsTextDecl bytes r.now)
-    (λ none. no_text_decl_end bytes start.now version.now encoding.now end.now c.in_ok-start.ensures.found record { first = first; second = second; third = third } (λ rest e. none rest (c.after_space.ensures.after ∙ e)))
-    (λ r closes. text_decl_by bytes start.now version.now encoding.now end.now r.now c.in_ok-start.ensures.found record { first = first; second = second; third = third; closes = sym c.after_space.ensures.after ∙ closes } c.if-end-start.false)
+    match_same _ ((rest : List ℕ) → c.after_space.result.now ≢ codes "?>" ++ rest)
+    (BeginsNone IsTextDecl bytes) (λ r. c.after_space.result.now ≡ codes "?>" ++ r.now)
+    (λ r. Begins IsTextDecl bytes r.now)
+    (λ none. no_text_decl_end bytes start.now version.now encoding.now end.now
+    c.in_ok-start.ensures.found record { first = first; second = second; third = third }
+    (λ rest e. none rest (c.after_space.ensures.after ∙ e)))
+    (λ r closes. text_decl_by bytes start.now version.now encoding.now end.now r.now
+    c.in_ok-start.ensures.found
+    record {
+      first = first;
+      second = second;
+      third = third;
+      closes = sym c.after_space.ensures.after ∙ closes;
+    } c.if-end-start.false)
     c.after_bytes-2.ensures.found

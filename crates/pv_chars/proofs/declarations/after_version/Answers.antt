@@ -14,4 +14,6 @@ returns-in_err-value c =
 
 pub returns-then-not-is_version_num : goal.returns-then-not-is_version_num
 returns-then-not-is_version_num c =
-    no_value_of (codes "version") c.args.bytes.now IsVersionNum (λ none. cc) refl c.in_ok-value.value.now c.in_ok-value.rest.now c.in_ok-value.ensures (iff_false c.is_version_num.ensures c.if-not-is_version_num.true)
+    no_value_of (codes "version") c.args.bytes.now IsVersionNum (λ none. cc) refl
+    c.in_ok-value.value.now c.in_ok-value.rest.now c.in_ok-value.ensures
+    (iff_false c.is_version_num.ensures c.if-not-is_version_num.true)

@@ -16,8 +16,12 @@ returns c =
     let first = c.in_ok-version.ensures in
     let second = passes_by IsEncodingDecl version encoding c.after_encoding.result c.after_encoding.ensures c.unwrap_or-encoding.ensures in
     let third = passes_by IsStandaloneDecl encoding end c.after_standalone.result c.after_standalone.ensures c.unwrap_or-end.ensures in
-    match_same _ ((rest : List ℕ) → c.after_space.result.now ≢ codes "?>" ++ rest) (BeginsNone IsXmlDecl bytes) (λ r. c.after_space.result.now ≡ codes "?>" ++ r.now) (λ r. Begins IsXmlDecl bytes r.now)
-    (λ none. no_xml_decl_end bytes start.now version.now encoding.now end.now c.in_ok-start.ensures.found record { first = inl first; second = second; third = third } (λ rest e. none rest (c.after_space.ensures.after ∙ e)))
+    match_same _ ((rest : List ℕ) → c.after_space.result.now ≢ codes "?>" ++ rest)
+    (BeginsNone IsXmlDecl bytes) (λ r. c.after_space.result.now ≡ codes "?>" ++ r.now)
+    (λ r. Begins IsXmlDecl bytes r.now)
+    (λ none. no_xml_decl_end bytes start.now version.now encoding.now end.now
+    c.in_ok-start.ensures.found record { first = inl first; second = second; third = third }
+    (λ rest e. none rest (c.after_space.ensures.after ∙ e)))
     (λ r closes. xml_decl_by bytes start.now version.now encoding.now end.now r.now c.in_ok-start.ensures.found first second third (sym c.after_space.ensures.after ∙ closes))
     c.after_bytes-2.ensures.found
 

@@ -24,7 +24,9 @@ returns-in_err-valued c =
     let word = c.args.word.now in
     let bytes = c.args.bytes.now in
     match_none _ (BeginsNoPart word bytes) (λ r. Begins (IsPart word r.0.now) bytes r.1.now) c.from_residual-in_err-valued.ensures
-    (no_part_eq word bytes c.requires.some c.requires.black c.in_ok-start.start.now c.in_ok-named.named.now (sym c.in_ok-start.ensures.after) c.in_ok-named.ensures.found (λ valued e. c.in_err-valued.ensures.found valued (c.after_space.ensures.after ∙ e)))
+    (no_part_eq word bytes c.requires.some c.requires.black c.in_ok-start.start.now
+    c.in_ok-named.named.now (sym c.in_ok-start.ensures.after) c.in_ok-named.ensures.found
+    (λ valued e. c.in_err-valued.ensures.found valued (c.after_space.ensures.after ∙ e)))
 
 pub returns : goal.returns
 returns c =
@@ -35,7 +37,21 @@ returns c =
     let valued = c.in_ok-valued.valued.now in
     let blank = sym c.in_ok-start.ensures.after in
     let equals = sym c.after_space.ensures.after ∙ c.in_ok-valued.ensures.found in
-    match_same _ (BeginsNoQuoted c.after_space-2.result.now) (BeginsNoPart word bytes) (λ r. Begins (IsQuoted r.0.now) c.after_space-2.result.now r.1.now) (λ r. Begins (IsPart word r.0.now) bytes r.1.now)
-    (λ none. no_part_quoted word bytes c.requires.some c.requires.black start named valued blank c.in_ok-named.ensures.found equals (λ value rest b. none value rest (rw c.after_space-2.ensures.after b)))
-    (λ r b. part_by word bytes r.0.now r.1.now record { start = start; named = named; valued = valued; blank = blank; is_word = c.in_ok-named.ensures.found; is_eq = equals; is_quoted = rw (← c.after_space-2.ensures.after) b })
+    match_same _ (BeginsNoQuoted c.after_space-2.result.now) (BeginsNoPart word bytes)
+    (λ r. Begins (IsQuoted r.0.now) c.after_space-2.result.now r.1.now)
+    (λ r. Begins (IsPart word r.0.now) bytes r.1.now)
+    (λ none. no_part_quoted word bytes c.requires.some c.requires.black start named valued blank
+    c.in_ok-named.ensures.found equals (λ value rest b. none value rest
+    (rw c.after_space-2.ensures.after b)))
+    (λ r b. part_by word bytes r.0.now r.1.now
+    record {
+      start = start;
+      named = named;
+      valued = valued;
+      blank = blank;
+      is_word = c.in_ok-named.ensures.found;
+      is_eq = equals;
+      is_quoted =
+          rw (← c.after_space-2.ensures.after) b;
+    })
     c.quoted_at.ensures

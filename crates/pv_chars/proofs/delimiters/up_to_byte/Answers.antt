@@ -1,7 +1,7 @@
 use Rattle.std.proofs.Common.{[], ◌∷◌}
 use Rattle.pv_chars.specs.Fronts.{ContainsBytes, EndsAt}
 use Rattle.pv_chars.proofs.Options.{match_none}
-use Rattle.pv_chars.proofs.Delimited.{byte_nowhere, byte_ends}
+use Rattle.pv_chars.proofs.DelimiterPlaces.{byte_nowhere, byte_ends}
 use Rattle.pv_chars.proofs.delimiters.up_to_byte.Goals as goal
 
 pub returns-in_err-at : goal.returns-in_err-at
@@ -13,4 +13,6 @@ returns-in_err-at c =
 pub returns : goal.returns
 returns c =
     let found = c.in_ok-at.ensures in
-    byte_ends c.args.byte c.args.bytes.now c.split_at.result.0.now c.split_at.result.1.now c.split_at-2.result.1.now c.in_ok-at.at found.1 found.0 c.split_at.ensures.front c.split_at.ensures.back c.split_at-2.ensures.back
+    byte_ends c.args.byte c.args.bytes.now c.split_at.result.0.now c.split_at.result.1.now
+    c.split_at-2.result.1.now c.in_ok-at.at found.1 found.0 c.split_at.ensures.front
+    c.split_at.ensures.back c.split_at-2.ensures.back

@@ -9,7 +9,9 @@ use Rattle.pv_chars.proofs.markup.after_comment.Goals as goal
 
 pub returns-then-not-are_chars : goal.returns-then-not-are_chars
 returns-then-not-are_chars c =
-    no_comment_text c.args.bytes.now c.in_ok-inside.inside.now c.in_ok-text.text.now c.in_ok-text.end.now c.in_ok-inside.ensures.found c.in_ok-text.ensures (iff_false c.are_chars.ensures c.if-not-are_chars.true)
+    no_comment_text c.args.bytes.now c.in_ok-inside.inside.now c.in_ok-text.text.now
+    c.in_ok-text.end.now c.in_ok-inside.ensures.found c.in_ok-text.ensures
+    (iff_false c.are_chars.ensures c.if-not-are_chars.true)
 
 pub returns : goal.returns
 returns c =

@@ -7,7 +7,9 @@ use Rattle.pv_chars.proofs.markup.after_instruction.Goals as goal
 
 pub returns-then-eq_ignore_ascii_case : goal.returns-then-eq_ignore_ascii_case
 returns-then-eq_ignore_ascii_case c =
-    no_instruction_target c.args.bytes.now c.in_ok-start.start.now c.in_ok-target.target.now c.in_ok-target.after.now c.in_ok-start.ensures.found c.in_ok-target.ensures.found (c.eq_ignore_ascii_case.ensures.test.0 c.if-eq_ignore_ascii_case.true)
+    no_instruction_target c.args.bytes.now c.in_ok-start.start.now c.in_ok-target.target.now
+    c.in_ok-target.after.now c.in_ok-start.ensures.found c.in_ok-target.ensures.found
+    (c.eq_ignore_ascii_case.ensures.test.0 c.if-eq_ignore_ascii_case.true)
 
 pub returns-in_err-text : goal.returns-in_err-text
 returns-in_err-text c =
@@ -17,7 +19,10 @@ returns-in_err-text c =
 
 pub returns-then-not-is_behind_target : goal.returns-then-not-is_behind_target
 returns-then-not-is_behind_target c =
-    no_instruction_text c.args.bytes.now c.in_ok-start.start.now c.in_ok-target.target.now c.in_ok-target.after.now c.in_ok-text.text.now c.in_ok-text.rest.now c.in_ok-start.ensures.found c.in_ok-target.ensures.found c.in_ok-text.ensures (iff_false c.is_behind_target.ensures c.if-not-is_behind_target.true)
+    no_instruction_text c.args.bytes.now c.in_ok-start.start.now c.in_ok-target.target.now
+    c.in_ok-target.after.now c.in_ok-text.text.now c.in_ok-text.rest.now
+    c.in_ok-start.ensures.found c.in_ok-target.ensures.found c.in_ok-text.ensures
+    (iff_false c.is_behind_target.ensures c.if-not-is_behind_target.true)
 
 pub returns : goal.returns
 returns c =

@@ -1,6 +1,6 @@
 use Rattle.std.proofs.lemmas.Slice.Eq.{strip_prefix_is}
 use Rattle.std.proofs.lemmas.Bool.Decides.{Decides-eqb}
-use Rattle.pv_chars.proofs.Scanning.{after_bytes_is}
+use Rattle.pv_chars.proofs.TextScans.{after_bytes_is}
 use Rattle.pv_chars.proofs.scan.after_bytes.Goals as goal
 
 pub returns-clause-found : goal.returns-clause-found

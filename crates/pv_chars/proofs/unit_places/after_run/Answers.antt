@@ -6,11 +6,16 @@ use Rattle.pv_chars.proofs.unit_places.after_run.Goals as goal
 pub returns-then-front-run-clause-passed : goal.returns-then-front-run-clause-passed
 returns-then-front-run-clause-passed c =
     let bytes = c.args.bytes.now in
-    ap (λ n. drop n (units_in bytes)) c.openings-passed.ensures.value ∙ run_passed bytes c.split_at.result.0.now c.before_ampersand-front.result.now c.split_at-2.result.1.now c.min.result c.split_at.ensures.front c.before_ampersand-front.ensures c.split_at-2.ensures.back
+    ap (λ n. drop n (units_in bytes)) c.openings-passed.ensures.value
+    ∙ run_passed bytes c.split_at.result.0.now c.before_ampersand-front.result.now
+    c.split_at-2.result.1.now c.min.result c.split_at.ensures.front
+    c.before_ampersand-front.ensures c.split_at-2.ensures.back
 
 pub after_reference-requires : goal.after_reference-requires
 after_reference-requires c =
-    run_ends c.args.bytes.now c.split_at.result.0.now c.before_ampersand-front.result.now c.split_at-2.result.1.now c.min.result c.split_at.ensures.front c.before_ampersand-front.ensures c.if-front-run.false c.split_at-2.ensures.back
+    run_ends c.args.bytes.now c.split_at.result.0.now c.before_ampersand-front.result.now
+    c.split_at-2.result.1.now c.min.result c.split_at.ensures.front
+    c.before_ampersand-front.ensures c.if-front-run.false c.split_at-2.ensures.back
 
 pub returns-clause-passed : goal.returns-clause-passed
 returns-clause-passed c =

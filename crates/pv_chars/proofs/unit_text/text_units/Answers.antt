@@ -6,4 +6,6 @@ invariant_of-result c =
     cut_of c.args.bytes.now c.in-Ok.bytes.items c.in_ok-count.count c.in_ok-count.ensures (not_empty c.args.bytes.now c.is_empty.result c.is_empty.ensures c.if-is_empty.false) c.in-Ok.ensures.items
 
 pub returns : goal.returns
-returns c = means_cut c.args.bytes.now c.in-Ok.bytes.items c.in_ok-count.count c.in_ok-count.ensures (not_empty c.args.bytes.now c.is_empty.result c.is_empty.ensures c.if-is_empty.false) c.in-Ok.ensures.items
+returns c = means_cut c.args.bytes.now c.in-Ok.bytes.items c.in_ok-count.count c.in_ok-count.ensures
+    (not_empty c.args.bytes.now c.is_empty.result c.is_empty.ensures c.if-is_empty.false)
+    c.in-Ok.ensures.items

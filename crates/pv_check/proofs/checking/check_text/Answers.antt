@@ -9,7 +9,10 @@ pub returns-clause-tells : goal.returns-clause-tells
 returns-clause-tells g c = λ doc means.
     let d = dtd_of c.args.judge.now in
     let root = c.args.root.now in
-    tells_document c.live_lists_law.ensures d root doc (subst IsProperDtd (c.dtd.ensures ∙ ap dtd_of c.grammar.ensures) c.proper_dtd_law.ensures) (proper_text root c.args.bytes.now doc means) c.tell.result (c.tell.ensures.tells d root (lists_of doc) (c.in_ok-found.ensures.finds doc means))
+    tells_document c.live_lists_law.ensures d root doc (subst IsProperDtd (c.dtd.ensures
+    ∙ ap dtd_of c.grammar.ensures) c.proper_dtd_law.ensures) (proper_text root c.args.bytes.now
+    doc means) c.tell.result (c.tell.ensures.tells d root (lists_of doc)
+    (c.in_ok-found.ensures.finds doc means))
 
 pub returns-clause-counts : goal.returns-clause-counts
 returns-clause-counts g c = λ doc means. c.tell.ensures.counts (dtd_of c.args.judge.now) c.args.root.now (lists_of doc) (c.in_ok-found.ensures.finds doc means)

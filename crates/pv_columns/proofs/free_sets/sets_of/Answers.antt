@@ -17,11 +17,16 @@ loop-column-preserved c =
           let here = placed rules live layers c.requires.layers c.requires.tokens (get_or columns i 0) place w.place_set.new.sets.items e.at c.requires.bare c.requires.closed c.requires.alone free in
           record {
             long = long;
-            free = rw (c.in_ok-push.ensures.items, w.number-is, w.sets-is) (one_over rules columns numbers c.loop-column.sets.items w.place_set.new.sets.items (Some place) i before.free before.long e.keep here);
+            free = rw (c.in_ok-push.ensures.items, w.number-is, w.sets-is)
+                (one_over rules columns numbers c.loop-column.sets.items w.place_set.new.sets.items
+                (Some place) i before.free before.long e.keep here);
           }
       | else-is_marked w ↦
           record {
             long = long;
-            free = rw (c.in_ok-push.ensures.items, w.number-is, w.sets-is) (one_over rules columns numbers c.loop-column.sets.items c.loop-column.sets.items None i before.free before.long (keep_same rules columns c.loop-column.sets.items) (λ k d z. absurd cc));
+            free = rw (c.in_ok-push.ensures.items, w.number-is, w.sets-is)
+                (one_over rules columns numbers c.loop-column.sets.items c.loop-column.sets.items
+                None i before.free before.long (keep_same rules columns c.loop-column.sets.items)
+                (λ k d z. absurd cc));
           }
     ]

@@ -1,5 +1,5 @@
 use Rattle.std.proofs.lemmas.Bool.{eqb-true}
-use Rattle.pv_columns.proofs.Repeating.{within}
+use Rattle.pv_columns.proofs.RepeatedColumns.{within}
 use Rattle.pv_columns.proofs.frees.is_within.Goals as goal
 
 pub returns : goal.returns

@@ -1,6 +1,6 @@
 use Rattle.std.proofs.Common.{get_or, ◌≡◌}
 use Rattle.std.specs.Prelude.{bit_or}
-use Rattle.pv_columns.proofs.Repeating.{or_only}
+use Rattle.pv_columns.proofs.RepeatedColumns.{or_only}
 use Rattle.pv_columns.proofs.frees.put_all.Goals as goal
 
 pub returns-clause-only : goal.returns-clause-only

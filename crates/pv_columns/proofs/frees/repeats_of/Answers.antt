@@ -2,7 +2,7 @@ use Rattle.std.proofs.Common.{Contains, List, arith, drop, inl, inr, length, sub
 use Rattle.std.proofs.lemmas.Grind.{common_steps}
 use Rattle.pv_columns.specs.Bits.{HasIn}
 use Rattle.pv_columns.specs.Frees.{IsRepeatOf}
-use Rattle.pv_columns.proofs.Repeating.{are_repeats}
+use Rattle.pv_columns.proofs.RepeatedColumns.{are_repeats}
 use Rattle.pv_columns.proofs.frees.repeats_of.Goals as goal
 
 pub loop-rule-preserved : goal.loop-rule-preserved

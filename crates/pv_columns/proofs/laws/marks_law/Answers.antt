@@ -1,4 +1,4 @@
-use Rattle.pv_columns.proofs.Marking.{closed_marks_are_live}
+use Rattle.pv_columns.proofs.ClosedMarks.{closed_marks_are_live}
 use Rattle.pv_columns.proofs.laws.marks_law.Goals as goal
 
 pub returns : goal.returns

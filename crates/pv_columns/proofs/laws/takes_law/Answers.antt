@@ -1,4 +1,4 @@
-use Rattle.pv_columns.proofs.Taking.{takes_reaches_one}
+use Rattle.pv_columns.proofs.TakenTokens.{takes_reaches_one}
 use Rattle.pv_columns.proofs.laws.takes_law.Goals as goal
 
 pub returns : goal.returns

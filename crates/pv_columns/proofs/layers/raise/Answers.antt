@@ -2,7 +2,7 @@ use Rattle.std.proofs.Common.{Contains, List, arith, get_or, subst, sym, true≢
 use Rattle.std.proofs.lemmas.List.{get_or_default}
 use Rattle.pv_columns.specs.Flowing.{Holds, Joins}
 use Rattle.pv_columns.specs.declared.layers.Edge.{Edge}
-use Rattle.pv_columns.proofs.Flowing.{holds_more, joins_attained, joins_grow, joins_hold}
+use Rattle.pv_columns.proofs.EdgeJoins.{holds_more, joins_attained, joins_grow, joins_hold}
 use Rattle.pv_columns.proofs.layers.raise.Goals as goal
 use Rattle.pv_columns.proofs.layers.raise.Goals.{else-join, then-join}
 

@@ -1,5 +1,5 @@
 use Rattle.std.proofs.Common.{sym, ◌∙◌}
-use Rattle.pv_columns.proofs.Seeding.{among_at}
+use Rattle.pv_columns.proofs.EdgesAndSeeds.{among_at}
 use Rattle.pv_columns.proofs.leading.find_free.Goals as goal
 
 pub returns-then-takes_all : goal.returns-then-takes_all

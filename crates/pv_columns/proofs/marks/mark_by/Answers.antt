@@ -1,4 +1,4 @@
-use Rattle.pv_columns.proofs.Marking.{bare_more, fewer_unmarked}
+use Rattle.pv_columns.proofs.ClosedMarks.{bare_more, fewer_unmarked}
 use Rattle.pv_columns.proofs.marks.mark_by.Goals as goal
 
 pub returns-clause-bare : goal.returns-clause-bare

@@ -1,6 +1,6 @@
 use Rattle.std.proofs.Common.{List, length, subst, ℕ}
 use Rattle.pv_columns.specs.Rows.{AddsEdges}
-use Rattle.pv_columns.proofs.Seeding.{edges_has, edges_only}
+use Rattle.pv_columns.proofs.EdgesAndSeeds.{edges_has, edges_only}
 use Rattle.pv_columns.proofs.rows.add_edges.Goals as goal
 
 pub returns-in_ok-push_edges-clause-only : goal.returns-in_ok-push_edges-clause-only

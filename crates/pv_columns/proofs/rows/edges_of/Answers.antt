@@ -1,7 +1,7 @@
 use Rattle.std.proofs.Common.{Contains, arith, get_or, inl, inr, subst, sym}
 use Rattle.pv_columns.specs.Rows.{HasEdges}
-use Rattle.pv_columns.proofs.Marking.{all_hold, holds_more}
-use Rattle.pv_columns.proofs.Seeding.{edges_grow}
+use Rattle.pv_columns.proofs.ClosedMarks.{all_hold, holds_more}
+use Rattle.pv_columns.proofs.EdgesAndSeeds.{edges_grow}
 use Rattle.pv_columns.proofs.rows.edges_of.Goals as goal
 
 pub loop-rule-preserved : goal.loop-rule-preserved

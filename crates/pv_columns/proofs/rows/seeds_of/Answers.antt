@@ -3,8 +3,8 @@ use Rattle.std.proofs.lemmas.Grind.{common_steps}
 use Rattle.pv_columns.specs.Bits.{HasIn}
 use Rattle.pv_columns.specs.Flowing.{Grow}
 use Rattle.pv_columns.specs.Rows.{HasSeed, IsSeedOf}
-use Rattle.pv_columns.proofs.Marking.{holds_more}
-use Rattle.pv_columns.proofs.Seeding.{seed_grow}
+use Rattle.pv_columns.proofs.ClosedMarks.{holds_more}
+use Rattle.pv_columns.proofs.EdgesAndSeeds.{seed_grow}
 use Rattle.pv_columns.proofs.rows.seeds_of.Goals as goal
 
 pub loop-rule-preserved : goal.loop-rule-preserved

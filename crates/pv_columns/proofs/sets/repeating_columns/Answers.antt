@@ -5,7 +5,7 @@ use Rattle.pv_columns.specs.Bits.{HasIn}
 use Rattle.pv_columns.specs.Frees.{RepeatBefore}
 use Rattle.pv_columns.specs.Rows.{IsLayer}
 use Rattle.pv_columns.specs.declared.sets.Layer.{Layer}
-use Rattle.pv_columns.proofs.Freeing.{all_free, one_layer}
+use Rattle.pv_columns.proofs.FreeColumns.{all_free, one_layer}
 use Rattle.pv_columns.proofs.sets.repeating_columns.Goals as goal
 
 pub loop-number-preserved : goal.loop-number-preserved

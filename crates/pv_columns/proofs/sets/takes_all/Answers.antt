@@ -1,5 +1,5 @@
 use Rattle.std.proofs.Common.{arith}
-use Rattle.pv_columns.proofs.Freeing.{all_taken}
+use Rattle.pv_columns.proofs.FreeColumns.{all_taken}
 use Rattle.pv_columns.proofs.sets.takes_all.Goals as goal
 
 pub returns : goal.returns

@@ -12,7 +12,7 @@ use Rattle.pv_opening.specs.Documents.{PlainOpened, document_stage}
 use Rattle.pv_opening.specs.Judging.{judges_none, without_memory}
 use Rattle.pv_opening.specs.Stage.{short_of_memory}
 use Rattle.pv_opening.specs.declared.stop.Stop.TheVariants.{NoMemory}
-use Rattle.pv_commands.proofs.Counting.{judged_document}
+use Rattle.pv_commands.proofs.CommandCounts.{judged_document}
 use Rattle.pv_opening.proofs.Stages.{found_behind}
 use Rattle.pv_commands.proofs.check.check.Goals as goal
 

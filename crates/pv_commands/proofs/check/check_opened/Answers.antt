@@ -6,7 +6,7 @@ use Rattle.pv_opening.specs.Documents.{OpensDocument, PlainOpened, RefusesDocume
 use Rattle.pv_opening.specs.Judging.{CountsNoMore, lists_judged}
 use Rattle.pv_opening.specs.Possibility.{width_stage}
 use Rattle.pv_opening.specs.Stage.{beside}
-use Rattle.pv_commands.proofs.Counting.{judged_document}
+use Rattle.pv_commands.proofs.CommandCounts.{judged_document}
 use Rattle.pv_opening.proofs.JudgedLists.{stops_first}
 use Rattle.pv_opening.proofs.Stages.{found_behind, refusal_stops, stop_found}
 use Rattle.pv_commands.proofs.check.check_opened.Goals as goal

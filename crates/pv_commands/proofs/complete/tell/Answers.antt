@@ -3,7 +3,7 @@ use Rattle.std.proofs.lemmas.Result.{err_from_is_err_and}
 use Rattle.pv_productive.specs.PlainForms.{dtd_of}
 use Rattle.pv_tree.specs.PlainDocs.{plain_doc}
 use Rattle.pv_opening.specs.Stage.{short_of_memory}
-use Rattle.pv_commands.proofs.Packing.{found_refused, packs_as, packs_told}
+use Rattle.pv_commands.proofs.DocumentPacks.{found_refused, packs_as, packs_told}
 use Rattle.pv_commands.proofs.complete.tell.Goals as goal
 
 pub returns-in_err-write_pack-in-Ok : goal.returns-in_err-write_pack-in-Ok

@@ -5,7 +5,7 @@ use Rattle.pv_denial.specs.declared.denials.Denial.{Denial}
 use Rattle.pv_opening.specs.Opening.{fetch_stage}
 use Rattle.pv_commands.specs.DenialFiles.{denial_stage}
 use Rattle.pv_opening.specs.Stage.{Stage}
-use Rattle.pv_opening.proofs.Fetching.{behind_over, reading_counts, stopped_over}
+use Rattle.pv_opening.proofs.FetchedFiles.{behind_over, reading_counts, stopped_over}
 use Rattle.pv_commands.proofs.deny.open_denial.Goals as goal
 
 abbrev fetches : Option (List ℕ) → Stage (List ℕ)

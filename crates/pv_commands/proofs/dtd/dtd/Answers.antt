@@ -1,5 +1,5 @@
 use Rattle.std.proofs.lemmas.Result.{err_from_is_err_and}
-use Rattle.pv_commands.proofs.Listing.{dtd_stopped, dtd_told}
+use Rattle.pv_commands.proofs.DtdListings.{dtd_stopped, dtd_told}
 use Rattle.pv_commands.proofs.dtd.dtd.Goals as goal
 
 pub returns-in_err-opened-clause-finds : goal.returns-in_err-opened-clause-finds

@@ -4,7 +4,7 @@ use Rattle.pv_standoff.specs.declared.ranges.Range.{Range}
 use Rattle.pv_opening.specs.Opening.{fetch_stage}
 use Rattle.pv_opening.specs.Stage.{Stage}
 use Rattle.pv_commands.specs.Standoff.{MAX_RANGES_BYTES, ranges_stage}
-use Rattle.pv_opening.proofs.Fetching.{behind_over, reading_counts, stopped_over}
+use Rattle.pv_opening.proofs.FetchedFiles.{behind_over, reading_counts, stopped_over}
 use Rattle.pv_commands.proofs.standoff.open_ranges.Goals as goal
 
 abbrev fetches : Option (List ℕ) → Stage (List ℕ)

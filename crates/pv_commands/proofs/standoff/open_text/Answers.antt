@@ -3,7 +3,7 @@ use Rattle.std.proofs.lemmas.Result.{err_from_is_err_and}
 use Rattle.pv_opening.specs.Opening.{fetch_stage}
 use Rattle.pv_opening.specs.Stage.{Stage}
 use Rattle.pv_commands.specs.Standoff.{MAX_TEXT_BYTES, text_stage}
-use Rattle.pv_opening.proofs.Fetching.{behind_over, reading_counts, stopped_over}
+use Rattle.pv_opening.proofs.FetchedFiles.{behind_over, reading_counts, stopped_over}
 use Rattle.pv_commands.proofs.standoff.open_text.Goals as goal
 
 abbrev fetches : Option (List ℕ) → Stage (List ℕ)

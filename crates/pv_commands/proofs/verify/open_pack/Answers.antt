@@ -5,7 +5,7 @@ use Rattle.pv_cert.specs.declared.packs.Pack.{Pack}
 use Rattle.pv_opening.specs.Opening.{fetch_stage}
 use Rattle.pv_commands.specs.PackFiles.{pack_stage}
 use Rattle.pv_opening.specs.Stage.{Stage}
-use Rattle.pv_opening.proofs.Fetching.{behind_over, reading_counts, stopped_over}
+use Rattle.pv_opening.proofs.FetchedFiles.{behind_over, reading_counts, stopped_over}
 use Rattle.pv_commands.proofs.verify.open_pack.Goals as goal
 
 abbrev fetches : Option (List ℕ) → Stage (List ℕ)

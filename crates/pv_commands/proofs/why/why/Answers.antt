@@ -8,7 +8,7 @@ use Rattle.pv_opening.specs.Possibility.{width_stage}
 use Rattle.pv_opening.specs.Returns.{plain_opened}
 use Rattle.pv_opening.specs.Stage.{beside, short_of_memory}
 use Rattle.pv_commands.specs.Why.{IsWhyCourse}
-use Rattle.pv_commands.proofs.Counting.{judged_document}
+use Rattle.pv_commands.proofs.CommandCounts.{judged_document}
 use Rattle.pv_opening.proofs.JudgedLists.{stops_first}
 use Rattle.pv_opening.proofs.Stages.{found_behind, stop_found}
 use Rattle.pv_commands.proofs.why.why.Goals as goal

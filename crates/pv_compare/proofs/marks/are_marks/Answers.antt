@@ -1,6 +1,6 @@
 use Rattle.std.proofs.Common.{subst, sym}
 use Rattle.pv_compare.specs.Kept.{AreFlagged}
-use Rattle.pv_compare.proofs.Marked.{from-marks, to-marks}
+use Rattle.pv_compare.proofs.AttributeMarks.{from-marks, to-marks}
 use Rattle.pv_compare.proofs.marks.are_marks.Goals as goal
 
 pub returns : goal.returns

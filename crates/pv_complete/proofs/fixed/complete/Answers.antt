@@ -37,5 +37,9 @@ returns-clause-refused c = IfErr-weaker c.complete_by.result _ _ (λ e why. why 
 
 pub returns-clause-succeeds : goal.returns-clause-succeeds
 returns-clause-succeeds c =
-    memory_alone_stops Mark (dtd_of c.args.grammar.now) c.args.root.now (plain_doc c.args.doc.now) (proper c.args.grammar.now.layout.dtd) c.proper_doc_law.ensures c.live_lists_law.ensures c.complete_by.result
-    (IfErr-weaker c.complete_by.result _ (HasCause (dtd_of c.args.grammar.now) c.args.root.now (plain_doc c.args.doc.now)) (λ e why. why c.in_ok-verdicts.ensures.verdicts) c.complete_by.ensures.refused)
+    memory_alone_stops Mark (dtd_of c.args.grammar.now) c.args.root.now (plain_doc c.args.doc.now)
+    (proper c.args.grammar.now.layout.dtd) c.proper_doc_law.ensures c.live_lists_law.ensures
+    c.complete_by.result
+    (IfErr-weaker c.complete_by.result _ (HasCause (dtd_of c.args.grammar.now) c.args.root.now
+    (plain_doc c.args.doc.now)) (λ e why. why c.in_ok-verdicts.ensures.verdicts)
+    c.complete_by.ensures.refused)

@@ -1,4 +1,4 @@
-use Rattle.pv_complete.proofs.Completed.{leaf_completed}
+use Rattle.pv_complete.proofs.CompletedTrees.{leaf_completed}
 use Rattle.pv_complete.proofs.laws.leaf_law.Goals as goal
 
 pub returns : goal.returns

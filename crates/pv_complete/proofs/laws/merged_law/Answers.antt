@@ -1,4 +1,4 @@
-use Rattle.pv_complete.proofs.Completed.{merged_completed}
+use Rattle.pv_complete.proofs.CompletedTrees.{merged_completed}
 use Rattle.pv_complete.proofs.laws.merged_law.Goals as goal
 
 pub returns : goal.returns

@@ -13,20 +13,32 @@ complete_by-requires-clause-names c = rw c.root.ensures (subst (λ (d : PlainDoc
 
 pub complete_by-requires-clause-verdicts : goal.complete_by-requires-clause-verdicts
 complete_by-requires-clause-verdicts c =
-    live_verdicts c.args.session.now (dtd_of c.grammar-2.result.now) c.root.result.now (plain_doc c.doc.result.now) c.args.verdicts.now c.grammar-2.ensures c.root.ensures c.doc.ensures.doc c.session_law.ensures (rw (c.dtd.ensures, c.grammar.ensures) at c.proper_dtd_law.ensures) c.requires.verdicts c.requires.possible
+    live_verdicts c.args.session.now (dtd_of c.grammar-2.result.now) c.root.result.now
+    (plain_doc c.doc.result.now) c.args.verdicts.now c.grammar-2.ensures c.root.ensures
+    c.doc.ensures.doc c.session_law.ensures (rw (c.dtd.ensures, c.grammar.ensures) at
+    c.proper_dtd_law.ensures) c.requires.verdicts c.requires.possible
 
 pub returns-in-Ok-clause-tells : goal.returns-in-Ok-clause-tells
 returns-in-Ok-clause-tells c =
     let found = c.in-Ok.field-0 in
-    let least = completion_told c.args.session.now (dtd_of c.grammar-2.result.now) c.root.result.now (plain_doc c.doc.result.now) c.args.verdicts.now c.grammar-2.ensures c.root.ensures c.doc.ensures.doc c.session_law.ensures (rw (c.dtd.ensures, c.grammar.ensures) at c.proper_dtd_law.ensures) c.requires.verdicts c.requires.possible
+    let least = completion_told c.args.session.now (dtd_of c.grammar-2.result.now) c.root.result.now
+    (plain_doc c.doc.result.now) c.args.verdicts.now c.grammar-2.ensures c.root.ensures
+    c.doc.ensures.doc c.session_law.ensures (rw (c.dtd.ensures, c.grammar.ensures) at
+    c.proper_dtd_law.ensures) c.requires.verdicts c.requires.possible
     found.count found.marks found.body c.in-Ok.ensures.completed in
-    let shown = grown_told c.args.session.now (dtd_of c.grammar-2.result.now) c.root.result.now (plain_doc c.doc.result.now) c.args.verdicts.now c.grammar-2.ensures c.root.ensures c.doc.ensures.doc c.session_law.ensures (rw (c.dtd.ensures, c.grammar.ensures) at c.proper_dtd_law.ensures) c.requires.verdicts c.requires.possible
+    let shown = grown_told c.args.session.now (dtd_of c.grammar-2.result.now) c.root.result.now
+    (plain_doc c.doc.result.now) c.args.verdicts.now c.grammar-2.ensures c.root.ensures
+    c.doc.ensures.doc c.session_law.ensures (rw (c.dtd.ensures, c.grammar.ensures) at
+    c.proper_dtd_law.ensures) c.requires.verdicts c.requires.possible
     found.body c.in-Ok.ensures.written in
     is_completed found.count found.marks found.body least shown refl
 
 pub refusal_reply-requires : goal.refusal_reply-requires
 refusal_reply-requires c =
-    cause_told c.args.session.now (dtd_of c.grammar-2.result.now) c.root.result.now (plain_doc c.doc.result.now) c.args.verdicts.now c.grammar-2.ensures c.root.ensures c.doc.ensures.doc c.session_law.ensures (rw (c.dtd.ensures, c.grammar.ensures) at c.proper_dtd_law.ensures) c.requires.verdicts c.requires.possible
+    cause_told c.args.session.now (dtd_of c.grammar-2.result.now) c.root.result.now
+    (plain_doc c.doc.result.now) c.args.verdicts.now c.grammar-2.ensures c.root.ensures
+    c.doc.ensures.doc c.session_law.ensures (rw (c.dtd.ensures, c.grammar.ensures) at
+    c.proper_dtd_law.ensures) c.requires.verdicts c.requires.possible
     c.in-Err.error c.in-Err.ensures.refused
 
 pub returns-clause-tells : goal.returns-clause-tells

@@ -8,13 +8,19 @@ use Rattle.pv_conversation.proofs.missing.need_reply_by.Goals as goal
 
 pub refusal_reply-requires : goal.refusal_reply-requires
 refusal_reply-requires c =
-    cause_told c.args.session.now (dtd_of c.grammar-2.result.now) c.root.result.now (plain_doc c.doc.result.now) c.args.verdicts.now c.grammar-2.ensures c.root.ensures c.doc.ensures.doc c.session_law.ensures (rw (c.dtd.ensures, c.grammar.ensures) at c.proper_dtd_law.ensures) c.requires.verdicts c.requires.possible
+    cause_told c.args.session.now (dtd_of c.grammar-2.result.now) c.root.result.now
+    (plain_doc c.doc.result.now) c.args.verdicts.now c.grammar-2.ensures c.root.ensures
+    c.doc.ensures.doc c.session_law.ensures (rw (c.dtd.ensures, c.grammar.ensures) at
+    c.proper_dtd_law.ensures) c.requires.verdicts c.requires.possible
     c.in-Err.error c.in-Err.ensures.refused
 
 pub returns-in-Ok-clause-tells : goal.returns-in-Ok-clause-tells
 returns-in-Ok-clause-tells c =
     let number = c.in-Ok.number in
-    let told = needs_told c.args.session.now (dtd_of c.grammar-2.result.now) c.root.result.now (plain_doc c.doc.result.now) c.args.verdicts.now c.grammar-2.ensures c.root.ensures c.doc.ensures.doc c.session_law.ensures (rw (c.dtd.ensures, c.grammar.ensures) at c.proper_dtd_law.ensures) c.requires.verdicts c.requires.possible
+    let told = needs_told c.args.session.now (dtd_of c.grammar-2.result.now) c.root.result.now
+    (plain_doc c.doc.result.now) c.args.verdicts.now c.grammar-2.ensures c.root.ensures
+    c.doc.ensures.doc c.session_law.ensures (rw (c.dtd.ensures, c.grammar.ensures) at
+    c.proper_dtd_law.ensures) c.requires.verdicts c.requires.possible
     number c.in-Ok.ensures.needs in
     is_needed number told refl
 

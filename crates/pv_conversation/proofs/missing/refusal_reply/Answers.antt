@@ -6,7 +6,9 @@ use Rattle.pv_conversation.proofs.missing.refusal_reply.Goals as goal
 
 pub returns-in-Impossible-clause-withholds : goal.returns-in-Impossible-clause-withholds
 returns-in-Impossible-clause-withholds c =
-    let told = impossible_told c.args.session.now c.session_law.ensures (rw (c.dtd.ensures, c.grammar.ensures) at c.proper_dtd_law.ensures) c.in-Impossible.path (rw c.in-Impossible.is at c.requires) in
+    let told = impossible_told c.args.session.now c.session_law.ensures
+    (rw (c.dtd.ensures, c.grammar.ensures) at c.proper_dtd_law.ensures) c.in-Impossible.path
+    (rw c.in-Impossible.is at c.requires) in
     is_impossible c.in-Impossible.path told refl
 
 pub returns-in-TooWide-clause-withholds : goal.returns-in-TooWide-clause-withholds

@@ -7,7 +7,9 @@ use Rattle.pv_conversation.proofs.talk.answer_lines.Given as goal
 abbrev pub invariant-lines : goal.invariant-lines
 invariant-lines g l = record {
   stays : CountStays (g.K.Sink.faults l.initial.out) (g.K.Sink.faults l.out);
-  goes : GoesTo (g.K.Sink.written l.initial.out) (g.K.Sink.written l.out) l.reading.buffer (counted l.initial.session l.initial.steps) (counted l.session l.steps) l.initial.reading.lines l.reading.lines
+  goes : GoesTo (g.K.Sink.written l.initial.out) (g.K.Sink.written l.out) l.reading.buffer
+      (counted l.initial.session l.initial.steps) (counted l.session l.steps)
+      l.initial.reading.lines l.reading.lines
       l.initial.reading.number l.reading.number l.piece l.rest;
   is_ready : g.K.Sink.ready l.out ≡ true;
   left : l.reading.left ≡ l.initial.reading.left;

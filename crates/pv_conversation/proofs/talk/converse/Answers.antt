@@ -6,7 +6,7 @@ use Rattle.pv_opening.specs.Showing.{cut_off, wrote}
 use Rattle.pv_conversation.specs.Script.{MAX_SCRIPT_BYTES}
 use Rattle.pv_conversation.specs.Session.{all_told, limited}
 use Rattle.pv_conversation.proofs.Conversations.{asked_more, asked_none, asked_once, asked_within, has_course, no_room, not_at_end, writes_from}
-use Rattle.pv_conversation.proofs.Conversing.{begins, fails}
+use Rattle.pv_conversation.proofs.ConversationLines.{begins, fails}
 use Rattle.pv_conversation.proofs.Scripts.{append_none, consumes_kept, consumes_more, consumes_none, piece_kept}
 use Rattle.pv_conversation.proofs.talk.converse.Goals as goal
 use Rattle.pv_conversation.proofs.talk.converse.Goals.{in-Ok-finish, in-Err}
@@ -55,11 +55,15 @@ returns-then-count-eq0 g c =
     elim c.match-finish.branch [
       | in-Ok-finish w ↦
           let so = w.in-Ok-finish.ensures.finished _ talk.script _ within talk.so_far in
-          rw w.result-is (has_course _ talk.script so.silent true (all_told so.out) _ _ _ _ _ _ _ so.ends taken (asked_once _ _ _ _ _ talk.asked c.fill.ensures.calls) (λ e. bytes.1 c.if-count-eq0.true room) (λ n. refl)
+          rw w.result-is (has_course _ talk.script so.silent true (all_told so.out) _ _ _ _ _ _ _
+          so.ends taken (asked_once _ _ _ _ _ talk.asked c.fill.ensures.calls)
+          (λ e. bytes.1 c.if-count-eq0.true room) (λ n. refl)
           counts (wrote refl refl so.written (w.in-Ok-finish.ensures.cause ∙ talk.stays)) so.counts)
       | in-Err w ↦
           let so = w.in-Err.ensures.finished _ talk.script _ within talk.so_far in
-          rw w.result-is (has_course _ talk.script so.silent true (all_told so.out) _ _ _ _ _ _ _ so.ends taken (asked_once _ _ _ _ _ talk.asked c.fill.ensures.calls) (λ e. bytes.1 c.if-count-eq0.true room) (λ n. refl)
+          rw w.result-is (has_course _ talk.script so.silent true (all_told so.out) _ _ _ _ _ _ _
+          so.ends taken (asked_once _ _ _ _ _ talk.asked c.fill.ensures.calls)
+          (λ e. bytes.1 c.if-count-eq0.true room) (λ n. refl)
           counts (cut_off so.out refl refl so.written (rw talk.stays at w.in-Err.ensures.cause)) so.counts)
     ]
 
@@ -101,7 +105,9 @@ returns-in-Ok-Quit g c =
     let ended = rw c.in-Ok-Quit.field-0-is at (c.in-Ok-Quit.ensures.next _ talk.script _ talk.within talk.so_far) in
     let so = rw (c.deref.ensures.value, kept) at ended in
     has_course _ (talk.script ++ take c.in-Ok-fill.count c.fill.new.buf) so.silent false (all_told so.out) _ _ _ _ _ _ _ so.ends
-    (consumes_more _ _ _ _ _ talk.taken c.in-Ok-fill.ensures.bytes.0) (asked_within _ _ _ (asked_more talk.script _ _ _ _ _ talk.asked c.in-Ok-fill.ensures.calls c.if-count-eq0.false some)) (not_at_end _) (λ n. refl) (c.in-Ok-fill.ensures.cause ∙ talk.input_stays)
+    (consumes_more _ _ _ _ _ talk.taken c.in-Ok-fill.ensures.bytes.0) (asked_within _ _ _
+    (asked_more talk.script _ _ _ _ _ talk.asked c.in-Ok-fill.ensures.calls c.if-count-eq0.false
+    some)) (not_at_end _) (λ n. refl) (c.in-Ok-fill.ensures.cause ∙ talk.input_stays)
     (wrote refl refl so.written (c.in-Ok-Quit.ensures.cause ∙ talk.stays))
     so.counts
 
@@ -114,7 +120,9 @@ returns-in-Ok-LineLimit g c =
     let ended = rw c.in-Ok-LineLimit.field-0-is at (c.in-Ok-LineLimit.ensures.next _ talk.script _ talk.within talk.so_far) in
     let so = rw (c.deref.ensures.value, kept) at ended in
     has_course _ (talk.script ++ take c.in-Ok-fill.count c.fill.new.buf) so.silent false (limited so.out (codes "limit line " ++ decimal c.answer_piece.new.reading.number))
-    _ _ _ _ _ _ _ so.ends (consumes_more _ _ _ _ _ talk.taken c.in-Ok-fill.ensures.bytes.0) (asked_within _ _ _ (asked_more talk.script _ _ _ _ _ talk.asked c.in-Ok-fill.ensures.calls c.if-count-eq0.false some)) (not_at_end _) (λ n. refl) (c.in-Ok-fill.ensures.cause ∙ talk.input_stays)
+    _ _ _ _ _ _ _ so.ends (consumes_more _ _ _ _ _ talk.taken c.in-Ok-fill.ensures.bytes.0)
+    (asked_within _ _ _ (asked_more talk.script _ _ _ _ _ talk.asked c.in-Ok-fill.ensures.calls
+    c.if-count-eq0.false some)) (not_at_end _) (λ n. refl) (c.in-Ok-fill.ensures.cause ∙ talk.input_stays)
     (writes_from _ _ _ _ _ _ _ (c.in-Ok-LineLimit.ensures.cause ∙ talk.stays) (c.announce_line.ensures _ so.out so.written))
     so.counts
 
@@ -127,7 +135,9 @@ returns-in-Ok-ScriptLimit g c =
     let ended = rw c.in-Ok-ScriptLimit.field-0-is at (c.in-Ok-ScriptLimit.ensures.next _ talk.script _ talk.within talk.so_far) in
     let so = rw (c.deref.ensures.value, kept) at ended in
     has_course _ (talk.script ++ take c.in-Ok-fill.count c.fill.new.buf) so.silent false (limited so.out (codes "limit script"))
-    _ _ _ _ _ _ _ so.ends (consumes_more _ _ _ _ _ talk.taken c.in-Ok-fill.ensures.bytes.0) (asked_within _ _ _ (asked_more talk.script _ _ _ _ _ talk.asked c.in-Ok-fill.ensures.calls c.if-count-eq0.false some)) (not_at_end _) (λ n. refl) (c.in-Ok-fill.ensures.cause ∙ talk.input_stays)
+    _ _ _ _ _ _ _ so.ends (consumes_more _ _ _ _ _ talk.taken c.in-Ok-fill.ensures.bytes.0)
+    (asked_within _ _ _ (asked_more talk.script _ _ _ _ _ talk.asked c.in-Ok-fill.ensures.calls
+    c.if-count-eq0.false some)) (not_at_end _) (λ n. refl) (c.in-Ok-fill.ensures.cause ∙ talk.input_stays)
     (writes_from _ _ _ _ _ _ _ (c.in-Ok-ScriptLimit.ensures.cause ∙ talk.stays) (c.announce.ensures _ so.out so.written))
     so.counts
 
@@ -139,7 +149,9 @@ returns-in-Err-answer_piece g c =
     let some : 0 < length (take c.in-Ok-fill.count c.fill.new.buf) = omega (arith, length-take c.in-Ok-fill.count c.fill.new.buf, c.in-Ok-fill.ensures.bound.1, c.if-count-eq0.false) in
     let so = rw (c.deref.ensures.value, kept) at (c.in-Err-answer_piece.ensures.next _ talk.script _ talk.within talk.so_far) in
     has_course _ (talk.script ++ take c.in-Ok-fill.count c.fill.new.buf) so.silent false (output_fault so.out) _ _ _ _ _ _ _ so.ends
-    (consumes_more _ _ _ _ _ talk.taken c.in-Ok-fill.ensures.bytes.0) (asked_within _ _ _ (asked_more talk.script _ _ _ _ _ talk.asked c.in-Ok-fill.ensures.calls c.if-count-eq0.false some)) (not_at_end _) (λ n. refl) (c.in-Ok-fill.ensures.cause ∙ talk.input_stays)
+    (consumes_more _ _ _ _ _ talk.taken c.in-Ok-fill.ensures.bytes.0) (asked_within _ _ _
+    (asked_more talk.script _ _ _ _ _ talk.asked c.in-Ok-fill.ensures.calls c.if-count-eq0.false
+    some)) (not_at_end _) (λ n. refl) (c.in-Ok-fill.ensures.cause ∙ talk.input_stays)
     (cut_off so.out refl refl so.written (rw talk.stays at c.in-Err-answer_piece.ensures.cause))
     so.counts
 

@@ -2,8 +2,8 @@ use Rattle.std.proofs.Common.{◌<◌, length, true, arith}
 use Rattle.std.proofs.lemmas.List.{nil_from_length}
 use Rattle.std.proofs.lemmas.Result.{err_from_is_err_and}
 use Rattle.pv_conversation.specs.Session.{all_told}
-use Rattle.pv_conversation.proofs.Conversing.{ended_as, ends_with_all}
-use Rattle.pv_conversation.proofs.Holding.{holds_cut, holds_written}
+use Rattle.pv_conversation.proofs.ConversationLines.{ended_as, ends_with_all}
+use Rattle.pv_conversation.proofs.HeldReplies.{holds_cut, holds_written}
 use Rattle.pv_conversation.proofs.Piecewise.{last_answered, last_failed}
 use Rattle.pv_conversation.proofs.talk.finish.Goals as goal
 

@@ -5,7 +5,7 @@ use Rattle.pv_tree.specs.PlainForms.{forest, plain}
 use Rattle.pv_tree.proofs.Forests.{forest-drop, forest-end}
 use Rattle.pv_tree.proofs.Levels.{plain-Elem}
 use Rattle.pv_conversation.specs.VerdictLines.{verdict_line, verdict_lines_from}
-use Rattle.pv_conversation.proofs.Holding.{cut_first, cut_then, put_cut, put_more, put_none, put_then, put_whole}
+use Rattle.pv_conversation.proofs.HeldReplies.{cut_first, cut_then, put_cut, put_more, put_none, put_then, put_whole}
 use Rattle.pv_conversation.proofs.VerdictLines.{lines_step, path_kept, place_size}
 use Rattle.pv_conversation.proofs.verdict_lines.+put.Goals as goal
 
@@ -34,9 +34,14 @@ put_kids-loop-i-preserved g t c =
     let path = c.args.line.now in
     let step = forest-drop c.args.kids.now c.loop-i.i kid (omega arith) c.index-kids-i.is in
     let whole = lines_step path c.loop-i.i (forest (drop c.loop-i.i c.args.kids.now)) (forest (drop (c.loop-i.i + 1) c.args.kids.now)) (plain kid) step in
-    let here : c.append_number.new.self ≡ path ++ (codes "." ++ decimal c.loop-i.i) = c.append_number.ensures.digits ∙ ap (λ (h : List ℕ). h ++ decimal c.loop-i.i) (c.append.ensures ∙ ap (λ (h : List ℕ). h ++ codes ".") c.loop-i.invariant.same_line) ∙ append_assoc path (codes ".") (decimal c.loop-i.i) in
+    let here : c.append_number.new.self ≡ path ++ (codes "." ++ decimal c.loop-i.i) =
+    c.append_number.ensures.digits ∙ ap (λ (h : List ℕ). h ++ decimal c.loop-i.i)
+    (c.append.ensures ∙ ap (λ (h : List ℕ). h ++ codes ".") c.loop-i.invariant.same_line)
+    ∙ append_assoc path (codes ".") (decimal c.loop-i.i) in
     record {
-      same_line = c.cut.ensures ∙ ap (λ (h : List ℕ). take c.size-path.result h) (c.in_ok-put_lists.ensures.same ∙ here) ∙ path_kept path (codes "." ++ decimal c.loop-i.i) c.size-path.result c.size-path.ensures;
+      same_line = c.cut.ensures ∙ ap (λ (h : List ℕ). take c.size-path.result h)
+          (c.in_ok-put_lists.ensures.same ∙ here) ∙ path_kept path (codes "." ++ decimal c.loop-i.i)
+          c.size-path.result c.size-path.ensures;
       few_nodes = omega (arith, ap nodes_in_all step, c.loop-i.invariant.few_nodes);
       shallow = omega (arith, ap depth_of_all step, c.loop-i.invariant.shallow);
       goes = put_more _ _ _ _ _ _ _ _ _ _ c.loop-i.invariant.goes whole (rw here at c.in_ok-put_lists.ensures.ok);
@@ -50,7 +55,10 @@ put_kids-returns-in_err-put_lists-clause-err g t c =
     let path = c.args.line.now in
     let step = forest-drop c.args.kids.now c.loop-i.i kid (omega arith) c.index-kids-i.is in
     let whole = lines_step path c.loop-i.i (forest (drop c.loop-i.i c.args.kids.now)) (forest (drop (c.loop-i.i + 1) c.args.kids.now)) (plain kid) step in
-    let here : c.append_number.new.self ≡ path ++ (codes "." ++ decimal c.loop-i.i) = c.append_number.ensures.digits ∙ ap (λ (h : List ℕ). h ++ decimal c.loop-i.i) (c.append.ensures ∙ ap (λ (h : List ℕ). h ++ codes ".") c.loop-i.invariant.same_line) ∙ append_assoc path (codes ".") (decimal c.loop-i.i) in
+    let here : c.append_number.new.self ≡ path ++ (codes "." ++ decimal c.loop-i.i) =
+    c.append_number.ensures.digits ∙ ap (λ (h : List ℕ). h ++ decimal c.loop-i.i)
+    (c.append.ensures ∙ ap (λ (h : List ℕ). h ++ codes ".") c.loop-i.invariant.same_line)
+    ∙ append_assoc path (codes ".") (decimal c.loop-i.i) in
     let p = err_from_is_err_and c.from_residual.result c.from_residual.ensures.1 in
     rw p.1 (put_cut _ _ _ _ _ _ _ _ _ c.loop-i.invariant.goes whole (rw here at c.in_err-put_lists.ensures.err))
 
@@ -61,7 +69,9 @@ put_kids-returns-clause-ok g t c =
 pub put_lists-returns-in_err-put_list-clause-err : goal.put_lists-returns-in_err-put_list-clause-err
 put_lists-returns-in_err-put_list-clause-err g t c =
     let p = err_from_is_err_and c.from_residual.result c.from_residual.ensures.1 in
-    rw (p.1, c.in-Elem.is, plain-Elem) (cut_first _ _ c.args.buffer.now (verdict_line c.args.line.now c.in-Elem.mark) (verdict_lines_from c.args.line.now 0 (forest c.in-Elem.kids.items)) c.in_err-put_list.ensures.err)
+    rw (p.1, c.in-Elem.is, plain-Elem) (cut_first _ _ c.args.buffer.now
+    (verdict_line c.args.line.now c.in-Elem.mark) (verdict_lines_from c.args.line.now 0
+    (forest c.in-Elem.kids.items)) c.in_err-put_list.ensures.err)
 
 pub put_lists-put_kids-requires : goal.put_lists-put_kids-requires
 put_lists-put_kids-requires g t c =
@@ -75,9 +85,15 @@ put_lists-put_kids-requires g t c =
 pub put_lists-returns-clause-ok : goal.put_lists-returns-clause-ok
 put_lists-returns-clause-ok g t c =
     rw (c.in-Elem.is, plain-Elem) (on_ok_weaker c.put_kids.result
-    (λ more. put_then _ _ _ c.args.buffer.now c.put_list.new.buffer _ (verdict_line c.args.line.now c.in-Elem.mark) (verdict_lines_from c.args.line.now 0 (forest c.in-Elem.kids.items)) c.in_ok-put_list.ensures.ok (rw (c.put_list.ensures.same, c.deref.ensures.value) at more)) c.put_kids.ensures.ok)
+    (λ more. put_then _ _ _ c.args.buffer.now c.put_list.new.buffer _ (verdict_line c.args.line.now
+    c.in-Elem.mark) (verdict_lines_from c.args.line.now 0 (forest c.in-Elem.kids.items))
+    c.in_ok-put_list.ensures.ok (rw (c.put_list.ensures.same, c.deref.ensures.value) at more))
+    c.put_kids.ensures.ok)
 
 pub put_lists-returns-clause-err : goal.put_lists-returns-clause-err
 put_lists-returns-clause-err g t c =
     rw (c.in-Elem.is, plain-Elem) (on_err_weaker c.put_kids.result
-    (λ more. cut_then _ _ _ c.args.buffer.now c.put_list.new.buffer (verdict_line c.args.line.now c.in-Elem.mark) (verdict_lines_from c.args.line.now 0 (forest c.in-Elem.kids.items)) c.in_ok-put_list.ensures.ok (rw (c.put_list.ensures.same, c.deref.ensures.value) at more)) c.put_kids.ensures.err)
+    (λ more. cut_then _ _ _ c.args.buffer.now c.put_list.new.buffer (verdict_line c.args.line.now
+    c.in-Elem.mark) (verdict_lines_from c.args.line.now 0 (forest c.in-Elem.kids.items))
+    c.in_ok-put_list.ensures.ok (rw (c.put_list.ensures.same, c.deref.ensures.value) at more))
+    c.put_kids.ensures.err)

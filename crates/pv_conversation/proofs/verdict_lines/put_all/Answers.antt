@@ -3,7 +3,7 @@ use Rattle.std.proofs.lemmas.Result.{err_from_is_err_and, on_err_weaker, on_ok_w
 use Rattle.pv_cache.specs.Laying.{lists_in}
 use Rattle.pv_tree.specs.PlainForms.{plain}
 use Rattle.pv_conversation.specs.VerdictLines.{verdict_line, verdict_lines, verdicts_head}
-use Rattle.pv_conversation.proofs.Holding.{cut_first, cut_then, put_then}
+use Rattle.pv_conversation.proofs.HeldReplies.{cut_first, cut_then, put_then}
 use Rattle.pv_conversation.proofs.VerdictLines.{lists_few}
 use Rattle.pv_conversation.proofs.verdict_lines.put_all.Goals as goal
 

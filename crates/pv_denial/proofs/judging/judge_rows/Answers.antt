@@ -8,8 +8,8 @@ use Rattle.pv_missing.specs.PlainForms.{plain_of}
 use Rattle.pv_denial.specs.RowForms.{one_past, past_at}
 use Rattle.pv_denial.specs.Rows.{EachRow, IsRow, row_value}
 use Rattle.pv_denial.specs.declared.denials.Row.{Row}
-use Rattle.pv_denial.proofs.Answering.{matched_none, matched_some}
-use Rattle.pv_denial.proofs.Rowing.{past_some}
+use Rattle.pv_denial.proofs.ListJudgements.{matched_none, matched_some}
+use Rattle.pv_denial.proofs.SiteRows.{past_some}
 use Rattle.pv_denial.proofs.judging.judge_rows.Goals as goal
 
 pub returns-in_default : goal.returns-in_default
@@ -35,10 +35,18 @@ returns-then-past_at-word c =
     let m = matched_some c.in_ok-barrier.field-0 c.in-Some.barrier _ _ c.in_ok-barrier.ensures c.in-Some.is in
     let P : List Row → Type 0 = λ v. IsBarrierAtRows g (map plain_token word) (row_value v) in
     let E : ℕ → Type 0 = λ v. EachRow (IsRow g v) rows in
-    let same : past_at c.in-Some.barrier (plain_site c.owner_site.result) 0 ≡ past_at rows (plain_of c.args.owner) 0 = ap (λ v. past_at v (plain_site c.owner_site.result) 0) m.0 ∙ ap (λ s. past_at rows s 0) c.owner_site.ensures in
+    let same : past_at c.in-Some.barrier (plain_site c.owner_site.result) 0 ≡ past_at rows
+    (plain_of c.args.owner) 0 = ap (λ v. past_at v (plain_site c.owner_site.result) 0) m.0
+    ∙ ap (λ s. past_at rows s 0) c.owner_site.ensures in
     let n = length-map word plain_token in
-    let whole : past_at rows (plain_of c.args.owner) 0 ≡ suc (length (map plain_token word)) = sym same ∙ sym c.past_at.ensures ∙ c.if-past_at-word.true ∙ omega arith in
-    (record { each = subst E (sym n) m.1; once = m.2; barrier = subst P m.0 (c.all_hold.ensures.0 c.if-not-all_hold.false) }, past_some (row_value rows (plain_of c.args.owner) 0) (length (map plain_token word)) whole)
+    let whole : past_at rows (plain_of c.args.owner) 0 ≡ suc (length (map plain_token word)) = sym same ∙ sym c.past_at.ensures ∙ c.if-past_at-word.true ∙ omega arith in (
+      record {
+        each = subst E (sym n) m.1;
+        once = m.2;
+        barrier = subst P m.0 (c.all_hold.ensures.0 c.if-not-all_hold.false);
+      },
+      past_some (row_value rows (plain_of c.args.owner) 0) (length (map plain_token word)) whole,
+    )
 
 pub returns : goal.returns
 returns c =
@@ -46,7 +54,9 @@ returns c =
     let m = matched_some c.in_ok-barrier.field-0 c.in-Some.barrier _ _ c.in_ok-barrier.ensures c.in-Some.is in
     let P : List Row → Type 0 = λ v. IsBarrierAtRows g (map plain_token word) (row_value v) in
     let E : ℕ → Type 0 = λ v. EachRow (IsRow g v) rows in
-    let same : past_at c.in-Some.barrier (plain_site c.owner_site.result) 0 ≡ past_at rows (plain_of c.args.owner) 0 = ap (λ v. past_at v (plain_site c.owner_site.result) 0) m.0 ∙ ap (λ s. past_at rows s 0) c.owner_site.ensures in
+    let same : past_at c.in-Some.barrier (plain_site c.owner_site.result) 0 ≡ past_at rows
+    (plain_of c.args.owner) 0 = ap (λ v. past_at v (plain_site c.owner_site.result) 0) m.0
+    ∙ ap (λ s. past_at rows s 0) c.owner_site.ensures in
     let n = length-map word plain_token in (
       record { each = subst E (sym n) m.1; once = m.2; barrier = subst P m.0 (c.all_hold.ensures.0 c.if-not-all_hold.false) },
       (λ e. c.if-past_at-word.false (c.past_at.ensures ∙ same ∙ ap one_past e ∙ omega arith)),

@@ -11,7 +11,7 @@ use Rattle.pv_missing.specs.Widths.{FitsVerdict}
 use Rattle.pv_model.specs.declared.models.Token.{Token}
 use Rattle.pv_denial.specs.Judging.{JudgesRows}
 use Rattle.pv_denial.specs.declared.denials.Row.{Row}
-use Rattle.pv_denial.proofs.Answering.{live_fits, live_known, no_owner, rows_judged}
+use Rattle.pv_denial.proofs.ListJudgements.{live_fits, live_known, no_owner, rows_judged}
 use Rattle.pv_denial.proofs.judging.judge_word.Goals as goal
 
 pub returns-then-not-is_narrow-clause-wide : goal.returns-then-not-is_narrow-clause-wide
@@ -47,5 +47,7 @@ returns-clause-judged c = λ root list is.
     let K : Forest Mark → Type 0 = λ v. IsLiveWord g (word_of g v) (map plain_token word) in
     let R : List Row → Type 0 = λ v. JudgesRows g (plain_of c.in-Some.owner) (map plain_token word) v c.in_ok-judged.judged in
     let fit = live_fits g _ w word c.live_follows_law.ensures c.dtd.ensures live in
-    rows_judged g root c.args.denial.now list c.requires c.live_follows_law.ensures c.one_live_word_law.ensures (plain_of c.in-Some.owner) (c.in-Some.ensures root list is) (map plain_token word) (subst K (sym is.kids) live)
+    rows_judged g root c.args.denial.now list c.requires c.live_follows_law.ensures
+    c.one_live_word_law.ensures (plain_of c.in-Some.owner) (c.in-Some.ensures root list is)
+    (map plain_token word) (subst K (sym is.kids) live)
     (subst F (sym is.kids) (fit.0 (c.is_narrow.ensures.0 c.if-not-is_narrow.false))) c.in_ok-judged.judged (subst R c.as_slice.ensures c.in_ok-judged.ensures)

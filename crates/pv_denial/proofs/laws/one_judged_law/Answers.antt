@@ -1,4 +1,4 @@
-use Rattle.pv_denial.proofs.OneJudged.{one_judged}
+use Rattle.pv_denial.proofs.OneJudgement.{one_judged}
 use Rattle.pv_denial.proofs.laws.one_judged_law.Goals as goal
 
 pub returns : goal.returns

@@ -1,6 +1,6 @@
 use Rattle.std.proofs.Common.{arith, get_or, refl, ◌+◌}
 use Rattle.std.proofs.lemmas.Option.{slice_get-get_or}
-use Rattle.pv_denial.proofs.Rising.{rise_all, rise_more}
+use Rattle.pv_denial.proofs.RisingValues.{rise_all, rise_more}
 use Rattle.pv_denial.proofs.listing.are_rising.Goals as goal
 
 pub loop-place-preserved : goal.loop-place-preserved

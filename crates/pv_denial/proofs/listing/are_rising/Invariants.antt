@@ -1,4 +1,4 @@
-use Rattle.pv_denial.proofs.Rising.{RiseTo}
+use Rattle.pv_denial.proofs.RisingValues.{RiseTo}
 use Rattle.pv_denial.proofs.listing.are_rising.Given as goal
 
 abbrev pub invariant-loop-place : goal.invariant-loop-place

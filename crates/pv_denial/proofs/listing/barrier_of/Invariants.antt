@@ -1,5 +1,5 @@
 use Rattle.pv_productive.specs.PlainForms.{dtd_of}
-use Rattle.pv_denial.proofs.Indexing.{AreTaken}
+use Rattle.pv_denial.proofs.RowIndex.{AreTaken}
 use Rattle.pv_denial.proofs.listing.barrier_of.Given as goal
 
 abbrev pub invariant-loop-number : goal.invariant-loop-number

@@ -7,7 +7,7 @@ use Rattle.pv_tree.specs.Places.{owner_of}
 use Rattle.pv_tree.specs.Plain.{no_trees, tree}
 use Rattle.pv_tree.proofs.Levels.{trees-forest}
 use Rattle.pv_denial.specs.Places.{owner_by}
-use Rattle.pv_denial.proofs.Standing.{list_of_document, list_of_element, no_list}
+use Rattle.pv_denial.proofs.ListsAtPaths.{list_of_document, list_of_element, no_list}
 use Rattle.pv_denial.proofs.places.place_at.Goals as goal
 
 pub returns-in-None : goal.returns-in-None

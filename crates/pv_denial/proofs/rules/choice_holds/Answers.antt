@@ -18,7 +18,9 @@ end_of-member-requires c =
 pub loop-member-smaller : goal.loop-member-smaller
 loop-member-smaller c =
     let g = dtd_of c.args.grammar.now in let lt = c.loop-member-test.true in
-    let z = passed_further g c.args.number c.args.end c.requires.choice _ c.loop-member.member c.loop-member.invariant lt c.end_of-member.result (c.end_of-member.ensures g c.flat.ensures) in omega arith
+    let z = passed_further g c.args.number c.args.end c.requires.choice _ c.loop-member.member
+    c.loop-member.invariant lt c.end_of-member.result (c.end_of-member.ensures g c.flat.ensures)
+    in omega arith
 
 pub loop-member-preserved : goal.loop-member-preserved
 loop-member-preserved c =

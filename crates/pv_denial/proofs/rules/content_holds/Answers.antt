@@ -13,19 +13,27 @@ returns-in_default c =
 pub returns-in-Empty : goal.returns-in-Empty
 returns-in-Empty c =
     let g = dtd_of c.args.grammar.now in let word = c.args.word.now in
-    empty_holds g (map plain_token word) _ (sym (length-map word plain_token)) c.args.barrier.now c.requires.rows _ c.args.id.0 c.in-Some.content (sym c.content_of.ensures ∙ c.in-Some.is) c.in-Empty.is c.none_holds.ensures
+    empty_holds g (map plain_token word) _ (sym (length-map word plain_token)) c.args.barrier.now
+    c.requires.rows _ c.args.id.0 c.in-Some.content (sym c.content_of.ensures
+    ∙ c.in-Some.is) c.in-Empty.is c.none_holds.ensures
 
 pub returns-in-Any : goal.returns-in-Any
 returns-in-Any c =
     let g = dtd_of c.args.grammar.now in let word = c.args.word.now in
-    any_holds g (map plain_token word) _ (sym (length-map word plain_token)) c.args.barrier.now c.requires.rows _ c.args.id.0 c.in-Some.content (sym c.content_of.ensures ∙ c.in-Some.is) c.in-Any.is c.any_holds.ensures
+    any_holds g (map plain_token word) _ (sym (length-map word plain_token)) c.args.barrier.now
+    c.requires.rows _ c.args.id.0 c.in-Some.content (sym c.content_of.ensures
+    ∙ c.in-Some.is) c.in-Any.is c.any_holds.ensures
 
 pub returns-in-Mixed : goal.returns-in-Mixed
 returns-in-Mixed c =
     let g = dtd_of c.args.grammar.now in let word = c.args.word.now in
-    mixed_holds g (map plain_token word) _ (sym (length-map word plain_token)) c.args.barrier.now c.requires.rows _ c.args.id.0 c.in-Some.content (sym c.content_of.ensures ∙ c.in-Some.is) c.in-Mixed.is c.mixed_holds.ensures
+    mixed_holds g (map plain_token word) _ (sym (length-map word plain_token)) c.args.barrier.now
+    c.requires.rows _ c.args.id.0 c.in-Some.content (sym c.content_of.ensures
+    ∙ c.in-Some.is) c.in-Mixed.is c.mixed_holds.ensures
 
 pub returns-in-Children : goal.returns-in-Children
 returns-in-Children c =
     let g = dtd_of c.args.grammar.now in let word = c.args.word.now in
-    children_hold g (map plain_token word) _ (sym (length-map word plain_token)) c.args.barrier.now c.requires.rows _ c.args.id.0 c.in-Some.content (sym c.content_of.ensures ∙ c.in-Some.is) c.in-Children.is c.one_holds.ensures
+    children_hold g (map plain_token word) _ (sym (length-map word plain_token)) c.args.barrier.now
+    c.requires.rows _ c.args.id.0 c.in-Some.content (sym c.content_of.ensures
+    ∙ c.in-Some.is) c.in-Children.is c.one_holds.ensures

@@ -13,14 +13,20 @@ returns-in_default c =
 pub returns-in-Outside : goal.returns-in-Outside
 returns-in-Outside c =
     let g = dtd_of c.args.grammar.now in let word = c.args.word.now in
-    outside_holds g (map plain_token word) _ (sym (length-map word plain_token)) c.args.barrier.now c.requires.rows _ c.args.number c.in-Some.part (sym c.part_of.ensures ∙ c.in-Some.is) c.in-Outside.is refl
+    outside_holds g (map plain_token word) _ (sym (length-map word plain_token)) c.args.barrier.now
+    c.requires.rows _ c.args.number c.in-Some.part (sym c.part_of.ensures
+    ∙ c.in-Some.is) c.in-Outside.is refl
 
 pub returns-in-Last : goal.returns-in-Last
 returns-in-Last c =
     let g = dtd_of c.args.grammar.now in let word = c.args.word.now in
-    last_holds g (map plain_token word) _ (sym (length-map word plain_token)) c.args.barrier.now c.requires.rows _ c.args.number c.in-Some.part (sym c.part_of.ensures ∙ c.in-Some.is) c.in-Last.is c.one_holds.ensures
+    last_holds g (map plain_token word) _ (sym (length-map word plain_token)) c.args.barrier.now
+    c.requires.rows _ c.args.number c.in-Some.part (sym c.part_of.ensures
+    ∙ c.in-Some.is) c.in-Last.is c.one_holds.ensures
 
 pub returns-in-Followed : goal.returns-in-Followed
 returns-in-Followed c =
     let g = dtd_of c.args.grammar.now in let word = c.args.word.now in
-    followed_holds g (map plain_token word) _ (sym (length-map word plain_token)) c.args.barrier.now c.requires.rows _ c.args.number c.in-Some.part (sym c.part_of.ensures ∙ c.in-Some.is) c.in-Followed.is c.two_holds.ensures
+    followed_holds g (map plain_token word) _ (sym (length-map word plain_token)) c.args.barrier.now
+    c.requires.rows _ c.args.number c.in-Some.part (sym c.part_of.ensures
+    ∙ c.in-Some.is) c.in-Followed.is c.two_holds.ensures

@@ -1,4 +1,4 @@
-use Rattle.pv_denial.proofs.Answering.{matched_none}
+use Rattle.pv_denial.proofs.ListJudgements.{matched_none}
 use Rattle.pv_denial_text.proofs.Heads.{fault-at-cause, fault-at-list}
 use Rattle.pv_denial_text.proofs.reading.read_head.Goals as goal
 
@@ -8,4 +8,6 @@ returns-in_default-2-clause-refused c =
 
 pub returns-in_default-cause_at-clause-refused : goal.returns-in_default-cause_at-clause-refused
 returns-in_default-cause_at-clause-refused c =
-    fault-at-cause c.args.bytes.now c.in-Some.behind_version.now _ c.in-Some-2.behind_list.now c.in-Some.ensures.version (rw c.in-Some-2.is at c.in_ok-path.ensures.list) c.in_default-cause_at.ensures.cause
+    fault-at-cause c.args.bytes.now c.in-Some.behind_version.now _ c.in-Some-2.behind_list.now
+    c.in-Some.ensures.version (rw c.in-Some-2.is at c.in_ok-path.ensures.list)
+    c.in_default-cause_at.ensures.cause

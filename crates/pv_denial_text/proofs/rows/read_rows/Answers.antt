@@ -1,7 +1,7 @@
 use Rattle.std.proofs.Common.{[], ap, arith, length, ◌∷◌, ◌≤◌, ℕ, ◌+◌, ◌≡◌}
 use Rattle.std.proofs.lemmas.List.{length-append}
 use Rattle.pv_denial.specs.Rows.{values_in}
-use Rattle.pv_denial.proofs.Answering.{matched_none}
+use Rattle.pv_denial.proofs.ListJudgements.{matched_none}
 use Rattle.pv_denial_text.proofs.RowLines.{more-behind-end, no-end, row-read, short-end, too-many}
 use Rattle.pv_denial_text.proofs.Stands.{values-more}
 use Rattle.pv_denial_text.proofs.rows.read_rows.Goals as goal
@@ -11,7 +11,9 @@ few-by n room most e = omega arith
 
 pub returns-then-room-count-clause-refused : goal.returns-then-room-count-clause-refused
 returns-then-room-count-clause-refused c =
-    too-many c.args.bytes.now c.rows.rows.items c.rows.last c.rows.rest.now c.in-Some.row c.in-Some.after.now c.rows.room c.rows.invariant.read (rw c.in-Some.is at c.in_ok-row.ensures.row) c.rows.invariant.room
+    too-many c.args.bytes.now c.rows.rows.items c.rows.last c.rows.rest.now c.in-Some.row
+    c.in-Some.after.now c.rows.room c.rows.invariant.read
+    (rw c.in-Some.is at c.in_ok-row.ensures.row) c.rows.invariant.room
     (omega (arith, c.if-room-count.true, ap length c.as_slice-count.ensures))
 
 pub rows-preserved : goal.rows-preserved

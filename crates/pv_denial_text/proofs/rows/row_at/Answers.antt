@@ -1,4 +1,4 @@
-use Rattle.pv_denial.proofs.Answering.{matched_none}
+use Rattle.pv_denial.proofs.ListJudgements.{matched_none}
 use Rattle.pv_denial_text.proofs.RowWords.{other-row}
 use Rattle.pv_denial_text.proofs.rows.row_at.Goals as goal
 

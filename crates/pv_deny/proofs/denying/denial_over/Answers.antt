@@ -1,7 +1,7 @@
 use Rattle.std.proofs.Common.{refl}
 use Rattle.pv_productive.specs.PlainForms.{dtd_of}
 use Rattle.pv_tree.specs.PlainDocs.{plain_doc}
-use Rattle.pv_denial.proofs.Answering.{matched_none, matched_some}
+use Rattle.pv_denial.proofs.ListJudgements.{matched_none, matched_some}
 use Rattle.pv_deny.proofs.AtPaths.{denial_there, fits, stands_there, too_many_there}
 use Rattle.pv_deny.proofs.denying.denial_over.Goals as goal
 
@@ -15,7 +15,9 @@ pub returns-in_default-2-clause-refused : goal.returns-in_default-2-clause-refus
 returns-in_default-2-clause-refused c =
     let m = matched_none c.in_ok-rows.field-0 _ _ c.in_ok-rows.ensures c.in_default-2.is in
     let at = c.in-Some.ensures in
-    too_many_there (dtd_of c.args.grammar.now) c.args.root.now (plain_doc c.args.doc.now) c.args.path c.in-Some.place at c.one_list_at_path_law.ensures c.requires.narrow c.requires.first c.cause_of-cause.result
+    too_many_there (dtd_of c.args.grammar.now) c.args.root.now (plain_doc c.args.doc.now)
+    c.args.path c.in-Some.place at c.one_list_at_path_law.ensures c.requires.narrow
+    c.requires.first c.cause_of-cause.result
     (c.cause_of-cause.ensures c.args.root.now at.list at.is_place) m.0 m.1
 
 pub returns-clause-denied : goal.returns-clause-denied

@@ -13,5 +13,8 @@ loop-site-preserved c =
     let Q : List Row → Type 0 = λ v. (k : ℕ) (t : Site) (q : Row) → slice_get sites k ≡ Some t → slice_get v k ≡ Some q → IsToldRow c.args.reaches.now c.args.tokens t q in
     record {
       as_many = let n = ap length c.in_ok-push.ensures.items in let m = length-append l.rows.items (row ∷ []) in let a = l.invariant.as_many in omega arith;
-      each = subst Q (sym c.in_ok-push.ensures.items) (row_more c.args.reaches.now c.args.tokens sites l.rows.items _ row l.site-index l.invariant.as_many (slice_get-get_or sites l.site-index _ c.loop-site-test.true) c.in_ok-row_of.ensures l.invariant.each);
+      each = subst Q (sym c.in_ok-push.ensures.items) (row_more c.args.reaches.now c.args.tokens
+          sites l.rows.items _ row l.site-index l.invariant.as_many
+          (slice_get-get_or sites l.site-index _ c.loop-site-test.true) c.in_ok-row_of.ensures
+          l.invariant.each);
     }

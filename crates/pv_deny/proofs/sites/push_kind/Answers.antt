@@ -15,7 +15,9 @@ loop-number-preserved c =
     elim c.if-is_told.branch [
       | then-is_told+in_ok-push w ↦
           subst P (sym (ap items w.sites-is ∙ w.in_ok-push.ensures.items))
-          (one_told g r (rank_of c.args.kind) l.number l.sites.items l.invariant t (by_rank c.args.kind l.number) (by_number c.args.kind l.number) c.sites_law.ensures c.site_of-site.result c.site_of-site.ensures
+          (one_told g r (rank_of c.args.kind) l.number l.sites.items l.invariant t
+          (by_rank c.args.kind l.number) (by_number c.args.kind l.number) c.sites_law.ensures
+          c.site_of-site.result c.site_of-site.ensures
           (told_at g r _ t c.site_of-site.ensures (c.is_told.ensures.0 w.if-is_told.true)))
       | else-is_told w ↦
           subst P (sym (ap items w.sites-is))

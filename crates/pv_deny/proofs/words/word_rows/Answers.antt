@@ -18,7 +18,9 @@ returns-then-not-are_few c =
     let L : List Token → Type 0 = λ v. IsLiveWord g w (map plain_token v) in
     let P : ℕ → Type 0 = λ v. v * suc (length word) ≤ most_values in
     let n : c.len.result ≡ length c.in_ok-sites.sites.items = omega (arith, c.len.ensures) in
-    many_values c.spans_within_law.ensures c.live_follows_law.ensures g _ c.dtd.ensures c.proper_dtd_law.ensures w word (subst L (sym c.as_slice-word.ensures) c.in_ok-live.ensures) c.in_ok-reaches.reaches c.in_ok-reaches.ensures
+    many_values c.spans_within_law.ensures c.live_follows_law.ensures g _ c.dtd.ensures
+    c.proper_dtd_law.ensures w word (subst L (sym c.as_slice-word.ensures) c.in_ok-live.ensures)
+    c.in_ok-reaches.reaches c.in_ok-reaches.ensures
     c.in_ok-sites.sites.items c.in_ok-sites.ensures
     (past (length c.in_ok-sites.sites.items * suc (length word)) most_values (λ few. true≢false (sym (c.are_few.ensures.1 (subst P (sym n) few)) ∙ c.if-not-are_few.true)))
 
@@ -28,7 +30,9 @@ rows_of-requires-clause-told c =
     let L : List Token → Type 0 = λ v. IsLiveWord g w (map plain_token v) in
     λ k i s e le.
     let S : List Site → Type 0 = λ v. slice_get v k ≡ Some s in
-    each_told c.spans_within_law.ensures c.live_follows_law.ensures g _ c.dtd.ensures c.proper_dtd_law.ensures w word (subst L (sym c.as_slice-word.ensures) c.in_ok-live.ensures) c.in_ok-reaches.reaches c.in_ok-reaches.ensures
+    each_told c.spans_within_law.ensures c.live_follows_law.ensures g _ c.dtd.ensures
+    c.proper_dtd_law.ensures w word (subst L (sym c.as_slice-word.ensures) c.in_ok-live.ensures)
+    c.in_ok-reaches.reaches c.in_ok-reaches.ensures
     c.in_ok-sites.sites.items c.in_ok-sites.ensures k i s (subst S c.deref.ensures.value e) le
 
 pub returns : goal.returns
@@ -40,6 +44,8 @@ returns c =
     let S : List Site → Type 0 = λ v. AreToldRows c.in_ok-reaches.reaches (length word) v c.in_ok-rows.rows.items in
     let R : List Row → Type 0 = λ v. HasRows g w v in
     subst R (sym c.of.ensures)
-    (has_rows c.spans_within_law.ensures c.live_follows_law.ensures g _ c.dtd.ensures c.proper_dtd_law.ensures w word (subst L (sym c.as_slice-word.ensures) c.in_ok-live.ensures) c.in_ok-reaches.reaches c.in_ok-reaches.ensures
+    (has_rows c.spans_within_law.ensures c.live_follows_law.ensures g _ c.dtd.ensures
+    c.proper_dtd_law.ensures w word (subst L (sym c.as_slice-word.ensures) c.in_ok-live.ensures)
+    c.in_ok-reaches.reaches c.in_ok-reaches.ensures
     c.in_ok-sites.sites.items c.in_ok-sites.ensures c.in_ok-rows.rows.items (subst S c.deref.ensures.value c.in_ok-rows.ensures)
     (subst P n (c.are_few.ensures.0 c.if-not-are_few.false)))

@@ -1,5 +1,5 @@
 use Rattle.std.proofs.Common.{◌≤◌, length, map}
-use Rattle.pv_dtd.proofs.Listed.{IsReadSoFar}
+use Rattle.pv_dtd.proofs.ListedNames.{IsReadSoFar}
 use Rattle.pv_dtd.proofs.models.listed_at.Given as goal
 
 -- the names so far and those that are read after them are all that are listed

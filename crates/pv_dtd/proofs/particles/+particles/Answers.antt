@@ -36,8 +36,17 @@ others_at-members-preserved t c =
     let read : Some (named_part c.in-Some-2.next, c.in-Some-2.behind_next.now) ≡ particle_at c.args.depth c.after_space.result.now = rw c.in-Some-2.is at c.in_ok-next.ensures.read in
     let within : length c.in-Some-2.behind_next.now ≤ length c.after_space.result.now = rw c.in-Some-2.is at c.in_ok-next.ensures.within in
     let pushed = ap (map named_part) c.in_ok-push.ensures.items ∙ map-append named_part c.members.members.items (c.in-Some-2.next ∷ []) in
-    let shorter : length c.in-Some-2.behind_next.now < length c.members.rest.now = omega (arith, within, c.in-Some-after_bytes.ensures.within, c.after_space-place.ensures.within, c.after_space.ensures.within) in
+    let shorter : length c.in-Some-2.behind_next.now < length c.members.rest.now =
+    omega (
+      arith,
+      within,
+      c.in-Some-after_bytes.ensures.within,
+      c.after_space-place.ensures.within,
+      c.after_space.ensures.within,
+    ) in
     rw pushed record {
-      read = so_far_more _ _ _ _ _ _ _ c.members.invariant.read c.after_space-place.ensures.after c.in_default.ensures.after _ c.in-Some-after_bytes.ensures.after _ c.after_space.ensures.after _ _ read shorter;
+      read = so_far_more _ _ _ _ _ _ _ c.members.invariant.read c.after_space-place.ensures.after
+          c.in_default.ensures.after _ c.in-Some-after_bytes.ensures.after _
+          c.after_space.ensures.after _ _ read shorter;
       within = omega (arith, c.members.invariant.within, shorter);
     }

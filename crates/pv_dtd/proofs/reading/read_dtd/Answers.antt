@@ -1,7 +1,7 @@
 use Rattle.std.proofs.Common.{◌≤◌, length, inr, arith}
 use Rattle.pv_dtd.specs.Facts.{MAX_DTD_BYTES}
 use Rattle.pv_dtd.specs.Meaning.{too_long}
-use Rattle.pv_dtd.proofs.Telling.{read_by, refused_by, exactly}
+use Rattle.pv_dtd.proofs.ReaderAnswers.{read_by, refused_by, exactly}
 use Rattle.pv_dtd.proofs.reading.read_dtd.Goals as goal
 
 pub returns-then-bytes-gt-MAX_DTD_BYTES-clause-refused : goal.returns-then-bytes-gt-MAX_DTD_BYTES-clause-refused
@@ -23,4 +23,6 @@ returns-clause-refused c =
 pub returns-clause-exactly : goal.returns-clause-exactly
 returns-clause-exactly c =
     let short : length c.args.bytes.now ≤ MAX_DTD_BYTES = omega arith in
-    exactly c.args.bytes.now _ (read_by c.args.bytes.now c.after_byte_order_mark.result.now short c.after_byte_order_mark.ensures.behind _ c.dtd_of.ensures) (refused_by c.args.bytes.now c.after_byte_order_mark.result.now short c.after_byte_order_mark.ensures.behind _ c.dtd_of.ensures)
+    exactly c.args.bytes.now _ (read_by c.args.bytes.now c.after_byte_order_mark.result.now short
+    c.after_byte_order_mark.ensures.behind _ c.dtd_of.ensures) (refused_by c.args.bytes.now
+    c.after_byte_order_mark.result.now short c.after_byte_order_mark.ensures.behind _ c.dtd_of.ensures)

@@ -1,7 +1,7 @@
 use Rattle.std.proofs.Common.{true, false, sym, ap, ◌∙◌}
 use Rattle.pv_dtd.specs.Facts.{are_distinct}
 use Rattle.pv_dtd.specs.NamedForms.{named_model}
-use Rattle.pv_dtd.proofs.Breaking.{broken_by}
+use Rattle.pv_dtd.proofs.BrokenRules.{broken_by}
 use Rattle.pv_dtd.proofs.rules.broken_by_element.Goals as goal
 
 pub returns-then-contains : goal.returns-then-contains

@@ -1,6 +1,6 @@
 use Rattle.std.proofs.Common.{refl}
 use Rattle.pv_dtd.specs.Items.{text_declaration, skipped, comment, instruction}
-use Rattle.pv_dtd.proofs.Breaking.{silent_keeps}
+use Rattle.pv_dtd.proofs.BrokenRules.{silent_keeps}
 use Rattle.pv_dtd.proofs.rules.broken_rule.Goals as goal
 
 pub returns-in-TextDeclaration : goal.returns-in-TextDeclaration

@@ -1,8 +1,8 @@
 use Rattle.std.proofs.lemmas.Result.{IfOk-weaker}
 use Rattle.pv_tree.specs.PlainDocs.{plain_doc}
 use Rattle.pv_tree.specs.Marks.{blank_mark}
-use Rattle.pv_edit.proofs.Prepared.{task-bare, task-can, task-kept, task-led, task-unshort}
-use Rattle.pv_edit.proofs.Reverting.{backs}
+use Rattle.pv_edit.proofs.PreparedChanges.{task-bare, task-can, task-kept, task-led, task-unshort}
+use Rattle.pv_edit.proofs.RevertedDocuments.{backs}
 use Rattle.pv_edit.proofs.changes.prepare_back.Goals as goal
 
 pub task_back-requires : goal.task_back-requires

@@ -1,5 +1,5 @@
 use Rattle.std.proofs.Common.{◌∙◌, sym}
-use Rattle.pv_edit.proofs.Searching.{none_is}
+use Rattle.pv_edit.proofs.CloseMarkSearch.{none_is}
 use Rattle.pv_edit.proofs.RunSearches.{near-searched}
 use Rattle.pv_edit.proofs.close_marks.spell_close_mark.Goals as goal
 

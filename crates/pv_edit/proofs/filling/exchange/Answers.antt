@@ -1,5 +1,5 @@
 use Rattle.std.proofs.Common.{◌∙◌, ◌++◌, ◌-◌, ◌+◌, ap, arith, vec_len}
-use Rattle.pv_edit.proofs.Exchanged.{exchanged_items, exchanged_left, exchanged_taken, moved_count}
+use Rattle.pv_edit.proofs.ExchangedItems.{exchanged_items, exchanged_left, exchanged_taken, moved_count}
 use Rattle.pv_edit.proofs.filling.exchange.Goals as goal
 
 pub returns-clause-items : goal.returns-clause-items

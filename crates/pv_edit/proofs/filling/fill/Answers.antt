@@ -1,6 +1,6 @@
 use Rattle.std.proofs.Common.{arith, refl, slice_set}
 use Rattle.std.proofs.lemmas.Result.{on_ok_weaker}
-use Rattle.pv_edit.proofs.Filled.{name_put, only_kid, plain_spliced}
+use Rattle.pv_edit.proofs.FilledKids.{name_put, only_kid, plain_spliced}
 use Rattle.pv_edit.proofs.filling.fill.Goals as goal
 
 pub put_name-requires : goal.put_name-requires

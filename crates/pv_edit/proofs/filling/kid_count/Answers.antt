@@ -1,5 +1,5 @@
 use Rattle.std.proofs.Common.{arith}
-use Rattle.pv_edit.proofs.Filled.{kids-length}
+use Rattle.pv_edit.proofs.FilledKids.{kids-length}
 use Rattle.pv_edit.proofs.filling.kid_count.Goals as goal
 
 pub returns-in-Elem : goal.returns-in-Elem

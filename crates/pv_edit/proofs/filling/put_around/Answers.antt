@@ -1,5 +1,5 @@
 use Rattle.std.proofs.Common.{◌∙◌, arith, refl, slice_set}
-use Rattle.pv_edit.proofs.Filled.{around_put}
+use Rattle.pv_edit.proofs.FilledKids.{around_put}
 use Rattle.pv_edit.proofs.filling.put_around.Goals as goal
 
 pub returns-clause-put : goal.returns-clause-put

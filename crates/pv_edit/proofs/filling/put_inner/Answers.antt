@@ -1,5 +1,5 @@
 use Rattle.std.proofs.Common.{◌∙◌, ap, arith, get_or, slice_set}
-use Rattle.pv_edit.proofs.Filled.{inner_put, only_kid}
+use Rattle.pv_edit.proofs.FilledKids.{inner_put, only_kid}
 use Rattle.pv_edit.proofs.filling.put_inner.Goals as goal
 
 pub take_kids-inner-requires : goal.take_kids-inner-requires

@@ -4,7 +4,7 @@ use Rattle.pv_tree.specs.Marks.{blank_mark}
 use Rattle.pv_edit.specs.Changes.{doc_after}
 use Rattle.pv_edit.specs.Effects.{change_of}
 use Rattle.pv_edit.specs.Reasons.{reason_of}
-use Rattle.pv_edit.proofs.Refusing.{answered}
+use Rattle.pv_edit.proofs.FirstReasons.{answered}
 use Rattle.pv_edit.proofs.fixed.shape.Goals as goal
 
 pub returns : goal.returns

@@ -1,7 +1,7 @@
 use Rattle.pv_edit.specs.Reasons.{reason_of}
-use Rattle.pv_edit.proofs.Keeping.{edit-can}
-use Rattle.pv_edit.proofs.Leading.{given-reason, given-doc}
-use Rattle.pv_edit.proofs.Prepared.{edit-bare, edit-unshort}
+use Rattle.pv_edit.proofs.DocumentFacts.{edit-can}
+use Rattle.pv_edit.proofs.InverseLeads.{given-reason, given-doc}
+use Rattle.pv_edit.proofs.PreparedChanges.{edit-bare, edit-unshort}
 use Rattle.pv_edit.proofs.laws.changes_law.Goals as goal
 
 pub returns : goal.returns

@@ -1,8 +1,8 @@
 use Rattle.std.proofs.Common.{subst, arith}
 use Rattle.pv_edit.specs.Inverses.{IsKept}
 use Rattle.pv_edit.specs.Reasons.{reason_of}
-use Rattle.pv_edit.proofs.Keeping.{edit-kept}
-use Rattle.pv_edit.proofs.Leading.{given-reason, given-doc}
+use Rattle.pv_edit.proofs.DocumentFacts.{edit-kept}
+use Rattle.pv_edit.proofs.InverseLeads.{given-reason, given-doc}
 use Rattle.pv_edit.proofs.laws.edits_keep_law.Goals as goal
 
 pub returns : goal.returns

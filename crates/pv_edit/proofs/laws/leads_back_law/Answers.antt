@@ -1,4 +1,4 @@
-use Rattle.pv_edit.proofs.Leading.{leads}
+use Rattle.pv_edit.proofs.InverseLeads.{leads}
 use Rattle.pv_edit.proofs.laws.leads_back_law.Goals as goal
 
 pub returns : goal.returns

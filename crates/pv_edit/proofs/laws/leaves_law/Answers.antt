@@ -1,4 +1,4 @@
-use Rattle.pv_edit.proofs.Leafing.{keeps-leaves}
+use Rattle.pv_edit.proofs.LeavesAfterTags.{keeps-leaves}
 use Rattle.pv_edit.proofs.laws.leaves_law.Goals as goal
 
 pub returns : goal.returns

@@ -1,5 +1,5 @@
 use Rattle.pv_tree.specs.PlainForms.{plain, plain_all}
-use Rattle.pv_edit.proofs.Parted.{next_is}
+use Rattle.pv_edit.proofs.ThreeParts.{next_is}
 use Rattle.pv_edit.proofs.places.next_text.Goals as goal
 
 pub returns : goal.returns

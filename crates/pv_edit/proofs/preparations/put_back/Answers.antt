@@ -12,5 +12,7 @@ use Rattle.pv_edit.proofs.preparations.put_back.Goals as goal
 pub put_into-requires-clause-fits : goal.put_into-requires-clause-fits
 put_into-requires-clause-fits c =
     let root = plain c.args.doc.now.root in
-    let there : spot_at c.args.path.now root ≡ Some (at_spot (plain c.in-Some-Inner.node.now)) = sym c.node_at.ensures ∙ ap (λ (o : Option Found). option_map plain_found o) c.in-Some-Inner.is ∙ ap (λ (f : Found). Some (plain_found f)) c.in-Some-Inner.field-0-is in
+    let there : spot_at c.args.path.now root ≡ Some (at_spot (plain c.in-Some-Inner.node.now)) =
+    sym c.node_at.ensures ∙ ap (λ (o : Option Found). option_map plain_found o)
+    c.in-Some-Inner.is ∙ ap (λ (f : Found). Some (plain_found f)) c.in-Some-Inner.field-0-is in
     omega (arith, places-fit blank_mark c.args.path.now root (plain c.in-Some-Inner.node.now) there, c.args.doc.now.small)

@@ -3,7 +3,7 @@ use Rattle.pv_tree.specs.Plain.{Tree, forest_of}
 use Rattle.pv_tree.specs.PlainForms.{plain_all}
 use Rattle.pv_tree.specs.declared.nodes.Mark.{Mark}
 use Rattle.pv_edit.specs.Reasons.{spells_close_mark}
-use Rattle.pv_edit.proofs.Parted.{unwrapped-list}
+use Rattle.pv_edit.proofs.ThreeParts.{unwrapped-list}
 use Rattle.pv_tree.specs.PlainForms.{plain}
 use Rattle.pv_edit.specs.Effects.{parent_of}
 use Rattle.pv_edit.proofs.RunSearches.{kids-unbroken, parted-front, parted-back}

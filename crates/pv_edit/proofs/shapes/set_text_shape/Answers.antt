@@ -1,7 +1,7 @@
 use Rattle.std.proofs.Common.{◌∙◌, sym}
 use Rattle.pv_tree.specs.PlainForms.{plain}
-use Rattle.pv_edit.proofs.Parted.{inner_text}
-use Rattle.pv_edit.proofs.Searching.{none_is}
+use Rattle.pv_edit.proofs.ThreeParts.{inner_text}
+use Rattle.pv_edit.proofs.CloseMarkSearch.{none_is}
 use Rattle.pv_edit.proofs.shapes.set_text_shape.Goals as goal
 
 pub set_text_makes_close_mark-requires-clause-there : goal.set_text_makes_close_mark-requires-clause-there

@@ -4,7 +4,7 @@ use Rattle.pv_productive.specs.declared.grammar.Grammar.{Grammar}
 use Rattle.pv_tree.specs.Lists.{lists_of}
 use Rattle.pv_tree.specs.PlainDocs.{plain_doc}
 use Rattle.pv_missing.specs.Verdicts.{AreVerdicts}
-use Rattle.pv_fresh.proofs.Walking.{none_is_possible}
+use Rattle.pv_fresh.proofs.ListWalks.{none_is_possible}
 use Rattle.pv_fresh.proofs.check.find_verdicts.Goals as goal
 
 pub returns-clause-verdicts : goal.returns-clause-verdicts
@@ -14,4 +14,6 @@ returns-clause-verdicts c =
 
 pub returns-clause-possible : goal.returns-clause-possible
 returns-clause-possible c =
-    none_is_possible c.live_lists_law.ensures (dtd_of c.args.grammar.now) c.args.root.now (plain_doc c.args.doc.now) _ (rw c.dtd.ensures at c.proper_dtd_law.ensures) c.proper_doc_law.ensures (returns-clause-verdicts c).is_first
+    none_is_possible c.live_lists_law.ensures (dtd_of c.args.grammar.now) c.args.root.now
+    (plain_doc c.args.doc.now) _ (rw c.dtd.ensures at c.proper_dtd_law.ensures)
+    c.proper_doc_law.ensures (returns-clause-verdicts c).is_first

@@ -1,7 +1,7 @@
 use Rattle.pv_tree.specs.Lists.{lists_of}
 use Rattle.pv_tree.specs.PlainDocs.{plain_doc}
 use Rattle.pv_fresh.specs.Firsts.{IsFirstPath}
-use Rattle.pv_fresh.proofs.Walking.{have_verdicts}
+use Rattle.pv_fresh.proofs.ListWalks.{have_verdicts}
 use Rattle.pv_fresh.proofs.firsts.with_first.Goals as goal
 
 pub returns-clause-first : goal.returns-clause-first

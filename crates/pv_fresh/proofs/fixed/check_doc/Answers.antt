@@ -2,7 +2,7 @@ use Rattle.std.proofs.Common.{arith}
 use Rattle.pv_productive.specs.PlainForms.{dtd_of}
 use Rattle.pv_tree.specs.Lists.{lists_of}
 use Rattle.pv_tree.specs.PlainDocs.{plain_doc}
-use Rattle.pv_fresh.proofs.Walking.{as_many}
+use Rattle.pv_fresh.proofs.ListWalks.{as_many}
 use Rattle.pv_fresh.proofs.fixed.check_doc.Goals as goal
 
 pub returns-clause-steps : goal.returns-clause-steps

@@ -3,7 +3,7 @@ use Rattle.pv_productive.specs.PlainForms.{dtd_of}
 use Rattle.pv_layout.specs.FormForms.{plain_all}
 use Rattle.pv_layout.specs.SiteForms.{plain_sites}
 use Rattle.pv_layout.proofs.HeldFits.{layout_fits}
-use Rattle.pv_layout.proofs.Sharing.{column_derives}
+use Rattle.pv_layout.proofs.SharedSites.{column_derives}
 use Rattle.pv_layout.proofs.laws.columns_derive_law.Goals as goal
 
 pub returns : goal.returns

@@ -4,7 +4,7 @@ use Rattle.pv_productive.specs.PlainForms.{dtd_of}
 use Rattle.pv_layout.specs.Columns.{column_at}
 use Rattle.pv_model.specs.Plain.{seq}
 use Rattle.pv_rules.proofs.FlatKinds.{choice_at, name_at, opt_at, plus_at, seq_at, star_at}
-use Rattle.pv_rules.proofs.Formed.{parts_formed}
+use Rattle.pv_rules.proofs.FormedParts.{parts_formed}
 use Rattle.pv_layout.specs.FormForms.{plain_all}
 use Rattle.pv_layout.specs.Forms.{of_opt, of_plus, of_star}
 use Rattle.pv_layout.specs.Making.{IsMade}

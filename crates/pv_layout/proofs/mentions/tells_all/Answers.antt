@@ -1,8 +1,8 @@
 use Rattle.std.proofs.Common.{arith, inl, inr, ◌≡◌}
 use Rattle.pv_layout.specs.FormForms.{plain_all, plain_form}
 use Rattle.pv_layout.specs.Forms.{form_at}
-use Rattle.pv_layout.proofs.Putting.{same_or_not}
-use Rattle.pv_layout.proofs.Reading.{form_read}
+use Rattle.pv_layout.proofs.PutValues.{same_or_not}
+use Rattle.pv_layout.proofs.ProgramColumns.{form_read}
 use Rattle.pv_layout.proofs.mentions.tells_all.Goals as goal
 
 pub loop-number-preserved : goal.loop-number-preserved

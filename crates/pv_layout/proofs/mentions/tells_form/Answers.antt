@@ -1,7 +1,7 @@
 use Rattle.std.proofs.Common.{None, slice_get, ◌≡◌}
 use Rattle.pv_layout.specs.FormForms.{plain_form}
 use Rattle.pv_layout.specs.Mentions.{columns_mentioned}
-use Rattle.pv_layout.proofs.Mentioning.{before_none}
+use Rattle.pv_layout.proofs.MentionedColumns.{before_none}
 use Rattle.pv_layout.proofs.mentions.tells_form.Goals as goal
 
 pub returns-in_default : goal.returns-in_default

@@ -4,7 +4,12 @@ use Rattle.pv_lists.proofs.Taken.{none_read, grows, room, refused_at, one_more, 
 use Rattle.pv_lists.proofs.content.read_content.Goals as goal
 
 pub items-init : goal.items-init
-items-init g c = (none_read c.args.most_depth (g.J.ListJudge.judgement c.args.judge.now) c.args.root.now c.args.tag.now.name.now c.args.tag.now.attrs.now c.args.bytes.now c.args.first c.in_ok-lists.lists (c.in_ok-lists.ensures.read c.args.root.now c.args.tag.now.attrs.now), c.in_ok-lists.ensures.types)
+items-init g c = (
+  none_read c.args.most_depth (g.J.ListJudge.judgement c.args.judge.now)
+      c.args.root.now c.args.tag.now.name.now c.args.tag.now.attrs.now c.args.bytes.now c.args.first
+      c.in_ok-lists.lists (c.in_ok-lists.ensures.read c.args.root.now c.args.tag.now.attrs.now),
+  c.in_ok-lists.ensures.types,
+)
 
 pub read_item-requires-clause-grow : goal.read_item-requires-clause-grow
 read_item-requires-clause-grow g c = grows c.items.invariant.0 c.requires

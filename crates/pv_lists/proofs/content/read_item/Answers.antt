@@ -20,19 +20,25 @@ returns-in_err-item-clause-refused g c =
     let from = err_from_is_err_and c.from_residual.result c.from_residual.ensures.1 in
     let many : c.len-open_elements.result + 1 ≡ suc (length c.args.lists.now.outer.items) = omega arith in
     rw (from.1, from.2) (λ before inner outer r.
-    c.in_err-item.ensures.refused (in_content before inner outer) (place_is (g.J.ListJudge.judgement c.args.judge.now) c.args.root.now c.args.lists.now inner outer r before (c.len-open_elements.result + 1) many))
+    c.in_err-item.ensures.refused (in_content before inner outer)
+    (place_is (g.J.ListJudge.judgement c.args.judge.now) c.args.root.now c.args.lists.now inner
+    outer r before (c.len-open_elements.result + 1) many))
 
 pub add-requires-clause-stands : goal.add-requires-clause-stands
 add-requires-clause-stands g c =
     let room = c.requires.room in
     let many : c.len-open_elements.result + 1 ≡ suc (length c.args.lists.now.outer.items) = omega arith in
-    item_stands (c.in_ok-item.ensures.taken (in_content [] room.inner room.outer) (place_is (g.J.ListJudge.judgement c.args.judge.now) room.root c.args.lists.now room.inner room.outer room.has_read [] (c.len-open_elements.result + 1) many))
+    item_stands (c.in_ok-item.ensures.taken (in_content [] room.inner room.outer)
+    (place_is (g.J.ListJudge.judgement c.args.judge.now) room.root c.args.lists.now room.inner
+    room.outer room.has_read [] (c.len-open_elements.result + 1) many))
 
 pub add-requires-clause-known : goal.add-requires-clause-known
 add-requires-clause-known g c =
     let room = c.requires.room in
     let many : c.len-open_elements.result + 1 ≡ suc (length c.args.lists.now.outer.items) = omega arith in
-    known_taken (c.in_ok-item.ensures.taken (in_content [] room.inner room.outer) (place_is (g.J.ListJudge.judgement c.args.judge.now) room.root c.args.lists.now room.inner room.outer room.has_read [] (c.len-open_elements.result + 1) many))
+    known_taken (c.in_ok-item.ensures.taken (in_content [] room.inner room.outer)
+    (place_is (g.J.ListJudge.judgement c.args.judge.now) room.root c.args.lists.now room.inner
+    room.outer room.has_read [] (c.len-open_elements.result + 1) many))
 
 pub add-requires-clause-typed : goal.add-requires-clause-typed
 add-requires-clause-typed g c = c.in_ok-item.ensures.typed (g.J.ListJudge.judgement c.args.judge.now).dtd c.requires.types
@@ -42,6 +48,8 @@ returns-in-Ok-clause-step g c = λ inner outer r.
     let many : c.len-open_elements.result + 1 ≡ suc (length c.args.lists.now.outer.items) = omega arith in
     record {
       item = plain_item c.in_ok-item.item;
-      taken = λ before. c.in_ok-item.ensures.taken (in_content before inner outer) (place_is (g.J.ListJudge.judgement c.args.judge.now) c.args.root.now c.args.lists.now inner outer r before (c.len-open_elements.result + 1) many);
+      taken = λ before. c.in_ok-item.ensures.taken (in_content before inner outer)
+          (place_is (g.J.ListJudge.judgement c.args.judge.now) c.args.root.now c.args.lists.now
+          inner outer r before (c.len-open_elements.result + 1) many);
       is_behind = c.in-Ok.ensures.behind c.args.root.now inner outer r;
     }

@@ -11,14 +11,18 @@ use Rattle.pv_lists.proofs.Whole.{short_root}
 use Rattle.pv_lists.proofs.content.read_root.Goals as goal
 
 pub close-requires-clause-room : goal.close-requires-clause-room
-close-requires-clause-room g c = begun_room (g.J.ListJudge.judgement c.args.judge.now) c.args.root.now c.args.opening.now.tag.name.now c.args.opening.now.tag.attrs.now c.in_ok-lists.lists (c.in_ok-lists.ensures.read c.args.root.now c.args.opening.now.tag.attrs.now)
+close-requires-clause-room g c = begun_room (g.J.ListJudge.judgement c.args.judge.now)
+    c.args.root.now c.args.opening.now.tag.name.now c.args.opening.now.tag.attrs.now
+    c.in_ok-lists.lists (c.in_ok-lists.ensures.read c.args.root.now c.args.opening.now.tag.attrs.now)
 
 pub returns-in-Ok-clause-read : goal.returns-in-Ok-clause-read
 returns-in-Ok-clause-read g c =
     let o = c.args.opening.now in
     let next : o.count + 1 ≡ suc o.count = omega arith in
     short_root c.args.most_depth (g.J.ListJudge.judgement c.args.judge.now) c.args.root.now o.tag.name.now o.tag.attrs.now o.rest.now o.count (o.count + 1) o.is_short c.in-Ok.field-0 c.close.new.lists
-    (c.in-Ok.ensures.ended c.args.root.now o.tag.attrs.now (just_opened o.tag.name.now o.tag.attrs.now) [] short blank_mark (c.in_ok-lists.ensures.read c.args.root.now o.tag.attrs.now)) c.if-opening.true next
+    (c.in-Ok.ensures.ended c.args.root.now o.tag.attrs.now
+    (just_opened o.tag.name.now o.tag.attrs.now) [] short blank_mark
+    (c.in_ok-lists.ensures.read c.args.root.now o.tag.attrs.now)) c.if-opening.true next
 
 pub returns-in_err-lists-clause-refused : goal.returns-in_err-lists-clause-refused
 returns-in_err-lists-clause-refused g c =
@@ -28,6 +32,8 @@ returns-in_err-lists-clause-refused g c =
 pub returns-clause-refused : goal.returns-clause-refused
 returns-clause-refused g c =
     let o = c.args.opening.now in
-    let P : ℕ → Type 0 = λ n. IfErr c.read_content.result (λ e. (before : List ℕ) → RefusesLists (DocumentRestMeans c.args.most_depth blank_mark c.args.root.now n (in_content before (just_opened o.tag.name.now o.tag.attrs.now) []) o.rest.now) e) in
+    let P : ℕ → Type 0 = λ n. IfErr c.read_content.result (λ e. (before : List ℕ) →
+    RefusesLists (DocumentRestMeans c.args.most_depth blank_mark c.args.root.now n
+    (in_content before (just_opened o.tag.name.now o.tag.attrs.now) []) o.rest.now) e) in
     let same : o.count + 1 ≡ suc o.count = omega arith in
     rw c.if-opening.false (subst P same c.read_content.ensures.refused)

@@ -11,7 +11,9 @@ use Rattle.pv_lists.proofs.ending.add.Goals as goal
 
 pub open-requires-clause-typed : goal.open-requires-clause-typed
 open-requires-clause-typed g c =
-    type_of_tag (g.J.ListJudge.judgement c.args.judge.now).dtd (plain_item c.args.item.now) c.in-StartTag.tag.name.now c.in-StartTag.tag.attrs.now c.args.kind (ap plain_item c.in-StartTag.is) c.requires.typed
+    type_of_tag (g.J.ListJudge.judgement c.args.judge.now).dtd (plain_item c.args.item.now)
+    c.in-StartTag.tag.name.now c.in-StartTag.tag.attrs.now c.args.kind
+    (ap plain_item c.in-StartTag.is) c.requires.typed
 
 pub close-requires-clause-room : goal.close-requires-clause-room
 close-requires-clause-room g c =
@@ -21,7 +23,9 @@ close-requires-clause-room g c =
 
 pub returns-in_ok-open-in-StartTag-clause-behind : goal.returns-in_ok-open-in-StartTag-clause-behind
 returns-in_ok-open-in-StartTag-clause-behind g c = λ root inner outer r.
-    rw (ap plain_item c.in-StartTag.is) (behind_start (g.J.ListJudge.judgement c.args.judge.now) root inner outer c.open.new.lists c.in-StartTag.tag.name.now c.in-StartTag.tag.attrs.now (c.in_ok-open-in-StartTag.ensures.read root c.in-StartTag.tag.attrs.now inner outer r))
+    rw (ap plain_item c.in-StartTag.is) (behind_start (g.J.ListJudge.judgement c.args.judge.now)
+    root inner outer c.open.new.lists c.in-StartTag.tag.name.now c.in-StartTag.tag.attrs.now
+    (c.in_ok-open-in-StartTag.ensures.read root c.in-StartTag.tag.attrs.now inner outer r))
 
 pub returns-in_ok-whole-in-EmptyTag-clause-behind : goal.returns-in_ok-whole-in-EmptyTag-clause-behind
 returns-in_ok-whole-in-EmptyTag-clause-behind g c = λ root inner outer r.
@@ -48,12 +52,16 @@ pub returns-in_ok-add_kid-in-CdataSection-clause-behind : goal.returns-in_ok-add
 returns-in_ok-add_kid-in-CdataSection-clause-behind g c = λ root inner outer r.
     let is = ap plain_item c.in-CdataSection.is in
     let added = c.in_ok-add_kid-in-CdataSection.ensures in
-    rw is (behind_cdata (g.J.ListJudge.judgement c.args.judge.now) root inner outer c.args.lists.now c.add_kid-in-CdataSection.new.self r added.inner (ap (λ (v : _). v.items) added.outer) added.found (Some Text) added.tokens
+    rw is (behind_cdata (g.J.ListJudge.judgement c.args.judge.now) root inner outer c.args.lists.now
+    c.add_kid-in-CdataSection.new.self r added.inner (ap (λ (v : _). v.items) added.outer)
+    added.found (Some Text) added.tokens
     c.in-CdataSection.field-0.now refl)
 
 pub returns-in_ok-add_kid-in-CommentOrInstruction-clause-behind : goal.returns-in_ok-add_kid-in-CommentOrInstruction-clause-behind
 returns-in_ok-add_kid-in-CommentOrInstruction-clause-behind g c = λ root inner outer r.
     let is = ap plain_item c.in-CommentOrInstruction.is in
     let added = c.in_ok-add_kid-in-CommentOrInstruction.ensures in
-    rw is (behind_misc (g.J.ListJudge.judgement c.args.judge.now) root inner outer c.args.lists.now c.add_kid-in-CommentOrInstruction.new.self r added.inner (ap (λ (v : _). v.items) added.outer) added.found None added.tokens
+    rw is (behind_misc (g.J.ListJudge.judgement c.args.judge.now) root inner outer c.args.lists.now
+    c.add_kid-in-CommentOrInstruction.new.self r added.inner
+    (ap (λ (v : _). v.items) added.outer) added.found None added.tokens
     c.in-CommentOrInstruction.field-0.now refl)

@@ -9,7 +9,9 @@ returns-in_default-clause-ended g c = λ root attrs inner outer ending mark r.
     let old = c.judge_inner.new.lists in
     let new : OpenLists _ _ = record { inner = old.inner; outer = c.pop.new.self; tokens = c.truncate.new.self; found = old.found; types = old.types } in
     root_ended (g.J.ListJudge.judgement c.args.judge.now) root c.args.lists.now new inner outer attrs ending mark r
-    (ap (λ (v : _). v.items) (sym judged.outer) ∙ none_popped old.outer.items (vec_len old.outer) c.in_default.ensures.cases.0 (omega arith)) judged.inner (judged.finds root attrs inner outer ending mark r)
+    (ap (λ (v : _). v.items) (sym judged.outer) ∙ none_popped old.outer.items (vec_len old.outer)
+    c.in_default.ensures.cases.0 (omega arith)) judged.inner (judged.finds root attrs inner
+    outer ending mark r)
 
 pub returns-clause-ended : goal.returns-clause-ended
 returns-clause-ended g c = λ root attrs inner outer ending mark r.

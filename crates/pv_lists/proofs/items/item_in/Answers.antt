@@ -8,9 +8,13 @@ returns-in-Some-clause-taken g c = λ left at.
 
 pub returns-clause-taken : goal.returns-clause-taken
 returns-clause-taken g c = λ left at.
-    end_tag_taken c.args.most_depth c.args.root.now c.args.rest.now c.in-Some-after_end_tag.more.now c.args.element.now.name.now c.args.open_elements left at (c.requires.named c.if-element.true) c.in-Some-after_end_tag.ensures.whole
+    end_tag_taken c.args.most_depth c.args.root.now c.args.rest.now c.in-Some-after_end_tag.more.now
+    c.args.element.now.name.now c.args.open_elements left at
+    (c.requires.named c.if-element.true) c.in-Some-after_end_tag.ensures.whole
 
 pub returns-2-clause-taken : goal.returns-2-clause-taken
 returns-2-clause-taken g c = λ left at.
     let tag = c.in-Some-start_tag_at in
-    start_tag_taken c.args.most_depth c.args.root.now c.args.rest.now tag.more.now c.args.element.now.name.now tag.kind.name.now c.args.open_elements left at tag.ensures.named (c.may_open.ensures c.if-may_open.true) tag.ensures.whole
+    start_tag_taken c.args.most_depth c.args.root.now c.args.rest.now tag.more.now
+    c.args.element.now.name.now tag.kind.name.now c.args.open_elements left at tag.ensures.named
+    (c.may_open.ensures c.if-may_open.true) tag.ensures.whole

@@ -10,9 +10,9 @@ use Rattle.pv_tree.proofs.Forests.{forest-drop, forest-end}
 use Rattle.pv_tree.proofs.Levels.{plain-Elem}
 use Rattle.pv_missing.specs.PlainForms.{plain_of}
 use Rattle.pv_missing.specs.Weighing.{site_of}
-use Rattle.pv_missing.proofs.Walking.{element_site, from_first}
+use Rattle.pv_missing.proofs.ListPaths.{element_site, from_first}
 use Rattle.pv_long.specs.Bounding.{AreBounded}
-use Rattle.pv_long.proofs.Adding.{both_bounded, none_bounded}
+use Rattle.pv_long.proofs.BoundSums.{both_bounded, none_bounded}
 use Rattle.pv_long.proofs.bounding.+bounding.Goals as goal
 
 pub bound_below-bound_node-requires : goal.bound_below-bound_node-requires
@@ -41,14 +41,18 @@ bound_below-returns t c =
     let d = dtd_of c.args.plan.now.layout.now.grammar.now in
     let none : forest (drop c.loop-kid.kid-index c.args.kids.now) ≡ no_trees = forest-end c.args.kids.now c.loop-kid.kid-index (omega arith) in
     λ root path.
-    let rest : AreBounded d root (lists_from path c.loop-kid.kid-index (forest (drop c.loop-kid.kid-index c.args.kids.now))) c.loop-kid.found.least c.loop-kid.found.least = rw none (none_bounded d root c.loop-kid.found.least) in
+    let rest : AreBounded d root (lists_from path c.loop-kid.kid-index
+    (forest (drop c.loop-kid.kid-index c.args.kids.now))) c.loop-kid.found.least
+    c.loop-kid.found.least = rw none (none_bounded d root c.loop-kid.found.least) in
     c.loop-kid.invariant.rest root path c.loop-kid.found.least rest
 
 pub bound_node-returns : goal.bound_node-returns
 bound_node-returns t c =
     let d = dtd_of c.args.plan.now.layout.now.grammar.now in
     let kids = forest c.in-Elem.kids.items in
-    let owner : site_of d [] (an_element c.in-Elem.name) ≡ option_map plain_of c.element_owner-owner.result = element_site _ d [] _ c.in-Elem.name _ c.dtd.ensures c.as_slice.ensures c.element_owner-owner.ensures.owner in
+    let owner : site_of d [] (an_element c.in-Elem.name)
+    ≡ option_map plain_of c.element_owner-owner.result = element_site _ d [] _ c.in-Elem.name _
+    c.dtd.ensures c.as_slice.ensures c.element_owner-owner.ensures.owner in
     rw (c.in-Elem.is, plain-Elem) (IfOk-weaker c.bound_below.result _ _
     (λ _ f root path.
     let list : Listed Mark = record { path = path; owner = an_element c.in-Elem.name; kids = kids } in

@@ -1,7 +1,7 @@
 use Rattle.std.proofs.Common.{sym}
 use Rattle.std.proofs.lemmas.Option.{slice_get_within}
 use Rattle.pv_dtd.specs.PlainForms.{plain_dtd}
-use Rattle.pv_dtd.proofs.Naming.{get-place}
+use Rattle.pv_dtd.proofs.NameSequences.{get-place}
 use Rattle.pv_missing.proofs.list_owners.element_owner.Goals as goal
 
 pub returns-in-Some-clause-known : goal.returns-in-Some-clause-known

@@ -5,7 +5,7 @@ use Rattle.pv_model.specs.declared.models.Token.TheVariants as token
 use Rattle.pv_model.specs.Positions.{positions_after, any_reached}
 use Rattle.pv_model.specs.PlainForms.{plain_part, plain_token}
 use Rattle.pv_model.proofs.LongAnswer.{no_elements}
-use Rattle.pv_model.proofs.Reading.{IsReading-none, IsReading-more, answer_at_end, answer_nowhere, answer_no_name, not_so}
+use Rattle.pv_model.proofs.WordWalks.{IsReading-none, IsReading-more, answer_at_end, answer_nowhere, answer_no_name, not_so}
 use Rattle.pv_model.proofs.children.walk.Goals as goal
 
 pub loop-token-init : goal.loop-token-init

@@ -1,6 +1,6 @@
 use Rattle.std.proofs.Common.{map, drop}
 use Rattle.pv_model.specs.PlainForms.{plain_part, plain_token}
-use Rattle.pv_model.proofs.Reading.{IsReading}
+use Rattle.pv_model.proofs.WordWalks.{IsReading}
 use Rattle.pv_model.proofs.children.walk.Given as goal
 
 abbrev pub invariant-loop-token : goal.invariant-loop-token

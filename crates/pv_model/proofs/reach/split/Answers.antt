@@ -1,7 +1,7 @@
 use Rattle.std.proofs.Common.{◌∙◌, ap, sym, ltb, take, drop, rules}
 use Rattle.std.proofs.lemmas.List.{take_at, drop_at}
 use Rattle.std.proofs.lemmas.List.Sorted.{IsPartitionPoint-from_clause}
-use Rattle.pv_model.proofs.Splitting.{IsPartitionedBy-joined, point-joined}
+use Rattle.pv_model.proofs.SplitPlaces.{IsPartitionedBy-joined, point-joined}
 use Rattle.pv_model.proofs.reach.split.Goals as goal
 
 pub returns : goal.returns

@@ -1,4 +1,4 @@
-use Rattle.pv_offer.proofs.Choosing.{offers_exactly}
+use Rattle.pv_offer.proofs.ChosenNames.{offers_exactly}
 use Rattle.pv_offer.proofs.laws.offered_law.Goals as goal
 
 pub returns : goal.returns

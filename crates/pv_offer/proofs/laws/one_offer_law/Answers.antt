@@ -1,4 +1,4 @@
-use Rattle.pv_offer.proofs.Choosing.{one_pick}
+use Rattle.pv_offer.proofs.ChosenNames.{one_pick}
 use Rattle.pv_offer.proofs.laws.one_offer_law.Goals as goal
 
 pub returns : goal.returns

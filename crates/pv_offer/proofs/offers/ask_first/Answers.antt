@@ -19,7 +19,10 @@ pub returns-in-Err-Impossible-clause-asked : goal.returns-in-Err-Impossible-clau
 returns-in-Err-Impossible-clause-asked c =
     let s = c.args.marked.now in
     let by = subst (λ (a : EditAnswer). HasGround 0 s.dtd s.root s.doc c.in_ok-edit.edit a) c.in-Err-Impossible.field-0-is c.in-Err-Impossible.ensures.refused in
-    let known : HasGround 0 s.dtd s.root s.doc (edit_with c.args.ask.now (codes "a")) (answer.Impossible c.in-Err-Impossible.field-0-0) = subst (λ (ed : Edit). HasGround 0 s.dtd s.root s.doc ed (answer.Impossible c.in-Err-Impossible.field-0-0)) c.in_ok-edit.ensures by in
+    let known : HasGround 0 s.dtd s.root s.doc (edit_with c.args.ask.now (codes "a"))
+    (answer.Impossible c.in-Err-Impossible.field-0-0) =
+    subst (λ (ed : Edit). HasGround 0 s.dtd s.root s.doc ed
+    (answer.Impossible c.in-Err-Impossible.field-0-0)) c.in_ok-edit.ensures by in
     let (x, e, w, v, f) = known in
     asked_by s c.args.ask.now x e w
 

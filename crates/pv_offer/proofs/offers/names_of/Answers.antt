@@ -1,6 +1,6 @@
 use Rattle.std.proofs.Common.{Some, [], ap, arith, suc, sym, ◌+◌, ◌++◌, ◌∙◌, ◌∷◌, ◌≡◌}
 use Rattle.pv_dtd.specs.PlainForms.{plain_dtd}
-use Rattle.pv_offer.proofs.Choosing.{take_next}
+use Rattle.pv_offer.proofs.ChosenNames.{take_next}
 use Rattle.pv_offer.proofs.offers.names_of.Goals as goal
 
 pub loop-number-preserved : goal.loop-number-preserved

@@ -2,7 +2,7 @@ use Rattle.std.proofs.Common.{List, ap, arith, get_or, length, subst, sym, take,
 use Rattle.std.proofs.lemmas.List.{take_more}
 use Rattle.std.proofs.lemmas.Slice.Zip.{AllZip-long}
 use Rattle.pv_offer.specs.Offers.{IsOffered, Picks, TellsOf, added, ends}
-use Rattle.pv_offer.proofs.Choosing.{more_picked, zip_get}
+use Rattle.pv_offer.proofs.ChosenNames.{more_picked, zip_get}
 use Rattle.pv_offer.proofs.offers.pick.Goals as goal
 
 pub loop-place-init : goal.loop-place-init

@@ -1,6 +1,6 @@
 use denote.Param.Send.{sendable}
 use Rattle.std.proofs.Crossing.{crosses}
-use Rattle.pv_offer.proofs.Shared.{marked_sync}
+use Rattle.pv_offer.proofs.SharedDocument.{marked_sync}
 use Rattle.std.proofs.Common.{ap, subst, ◌∙◌}
 use Rattle.rayon.proofs.ListFacts.{IfOk-then}
 use Rattle.rayon.proofs.ToStd.{slice-AllZip}

@@ -20,10 +20,14 @@ pub returns-in-Err-Twice : goal.returns-in-Err-Twice
 returns-in-Err-Twice c = refused c.args.bytes.now twice c.in-Err-Twice.item _ (rw c.in-Err-Twice.field-0-is at c.in-Err-Twice.ensures.refused) c.refuse_item-in-Err-Twice.ensures
 
 pub returns-in-Err-MixedTwice : goal.returns-in-Err-MixedTwice
-returns-in-Err-MixedTwice c = refused c.args.bytes.now mixed_twice c.in-Err-MixedTwice.item _ (rw c.in-Err-MixedTwice.field-0-is at c.in-Err-MixedTwice.ensures.refused) c.refuse_item-in-Err-MixedTwice.ensures
+returns-in-Err-MixedTwice c = refused c.args.bytes.now mixed_twice c.in-Err-MixedTwice.item _
+    (rw c.in-Err-MixedTwice.field-0-is at c.in-Err-MixedTwice.ensures.refused)
+    c.refuse_item-in-Err-MixedTwice.ensures
 
 pub returns-in-Err-Parameter : goal.returns-in-Err-Parameter
-returns-in-Err-Parameter c = refused c.args.bytes.now parameter c.in-Err-Parameter.item _ (rw c.in-Err-Parameter.field-0-is at c.in-Err-Parameter.ensures.refused) c.refuse_item-in-Err-Parameter.ensures
+returns-in-Err-Parameter c = refused c.args.bytes.now parameter c.in-Err-Parameter.item _
+    (rw c.in-Err-Parameter.field-0-is at c.in-Err-Parameter.ensures.refused)
+    c.refuse_item-in-Err-Parameter.ensures
 
 pub returns-in-Err-Limit : goal.returns-in-Err-Limit
 returns-in-Err-Limit c =

@@ -1,7 +1,7 @@
 use Rattle.std.proofs.Common.{◌≡◌, refl}
 use Rattle.pv_opening.specs.Response.{with_line}
 use Rattle.pv_opening.specs.declared.status.Status.TheVariants.{Limit}
-use Rattle.pv_opening.proofs.Fetching.{fetch_file, file_given, not_beyond, refusal_counts, stops_beyond}
+use Rattle.pv_opening.proofs.FetchedFiles.{fetch_file, file_given, not_beyond, refusal_counts, stops_beyond}
 use Rattle.pv_opening.proofs.opening.fetch.Goals as goal
 
 pub returns-in-Ok-clause-over : goal.returns-in-Ok-clause-over

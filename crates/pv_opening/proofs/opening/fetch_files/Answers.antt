@@ -1,5 +1,5 @@
 use Rattle.std.proofs.lemmas.Result.{err_from_is_err_and}
-use Rattle.pv_opening.proofs.Fetching.{both_fetched, first_stopped, second_stopped}
+use Rattle.pv_opening.proofs.FetchedFiles.{both_fetched, first_stopped, second_stopped}
 use Rattle.pv_opening.proofs.opening.fetch_files.Goals as goal
 
 pub returns-in_err-dtd-clause-over : goal.returns-in_err-dtd-clause-over

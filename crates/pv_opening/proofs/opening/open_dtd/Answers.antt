@@ -4,7 +4,7 @@ use Rattle.pv_dtd.specs.Facts.{MAX_DTD_BYTES}
 use Rattle.pv_dtd.specs.PlainForms.{plain_dtd}
 use Rattle.pv_opening.specs.Opening.{expanded_dtd_stage, fetch_stage}
 use Rattle.pv_opening.specs.Stage.{Stage}
-use Rattle.pv_opening.proofs.Fetching.{behind_over, reading_counts, stopped_over}
+use Rattle.pv_opening.proofs.FetchedFiles.{behind_over, reading_counts, stopped_over}
 use Rattle.pv_opening.proofs.opening.open_dtd.Goals as goal
 
 abbrev fetches : Option (List ℕ) → Stage (List ℕ)

@@ -2,7 +2,7 @@ use Rattle.std.proofs.lemmas.Result.{err_from_is_err_and}
 use Rattle.pv_opening.specs.Documents.{document_stage}
 use Rattle.pv_opening.specs.Opening.{fetching_stage}
 use Rattle.pv_opening.specs.Returns.{plain_fetched, plain_opened}
-use Rattle.pv_opening.proofs.Fetching.{behind_over, reading_counts, stopped_over}
+use Rattle.pv_opening.proofs.FetchedFiles.{behind_over, reading_counts, stopped_over}
 use Rattle.pv_opening.proofs.opening.open_files.Goals as goal
 
 pub returns-in_err-fetched-clause-over : goal.returns-in_err-fetched-clause-over

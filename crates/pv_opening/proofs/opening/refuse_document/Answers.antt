@@ -11,7 +11,9 @@ use Rattle.pv_opening.proofs.Stages.{stops_as}
 use Rattle.pv_opening.proofs.opening.refuse_document.Goals as goal
 
 -- a stop with the response to the text's first fault
-refused : (root bytes : List ℕ) (kind : Kind) (k : ℕ) (stop : Stop) → DocumentMeans blank_mark root bytes (faulty kind k) → RefusesWith (λ r. r ≡ document_refusal kind k) stop → RefusesWith (RefusesDocument root bytes) stop
+refused : (root bytes : List ℕ) (kind : Kind) (k : ℕ) (stop : Stop) →
+    DocumentMeans blank_mark root bytes (faulty kind k) →
+    RefusesWith (λ r. r ≡ document_refusal kind k) stop → RefusesWith (RefusesDocument root bytes) stop
 refused root bytes kind k stop means stops = stops_as (λ r. r ≡ document_refusal kind k) (RefusesDocument root bytes) stop (λ r e. no_document kind k means e) stops
 
 pub returns-in-Syntax : goal.returns-in-Syntax

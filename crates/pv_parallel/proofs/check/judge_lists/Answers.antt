@@ -25,7 +25,9 @@ returns-clause-verdicts g c =
     let entered = g.G.Gate.entered c.args.gate.now in
     let zip : AllZip (JudgesJob d c.args.root.now entered) c.in_ok-jobs.jobs.items c.in_ok-judged.judged.items = rw c.deref.ensures.value at c.in_ok-judged.ensures in
     let joined : AreJoined c.in_ok-judged.judged.items c.in_ok-verdicts.verdicts.items = rw c.deref-2.ensures.value at c.in_ok-verdicts.ensures in
-    let all = jobs_judged d c.args.root.now entered 0 (lists_of (plain_doc c.args.doc.now)) c.in_ok-jobs.jobs.items c.in_ok-judged.judged.items c.in_ok-verdicts.verdicts.items c.in_ok-jobs.ensures.jobs zip joined in
+    let all = jobs_judged d c.args.root.now entered 0 (lists_of (plain_doc c.args.doc.now))
+    c.in_ok-jobs.jobs.items c.in_ok-judged.judged.items c.in_ok-verdicts.verdicts.items
+    c.in_ok-jobs.ensures.jobs zip joined in
     all.verdicts [] refl
 
 pub returns-clause-as_many : goal.returns-clause-as_many
@@ -34,7 +36,9 @@ returns-clause-as_many g c =
     let entered = g.G.Gate.entered c.args.gate.now in
     let zip : AllZip (JudgesJob d c.args.root.now entered) c.in_ok-jobs.jobs.items c.in_ok-judged.judged.items = rw c.deref.ensures.value at c.in_ok-judged.ensures in
     let joined : AreJoined c.in_ok-judged.judged.items c.in_ok-verdicts.verdicts.items = rw c.deref-2.ensures.value at c.in_ok-verdicts.ensures in
-    let all = jobs_judged d c.args.root.now entered 0 (lists_of (plain_doc c.args.doc.now)) c.in_ok-jobs.jobs.items c.in_ok-judged.judged.items c.in_ok-verdicts.verdicts.items c.in_ok-jobs.ensures.jobs zip joined in
+    let all = jobs_judged d c.args.root.now entered 0 (lists_of (plain_doc c.args.doc.now))
+    c.in_ok-jobs.jobs.items c.in_ok-judged.judged.items c.in_ok-verdicts.verdicts.items
+    c.in_ok-jobs.ensures.jobs zip joined in
     let n = all.as_many in
     omega arith
 
@@ -44,7 +48,9 @@ returns-clause-entered g c = λ k lt.
     let entered = g.G.Gate.entered c.args.gate.now in
     let zip : AllZip (JudgesJob d c.args.root.now entered) c.in_ok-jobs.jobs.items c.in_ok-judged.judged.items = rw c.deref.ensures.value at c.in_ok-judged.ensures in
     let joined : AreJoined c.in_ok-judged.judged.items c.in_ok-verdicts.verdicts.items = rw c.deref-2.ensures.value at c.in_ok-verdicts.ensures in
-    let all = jobs_judged d c.args.root.now entered 0 (lists_of (plain_doc c.args.doc.now)) c.in_ok-jobs.jobs.items c.in_ok-judged.judged.items c.in_ok-verdicts.verdicts.items c.in_ok-jobs.ensures.jobs zip joined in
+    let all = jobs_judged d c.args.root.now entered 0 (lists_of (plain_doc c.args.doc.now))
+    c.in_ok-jobs.jobs.items c.in_ok-judged.judged.items c.in_ok-verdicts.verdicts.items
+    c.in_ok-jobs.ensures.jobs zip joined in
     let few = c.in_ok-jobs.ensures.few in
     let n = all.as_many in
     let same : 0 + k ≡ k = omega arith in

@@ -53,7 +53,9 @@ add_large-returns-clause-added t c =
     let list : List ℕ → Listed Mark = λ path. record { path = path; owner = an_element c.in-Elem.name; kids = kids } in
     rw (c.in-Elem.is, plain-Elem) (on_ok_weaker c.add_nodes.result
     (λ more path. adds_both (list path ∷ []) (lists_from path 0 kids) c.args.gathering.now c.add.new.self c.add_nodes.new.gathering
-    (c.in_ok-add.ensures.added (list path ∷ []) (list path, refl, ap an_element (sym c.as_slice.ensures), rw c.deref.ensures.value refl, tt) refl (λ g. let few = few_tokens g c.in-Elem.kids.items in let n = c.len.ensures in omega arith, tt))
+    (c.in_ok-add.ensures.added (list path ∷ [])
+    (list path, refl, ap an_element (sym c.as_slice.ensures), rw c.deref.ensures.value refl, tt)
+    refl (λ g. let few = few_tokens g c.in-Elem.kids.items in let n = c.len.ensures in omega arith, tt))
     (rw c.deref-2.ensures.value at (more path 0))) c.add_nodes.ensures.added)
 
 pub add_large-returns-clause-count : goal.add_large-returns-clause-count

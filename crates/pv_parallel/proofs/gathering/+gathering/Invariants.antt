@@ -9,7 +9,9 @@ use Rattle.pv_parallel.proofs.gathering.+gathering.Given as goal
 -- what the rest adds, all add
 abbrev pub invariant-add_nodes-runs : goal.invariant-add_nodes-runs
 invariant-add_nodes-runs l = record {
-  adds : (last : Gathering) → ((path : List ℕ) (i : ℕ) → Adds (lists_from path i (forest l.rest)) l.gathering last) → (path : List ℕ) (i : ℕ) → Adds (lists_from path i (forest l.nodes)) l.fn.gathering last;
+  adds : (last : Gathering) → ((path : List ℕ) (i : ℕ) →
+      Adds (lists_from path i (forest l.rest)) l.gathering last) → (path : List ℕ) (i : ℕ) →
+      Adds (lists_from path i (forest l.nodes)) l.fn.gathering last;
   few : l.gathering.count + nodes_in_all (forest l.rest) ≤ l.fn.gathering.count + nodes_in_all (forest l.nodes);
   smaller : nodes_in_all (forest l.rest) ≤ nodes_in_all (forest l.nodes);
 }

@@ -10,7 +10,7 @@ use Rattle.pv_tree.proofs.Levels.{plain-Elem}
 use Rattle.pv_missing.specs.PlainForms.{plain_of}
 use Rattle.pv_missing.specs.Weighing.{site_of}
 use Rattle.pv_missing.specs.Widths.{IsListForVerdict}
-use Rattle.pv_missing.proofs.Walking.{element_site}
+use Rattle.pv_missing.proofs.ListPaths.{element_site}
 use Rattle.pv_reach.specs.declared.errors.ReachError.TheVariants.{TooWide as too_wide}
 use Rattle.pv_parallel.proofs.JobLists.{lists_end, lists_next}
 use Rattle.pv_parallel.proofs.Judgements.{judges_both, judges_none}
@@ -29,7 +29,9 @@ judge_nodes-loop-node-preserved g t c =
       judges = λ root path i last more.
           let whole = lists_next path i n nodes node (omega arith) c.node-item.is in
           c.loop-node.invariant.judges root path i last
-          (rw whole (judges_both d root entered c.args.first (here path i) (others path i) c.loop-node.verdicts.items c.judge_node.new.verdicts.items last (c.in_ok-judge_node.ensures.judged root (path ++ (i + n) ∷ [])) more));
+          (rw whole (judges_both d root entered c.args.first (here path i) (others path i)
+          c.loop-node.verdicts.items c.judge_node.new.verdicts.items last
+          (c.in_ok-judge_node.ensures.judged root (path ++ (i + n) ∷ [])) more));
       fits = λ path i all.
           let whole = lists_next path i n nodes node (omega arith) c.node-item.is in
           all_right (IsListForVerdict d) (here path i) (others path i) (rw whole at (c.loop-node.invariant.fits path i all));
@@ -38,7 +40,9 @@ judge_nodes-loop-node-preserved g t c =
 pub judge_nodes-returns-clause-judged : goal.judge_nodes-returns-clause-judged
 judge_nodes-returns-clause-judged g t c = λ root path i.
     let none = lists_end path (i + c.loop-node.node-index) c.loop-node.node-index c.args.nodes.now (omega arith) in
-    c.loop-node.invariant.judges root path i c.loop-node.verdicts.items (rw none (judges_none (dtd_of c.args.judge.now) root (g.G.Gate.entered c.args.gate.now) c.args.first c.loop-node.verdicts.items))
+    c.loop-node.invariant.judges root path i c.loop-node.verdicts.items
+    (rw none (judges_none (dtd_of c.args.judge.now) root (g.G.Gate.entered c.args.gate.now)
+    c.args.first c.loop-node.verdicts.items))
 
 pub judge_nodes-returns-in_err-judge_node-clause-wide : goal.judge_nodes-returns-in_err-judge_node-clause-wide
 judge_nodes-returns-in_err-judge_node-clause-wide g t c =
@@ -73,7 +77,10 @@ judge_node-returns-clause-judged g t c =
     let entered = g.G.Gate.entered c.args.gate.now in
     let kids = forest c.in-Elem.kids.items in
     let list : List ℕ → Listed Mark = λ path. record { path = path; owner = an_element c.in-Elem.name; kids = kids } in
-    let owner : site_of d [] (an_element c.in-Elem.name) ≡ option_map plain_of c.element_owner-owner.result = element_site _ d [] _ c.in-Elem.name _ (c.dtd.ensures ∙ ap dtd_of c.grammar.ensures) c.as_slice.ensures c.element_owner-owner.ensures.owner in
+    let owner : site_of d [] (an_element c.in-Elem.name)
+    ≡ option_map plain_of c.element_owner-owner.result = element_site _ d [] _ c.in-Elem.name _
+    (c.dtd.ensures ∙ ap dtd_of c.grammar.ensures) c.as_slice.ensures
+    c.element_owner-owner.ensures.owner in
     rw (c.in-Elem.is, plain-Elem) (on_ok_weaker c.judge_nodes.result
     (λ others root path. judges_both d root entered c.args.first (list path ∷ []) (lists_from path 0 kids) c.args.verdicts.now.items c.judge_list.new.verdicts.items c.judge_nodes.new.verdicts.items
     (c.in_ok-judge_list.ensures.judged root (list path) (rw c.deref.ensures.value refl) owner tt) (rw c.deref-2.ensures.value at (others root path 0))) c.judge_nodes.ensures.judged)

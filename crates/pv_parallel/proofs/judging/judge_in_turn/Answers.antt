@@ -7,7 +7,10 @@ use Rattle.pv_parallel.proofs.judging.judge_in_turn.Goals as goal
 
 pub loop-job-preserved : goal.loop-job-preserved
 loop-job-preserved g c = λ more rest.
-    in_turn_next (JudgesJob (dtd_of c.args.judge.now) c.args.root.now (g.G.Gate.entered c.args.gate.now)) c.args.jobs.now c.loop-job.job-index c.job-item.result c.judge_job.result c.loop-job.judged.items c.push.new.self.items more (omega arith) c.job-item.is c.judge_job.ensures c.in_ok-push.ensures.items c.loop-job.invariant rest
+    in_turn_next (JudgesJob (dtd_of c.args.judge.now) c.args.root.now
+    (g.G.Gate.entered c.args.gate.now)) c.args.jobs.now c.loop-job.job-index c.job-item.result
+    c.judge_job.result c.loop-job.judged.items c.push.new.self.items more (omega arith)
+    c.job-item.is c.judge_job.ensures c.in_ok-push.ensures.items c.loop-job.invariant rest
 
 pub returns : goal.returns
 returns g c =

@@ -3,7 +3,7 @@ use mir.Syntax.{named}
 use denote.Param.Send.{IsSend, arg_send, param_send, sendable}
 use Rattle.std.proofs.Crossing.{crosses}
 use Rattle.pv_tree.proofs.nodes.Node.TheLaws.TheKnot.{crosses as node_crosses}
-use Rattle.pv_parallel.proofs.Shared.{job_sync, judge_sync}
+use Rattle.pv_parallel.proofs.SharedJudge.{job_sync, judge_sync}
 use Rattle.std.proofs.Common.{ap, subst, ◌∙◌}
 use Rattle.rayon.proofs.ListFacts.{IfOk-then}
 use Rattle.rayon.proofs.ToStd.{slice-AllZip}
@@ -31,9 +31,19 @@ map-requires-sync-F g c κs within = search (judge_sync, sendable, crosses) dept
 pub collect-requires-send-Self : goal.collect-requires-send-Self
 collect-requires-send-Self g c κs within =
     let base = lts.of-10 g.row.G g.row.rt g.G.laws g.rt.laws g.G.Gate-dict g.rt.Threads-dict (record { mir = named 6; lft = κs.1.1.1.1.1.1.0 }) (record { mir = named 7; lft = κs.1.1.1.1.1.1.1.0 }) in
-    let mapped = lts.of-14 g.row.G g.row.rt g.G.laws g.rt.laws g.G.Gate-dict g.rt.Threads-dict (record { mir = named 8; lft = κs.1.1.1.1.1.1.1.1.0 }) (record { mir = named 9; lft = κs.1.1.1.1.1.1.1.1.1.0 }) (record { mir = named 10; lft = κs.1.1.1.1.1.1.1.1.1.1.0 }) (record { mir = named 11; lft = κs.1.1.1.1.1.1.1.1.1.1.1.0 }) in
+    let mapped = lts.of-14 g.row.G g.row.rt g.G.laws g.rt.laws g.G.Gate-dict g.rt.Threads-dict
+    (record { mir = named 8; lft = κs.1.1.1.1.1.1.1.1.0 })
+    (record { mir = named 9; lft = κs.1.1.1.1.1.1.1.1.1.0 })
+    (record { mir = named 10; lft = κs.1.1.1.1.1.1.1.1.1.1.0 })
+    (record { mir = named 11; lft = κs.1.1.1.1.1.1.1.1.1.1.1.0 }) in
     let base-sent : IsSend base = search (job_sync, node_crosses, sendable, crosses) depth 60 fits 30000 in
     let mapped-sent : IsSend mapped = search (judge_sync, sendable, crosses) depth 60 fits 30000 in
-    let row = lts.row-0 g.row.G g.row.rt g.G.laws g.rt.laws g.G.Gate-dict g.rt.Threads-dict (record { mir = named 6; lft = κs.1.1.1.1.1.1.0 }) (record { mir = named 7; lft = κs.1.1.1.1.1.1.1.0 }) (record { mir = named 8; lft = κs.1.1.1.1.1.1.1.1.0 }) (record { mir = named 9; lft = κs.1.1.1.1.1.1.1.1.1.0 }) (record { mir = named 10; lft = κs.1.1.1.1.1.1.1.1.1.1.0 }) (record { mir = named 11; lft = κs.1.1.1.1.1.1.1.1.1.1.1.0 }) in
+    let row = lts.row-0 g.row.G g.row.rt g.G.laws g.rt.laws g.G.Gate-dict g.rt.Threads-dict
+    (record { mir = named 6; lft = κs.1.1.1.1.1.1.0 })
+    (record { mir = named 7; lft = κs.1.1.1.1.1.1.1.0 })
+    (record { mir = named 8; lft = κs.1.1.1.1.1.1.1.1.0 })
+    (record { mir = named 9; lft = κs.1.1.1.1.1.1.1.1.1.0 })
+    (record { mir = named 10; lft = κs.1.1.1.1.1.1.1.1.1.1.0 })
+    (record { mir = named 11; lft = κs.1.1.1.1.1.1.1.1.1.1.1.0 }) in
     let sent : IsSend row = search (sendable, crosses) depth 40 in
     param_send 0 (lts.arg-5-0 g.row.G g.row.rt g.G.laws g.rt.laws g.G.Gate-dict g.rt.Threads-dict κs) (arg_send _ no row sent)

@@ -4,10 +4,10 @@ use Rattle.pv_tree.specs.PlainForms.{forest, plain}
 use Rattle.pv_tree.specs.declared.nodes.Mark.{Mark}
 use Rattle.pv_tree.proofs.Forests.{forest-drop}
 use Rattle.pv_tree.proofs.Levels.{plain-Elem}
-use Rattle.pv_missing.proofs.Walking.{from_first}
+use Rattle.pv_missing.proofs.ListPaths.{from_first}
 use Rattle.pv_fresh.proofs.Narrow.{few_tokens}
 use Rattle.pv_parallel.proofs.JobLists.{lists_end}
-use Rattle.pv_parallel.proofs.Tallying.{tallies_both, tallies_none, tallies_one}
+use Rattle.pv_parallel.proofs.ListTallies.{tallies_both, tallies_none, tallies_one}
 use Rattle.pv_parallel.proofs.sizes.+sizes.Goals as goal
 
 pub count_kids-loop-kid-preserved : goal.count_kids-loop-kid-preserved
@@ -19,7 +19,9 @@ count_kids-loop-kid-preserved t c =
     record {
       counted = λ path last more.
           let whole = from_first path i (forest (drop i c.args.kids.now)) (plain kid) rest step in
-          c.loop-kid.invariant.counted path last (rw whole (tallies_both (lists_at (path ++ i ∷ []) (plain kid)) (lists_from path (i + 1) rest) c.loop-kid.tally c.count_node.new.tally last (c.if-not-count_node.ensures.counted refl (path ++ i ∷ [])) more));
+          c.loop-kid.invariant.counted path last (rw whole (tallies_both (lists_at (path ++ i ∷ [])
+          (plain kid)) (lists_from path (i + 1) rest) c.loop-kid.tally c.count_node.new.tally
+          last (c.if-not-count_node.ensures.counted refl (path ++ i ∷ [])) more));
       bounded = let own = c.if-not-count_node.ensures.bounded in let so_far = c.loop-kid.invariant.bounded in omega arith;
     }
 

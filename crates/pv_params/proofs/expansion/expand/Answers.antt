@@ -1,4 +1,4 @@
-use Rattle.pv_params.proofs.Telling.{exactly}
+use Rattle.pv_params.proofs.ExpansionAnswers.{exactly}
 use Rattle.pv_params.proofs.expansion.expand.Goals as goal
 
 pub returns-clause-exactly : goal.returns-clause-exactly

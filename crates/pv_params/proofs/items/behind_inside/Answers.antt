@@ -19,7 +19,9 @@ items-smaller c =
 pub items-preserved : goal.items-preserved
 items-preserved c =
     let read : Some (plain_item c.in-Some.field-0-0, c.in-Some.more.now) ≡ inside_at c.items.rest.now = rw c.in-Some.is at c.inside_at.ensures in
-    inside_behind_run c.in-Some.more.now c.behind_run-rest-in-Some.result.now c.behind_run-rest-in-Some.ensures.run ∙ next_items SpellsInside inside_at inside_reads _ _ _ (sym read) ∙ c.items.invariant
+    inside_behind_run c.in-Some.more.now c.behind_run-rest-in-Some.result.now
+    c.behind_run-rest-in-Some.ensures.run ∙ next_items SpellsInside inside_at inside_reads _ _ _
+    (sym read) ∙ c.items.invariant
 
 pub returns : goal.returns
 returns c =

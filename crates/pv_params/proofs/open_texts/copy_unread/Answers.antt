@@ -23,8 +23,12 @@ pub returns-in-Value-clause-faulty : goal.returns-in-Value-clause-faulty
 returns-in-Value-clause-faulty c = λ reading. syntax_value _ _ _ _ (ap plain_mode c.in-Value.is) c.requires.some c.requires.none
 
 pub returns-else-begins_external-clause-faulty : goal.returns-else-begins_external-clause-faulty
-returns-else-begins_external-clause-faulty c = λ reading. syntax_between _ _ _ _ (ap plain_mode c.in-Between.is) c.requires.some c.requires.none c.if-begins_section.ensures c.if-begins_external.ensures
+returns-else-begins_external-clause-faulty c = λ reading. syntax_between _ _ _ _
+    (ap plain_mode c.in-Between.is) c.requires.some c.requires.none c.if-begins_section.ensures
+    c.if-begins_external.ensures
 
 pub returns-in_ok-put-in-File-2-clause-stopped : goal.returns-in_ok-put-in-File-2-clause-stopped
-returns-in_ok-put-in-File-2-clause-stopped c = λ reading. rest_unread _ _ _ _ _ _ c.blank_before.result.now _ (ap plain_mode c.in-File.is) c.requires.some c.requires.none c.if-begins_section-2.ensures c.if-begins_external-2.ensures
+returns-in_ok-put-in-File-2-clause-stopped c = λ reading. rest_unread _ _ _ _ _ _
+    c.blank_before.result.now _ (ap plain_mode c.in-File.is) c.requires.some c.requires.none
+    c.if-begins_section-2.ensures c.if-begins_external-2.ensures
     c.blank_before.ensures c.in_ok-put-in-File.ensures c.in_ok-put-in-File-2.ensures

@@ -6,7 +6,9 @@ returns-in-Err-clause-stopped c = rw c.in-Reference.is c.in-Err.ensures.stopped
 
 pub returns-in_ok-inner-in-Parameter-clause-opened : goal.returns-in_ok-inner-in-Parameter-clause-opened
 returns-in_ok-inner-in-Parameter-clause-opened c =
-    rw c.in-Parameter.is (opens_parameter _ _ _ _ _ _ _ _ _ c.in_ok-inner-in-Parameter.ensures c.in_ok-name-in-Parameter.ensures.items c.take_result-result.ensures.taken c.take_result-result.ensures.after)
+    rw c.in-Parameter.is (opens_parameter _ _ _ _ _ _ _ _ _ c.in_ok-inner-in-Parameter.ensures
+    c.in_ok-name-in-Parameter.ensures.items c.take_result-result.ensures.taken
+    c.take_result-result.ensures.after)
 
 pub returns-in_ok-inner-in-Declaration-clause-opened : goal.returns-in_ok-inner-in-Declaration-clause-opened
 returns-in_ok-inner-in-Declaration-clause-opened c =

@@ -3,7 +3,7 @@ use Rattle.std.proofs.lemmas.List.{length-map}
 use Rattle.pv_dtd.specs.PlainForms.{plain_dtd}
 use Rattle.pv_productive.specs.PlainForms.{table_of}
 use Rattle.pv_productive.specs.Tables.{ArePartsSettled, IsLowering}
-use Rattle.pv_productive.proofs.Lowered.{all_lowered}
+use Rattle.pv_productive.proofs.LoweredSizes.{all_lowered}
 use Rattle.pv_productive.proofs.lowering.lower_all.Goals as goal
 
 pub returns : goal.returns

@@ -2,7 +2,7 @@ use Rattle.std.proofs.Common.{arith, length, ◌-◌}
 use Rattle.pv_dtd.specs.PlainForms.{plain_dtd}
 use Rattle.pv_productive.specs.PlainForms.{table_of}
 use Rattle.pv_productive.specs.Tables.{AreNamesSettled}
-use Rattle.pv_productive.proofs.Lowered.{name_more, lowered_map}
+use Rattle.pv_productive.proofs.LoweredSizes.{name_more, lowered_map}
 use Rattle.pv_productive.proofs.lowering.lower_names.Goals as goal
 
 pub loop-name-preserved : goal.loop-name-preserved

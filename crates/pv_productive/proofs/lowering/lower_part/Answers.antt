@@ -2,7 +2,7 @@ use Rattle.std.proofs.Common.{ap, subst, ◌∙◌, ◌≡◌}
 use Rattle.pv_dtd.specs.PlainForms.{plain_dtd}
 use Rattle.pv_productive.specs.PlainForms.{table_of}
 use Rattle.pv_productive.specs.Tables.{IsLowered, capped}
-use Rattle.pv_productive.proofs.Lowered.{lowered_part}
+use Rattle.pv_productive.proofs.LoweredSizes.{lowered_part}
 use Rattle.pv_productive.proofs.lowering.lower_part.Goals as goal
 
 pub returns : goal.returns

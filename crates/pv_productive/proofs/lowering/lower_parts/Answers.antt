@@ -2,7 +2,7 @@ use Rattle.std.proofs.Common.{arith, ◌-◌}
 use Rattle.pv_dtd.specs.PlainForms.{plain_dtd}
 use Rattle.pv_productive.specs.PlainForms.{table_of}
 use Rattle.pv_productive.specs.Tables.{ArePartsSettled}
-use Rattle.pv_productive.proofs.Lowered.{part_more, lowered_map}
+use Rattle.pv_productive.proofs.LoweredSizes.{part_more, lowered_map}
 use Rattle.pv_productive.proofs.lowering.lower_parts.Goals as goal
 
 pub loop-number-preserved : goal.loop-number-preserved

@@ -3,7 +3,7 @@ use Rattle.pv_dtd.specs.PlainForms.{plain_dtd}
 use Rattle.pv_productive.specs.Tables.{IsSettled}
 use Rattle.pv_productive.specs.PlainForms.{table_of}
 use Rattle.pv_dtd.proofs.Proper.{proper}
-use Rattle.pv_productive.proofs.Settled.{sizes}
+use Rattle.pv_productive.proofs.SettledSizes.{sizes}
 use Rattle.pv_productive.proofs.settle.build.Goals as goal
 
 pub of-requires-2 : goal.of-requires-2

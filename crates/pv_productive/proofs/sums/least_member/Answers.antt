@@ -23,7 +23,9 @@ end_of-member-requires c =
 pub loop-member-smaller : goal.loop-member-smaller
 loop-member-smaller c =
     let g = plain_dtd c.args.layout.now.dtd in
-    let z = passed_further g c.args.number c.args.end c.requires _ c.loop-member.member c.loop-member.invariant.passed c.loop-member-test.true c.end_of-member.result (c.end_of-member.ensures g c.flat.ensures) in
+    let z = passed_further g c.args.number c.args.end c.requires _ c.loop-member.member
+    c.loop-member.invariant.passed c.loop-member-test.true c.end_of-member.result
+    (c.end_of-member.ensures g c.flat.ensures) in
     let lt = c.loop-member-test.true in omega arith
 
 attained_more : (g : PlainDtd) (size : ℕ → ℕ) (q m k h : ℕ) → IsMemberOf g q m → (k < no_size → (r : ℕ) × IsMemberOf g q r × (k ≡ size r)) → (h ≡ k) ⊎ (h ≡ size m) → h < no_size →
@@ -36,7 +38,9 @@ loop-member-preserved c =
     let g = plain_dtd c.args.layout.now.dtd in let size = size_at (table_of c.args.sizes.now).parts in
     let i = c.loop-member.invariant in let v = c.of_part.ensures in let m = c.min-least.ensures in
     record {
-      passed = passed_more g c.args.number c.args.end c.requires (λ r. c.loop-member.least ≤ size r) c.loop-member.member i.passed c.loop-member-test.true c.end_of-member.result (c.end_of-member.ensures g c.flat.ensures)
+      passed = passed_more g c.args.number c.args.end c.requires (λ r. c.loop-member.least ≤ size r)
+          c.loop-member.member i.passed c.loop-member-test.true c.end_of-member.result
+          (c.end_of-member.ensures g c.flat.ensures)
           (λ r. c.min-least.result ≤ size r) (λ r le. omega arith) (omega arith);
       bounded = let b = i.bounded in omega arith;
       attained = attained_more g size c.args.number c.loop-member.member c.loop-member.least c.min-least.result (i.passed.next c.loop-member-test.true) i.attained

@@ -2,7 +2,7 @@ use Rattle.std.proofs.Common.{arith, refl, suc, sym, ◌+◌, ◌≡◌}
 use Rattle.pv_model.specs.Plain.{seq}
 use Rattle.pv_dtd.specs.PlainForms.{plain_dtd}
 use Rattle.pv_rules.proofs.FlatKinds.{choice_at, name_at, no_part, opt_at, plus_at, seq_at, star_at}
-use Rattle.pv_rules.proofs.Formed.{parts_formed}
+use Rattle.pv_rules.proofs.FormedParts.{parts_formed}
 use Rattle.pv_productive.specs.PlainForms.{table_of}
 use Rattle.pv_productive.proofs.LeastSums.{choice_sum, no_part_sum, opt_sum, part_name_sum, plus_sum, seq_sum, star_sum}
 use Rattle.pv_productive.proofs.sums.size_of_part.Goals as goal

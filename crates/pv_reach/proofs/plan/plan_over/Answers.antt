@@ -21,7 +21,9 @@ free_sets-requires c =
     let g = dtd_of c.args.grammar.now in let rules = c.args.rules.now in
     let m = c.in_ok-merging.merging in let s = c.in_ok-merging.ensures in let w = c.width_of-width in let merged = c.in_ok-merged.merged.items in
     let H : List ℕ → Type 0 = λ v. (i : ℕ) → i < length rules → Contains v i in
-    let p = planned g (formed_dtd c.args.grammar.now) rules m c.in_ok-bare.bare.items c.in_ok-components.components.heads.items c.deref-3.result.now merged w.result c.len.result c.requires s.same c.in_ok-bare.ensures
+    let p = planned g (formed_dtd c.args.grammar.now) rules m c.in_ok-bare.bare.items
+    c.in_ok-components.components.heads.items c.deref-3.result.now merged w.result c.len.result
+    c.requires s.same c.in_ok-bare.ensures
     c.in_ok-components.ensures w.ensures.width w.ensures.narrow s.below s.few c.in_ok-merged.ensures.merged (subst H (sym c.deref-3.ensures.value) c.in_ok-order.ensures) c.in_ok-merged.ensures.has
     (let z = c.len.ensures in omega (arith, m.led.ok.0)) in
     let e = sym c.deref-4.ensures.value in
@@ -39,7 +41,9 @@ of-requires c =
     let g = dtd_of c.args.grammar.now in let rules = c.args.rules.now in
     let m = c.in_ok-merging.merging in let s = c.in_ok-merging.ensures in let w = c.width_of-width in let merged = c.in_ok-merged.merged.items in
     let H : List ℕ → Type 0 = λ v. (i : ℕ) → i < length rules → Contains v i in
-    let p = planned g (formed_dtd c.args.grammar.now) rules m c.in_ok-bare.bare.items c.in_ok-components.components.heads.items c.deref-3.result.now merged w.result c.len.result c.requires s.same c.in_ok-bare.ensures
+    let p = planned g (formed_dtd c.args.grammar.now) rules m c.in_ok-bare.bare.items
+    c.in_ok-components.components.heads.items c.deref-3.result.now merged w.result c.len.result
+    c.requires s.same c.in_ok-bare.ensures
     c.in_ok-components.ensures w.ensures.width w.ensures.narrow s.below s.few c.in_ok-merged.ensures.merged (subst H (sym c.deref-3.ensures.value) c.in_ok-order.ensures) c.in_ok-merged.ensures.has
     (let z = c.len.ensures in omega (arith, m.led.ok.0)) in
     let R : List ColumnRule → Type 0 = λ v. InRange (w.result + c.len.result) v in
@@ -50,7 +54,9 @@ returns c =
     let g = dtd_of c.args.grammar.now in let rules = c.args.rules.now in
     let m = c.in_ok-merging.merging in let s = c.in_ok-merging.ensures in let w = c.width_of-width in let merged = c.in_ok-merged.merged.items in
     let H : List ℕ → Type 0 = λ v. (i : ℕ) → i < length rules → Contains v i in
-    let p = planned g (formed_dtd c.args.grammar.now) rules m c.in_ok-bare.bare.items c.in_ok-components.components.heads.items c.deref-3.result.now merged w.result c.len.result c.requires s.same c.in_ok-bare.ensures
+    let p = planned g (formed_dtd c.args.grammar.now) rules m c.in_ok-bare.bare.items
+    c.in_ok-components.components.heads.items c.deref-3.result.now merged w.result c.len.result
+    c.requires s.same c.in_ok-bare.ensures
     c.in_ok-components.ensures w.ensures.width w.ensures.narrow s.below s.few c.in_ok-merged.ensures.merged (subst H (sym c.deref-3.ensures.value) c.in_ok-order.ensures) c.in_ok-merged.ensures.has
     (let z = c.len.ensures in omega (arith, m.led.ok.0)) in
     let F : List ColumnRule → Type 0 = λ v. AreOwnSets v (w.result + c.len.result) c.in_ok-free.free in

@@ -6,9 +6,9 @@ use Rattle.pv_productive.specs.PlainForms.{dtd_of}
 use Rattle.pv_reach.specs.Columns.{width_of}
 use Rattle.pv_reach.specs.Merging.{Replaces, column_head}
 use Rattle.pv_reach.specs.Tables.{IsFurthest}
-use Rattle.pv_reach.proofs.Emptied.{tokens_may_be_missing}
+use Rattle.pv_reach.proofs.EmptyReaches.{tokens_may_be_missing}
 use Rattle.pv_reach.proofs.FormedDtds.{formed_dtd}
-use Rattle.pv_reach.proofs.Reaching.{all_headed, reaches_of_plan}
+use Rattle.pv_reach.proofs.SiteReaches.{all_headed, reaches_of_plan}
 use Rattle.pv_reach.proofs.reaches.reaches_by.Goals as goal
 
 pub fill-requires-clause-missing : goal.fill-requires-clause-missing

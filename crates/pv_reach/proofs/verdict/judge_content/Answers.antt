@@ -7,7 +7,7 @@ use Rattle.pv_dtd.specs.Productive.{IsProductive}
 use Rattle.pv_productive.specs.PlainForms.{dtd_of}
 use Rattle.pv_productive.specs.declared.grammar.Grammar.{Grammar}
 use Rattle.pv_missing.specs.declared.owners.Of.TheVariants as of
-use Rattle.pv_missing.proofs.Judging.{content_possible_judged, content_valid_judged, judged_impossible, kids_judged}
+use Rattle.pv_missing.proofs.VerdictBySite.{content_possible_judged, content_valid_judged, judged_impossible, kids_judged}
 use Rattle.pv_reach.proofs.ColumnAnswers.{content_answer}
 use Rattle.pv_reach.proofs.verdict.judge_content.Goals as goal
 

@@ -4,7 +4,7 @@ use Rattle.pv_missing.specs.LiveWords.{AreProductiveTokens}
 use Rattle.pv_missing.specs.PlainForms.{plain_of}
 use Rattle.pv_productive.specs.PlainForms.{dtd_of}
 use Rattle.pv_productive.specs.declared.grammar.Grammar.{Grammar}
-use Rattle.pv_missing.proofs.Judging.{unproductive_judged}
+use Rattle.pv_missing.proofs.VerdictBySite.{unproductive_judged}
 use Rattle.pv_reach.proofs.verdict.judge_owned.Goals as goal
 
 pub returns-then-not-are_productive : goal.returns-then-not-are_productive

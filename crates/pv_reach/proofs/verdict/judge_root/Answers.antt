@@ -5,7 +5,7 @@ use Rattle.pv_dtd.proofs.Proper.{proper}
 use Rattle.pv_rules.specs.Sites.{name_site}
 use Rattle.pv_productive.specs.PlainForms.{dtd_of}
 use Rattle.pv_missing.specs.declared.owners.Of.TheVariants as of
-use Rattle.pv_missing.proofs.Judging.{judged_impossible, judged_possible, root_valid_judged}
+use Rattle.pv_missing.proofs.VerdictBySite.{judged_impossible, judged_possible, root_valid_judged}
 use Rattle.pv_reach.proofs.ColumnAnswers.{root_answer}
 use Rattle.pv_reach.proofs.verdict.judge_root.Goals as goal
 

@@ -2,9 +2,9 @@ use Rattle.std.proofs.Common.{IsTrue, [], ap, arith, length, subst, sym, â„•, â—
 use Rattle.pv_productive.specs.PlainForms.{dtd_of}
 use Rattle.pv_columns.specs.ColumnRules.{ReadThrough}
 use Rattle.pv_reach.specs.Merging.{column_head}
-use Rattle.pv_reach.proofs.Emptied.{tokens_may_be_missing}
+use Rattle.pv_reach.proofs.EmptyReaches.{tokens_may_be_missing}
 use Rattle.pv_reach.proofs.FormedDtds.{formed_dtd}
-use Rattle.pv_reach.proofs.Listing.{if_ok_as}
+use Rattle.pv_reach.proofs.ContentRules.{if_ok_as}
 use Rattle.pv_reach.proofs.ColumnAnswers.{content_reaches}
 use Rattle.pv_reach.proofs.words.derives_by.Goals as goal
 

@@ -9,7 +9,9 @@ use Rattle.pv_read.proofs.content.read_item.Goals as goal
 pub returns-in-Some-clause-step : goal.returns-in-Some-clause-step
 returns-in-Some-clause-step c =
     let begins = rw c.in-Some.is at c.in_ok-text.ensures.text in
-    text_step one_item c.args.most_depth c.args.root.now c.args.elements.now c.add_kid.new.self c.args.rest.now c.in-Some.more.now c.in-Some.text begins c.in_ok-add_kid.ensures.inner c.in_ok-add_kid.ensures.outer
+    text_step one_item c.args.most_depth c.args.root.now c.args.elements.now c.add_kid.new.self
+    c.args.rest.now c.in-Some.more.now c.in-Some.text begins c.in_ok-add_kid.ensures.inner
+    c.in_ok-add_kid.ensures.outer
 
 pub returns-in_err-item-clause-refused : goal.returns-in_err-item-clause-refused
 returns-in_err-item-clause-refused c =

@@ -21,42 +21,77 @@ returns-then-has_subset-clause-refused c = λ left at. (
 
 pub returns-in_default-clause-refused : goal.returns-in_default-clause-refused
 returns-in_default-clause-refused c = λ left at.
-    fault syntax (nothing_begins one_item c.args.most_depth blank_mark c.args.root.now left c.args.rest.now (λ h. never (c.if-has_subset.ensures.1 (subset_of c.args.most_depth blank_mark c.args.root.now c.args.rest.now left (plain_place c.args.place.now) at h)))
+    fault syntax (nothing_begins one_item c.args.most_depth blank_mark c.args.root.now left
+    c.args.rest.now (λ h. never (c.if-has_subset.ensures.1 (subset_of c.args.most_depth
+    blank_mark c.args.root.now c.args.rest.now left (plain_place c.args.place.now) at h)))
     (not_whole_at left (plain_place c.args.place.now) c.args.rest.now at c.requires) c.in_default.ensures.item)
 
 pub returns-then-not-may_hold-clause-refused : goal.returns-then-not-may_hold-clause-refused
 returns-then-not-may_hold-clause-refused c = λ left at.
-    fault syntax (may_not_stand one_item c.args.most_depth blank_mark c.args.root.now left c.args.rest.now (λ h. never (c.if-has_subset.ensures.1 (subset_of c.args.most_depth blank_mark c.args.root.now c.args.rest.now left (plain_place c.args.place.now) at h)))
-    (plain_item c.in-Some.item) c.in-Some.more.now c.in-Some.ensures.item (none_at c.args.most_depth blank_mark c.args.root.now c.args.rest.now left (plain_place c.args.place.now) at (plain_item c.in-Some.item) (sym c.if-not-may_hold.ensures)))
+    fault syntax (may_not_stand one_item c.args.most_depth blank_mark c.args.root.now left
+    c.args.rest.now (λ h. never (c.if-has_subset.ensures.1 (subset_of c.args.most_depth
+    blank_mark c.args.root.now c.args.rest.now left (plain_place c.args.place.now) at h)))
+    (plain_item c.in-Some.item) c.in-Some.more.now c.in-Some.ensures.item
+    (none_at c.args.most_depth blank_mark c.args.root.now c.args.rest.now left
+    (plain_place c.args.place.now) at (plain_item c.in-Some.item) (sym c.if-not-may_hold.ensures)))
 
 pub returns-then-not-has_known_references-clause-refused : goal.returns-then-not-has_known_references-clause-refused
 returns-then-not-has_known_references-clause-refused c = λ left at.
     let there = stands_at c.args.most_depth blank_mark c.args.root.now c.args.rest.now left (plain_place c.args.place.now) at (plain_item c.in-Some.item) (sym c.if-not-may_hold.ensures) in
-    fault entity (other_reference one_item c.args.most_depth blank_mark c.args.root.now left c.args.rest.now (λ h. never (c.if-has_subset.ensures.1 (subset_of c.args.most_depth blank_mark c.args.root.now c.args.rest.now left (plain_place c.args.place.now) at h)))
+    fault entity (other_reference one_item c.args.most_depth blank_mark c.args.root.now left
+    c.args.rest.now (λ h. never (c.if-has_subset.ensures.1 (subset_of c.args.most_depth
+    blank_mark c.args.root.now c.args.rest.now left (plain_place c.args.place.now) at h)))
     (plain_item c.in-Some.item) c.in-Some.more.now c.in-Some.ensures.item there.next there.is (λ h. never (c.if-not-has_known_references.ensures.1 h)))
 
 pub returns-then-is_mismatch-clause-refused : goal.returns-then-is_mismatch-clause-refused
 returns-then-is_mismatch-clause-refused c = λ left at.
     let there = stands_at c.args.most_depth blank_mark c.args.root.now c.args.rest.now left (plain_place c.args.place.now) at (plain_item c.in-Some.item) (sym c.if-not-may_hold.ensures) in
-    fault mismatch (other_name one_item c.args.most_depth blank_mark c.args.root.now left c.args.rest.now (λ h. never (c.if-has_subset.ensures.1 (subset_of c.args.most_depth blank_mark c.args.root.now c.args.rest.now left (plain_place c.args.place.now) at h)))
-    (plain_item c.in-Some.item) c.in-Some.more.now c.in-Some.ensures.item there.next there.is (c.if-not-has_known_references.ensures.0 refl) (mismatch_at c.args.most_depth blank_mark c.args.root.now c.args.rest.now left (plain_place c.args.place.now) at (plain_item c.in-Some.item) (c.if-is_mismatch.ensures.0 refl)))
+    fault mismatch (other_name one_item c.args.most_depth blank_mark c.args.root.now left
+    c.args.rest.now (λ h. never (c.if-has_subset.ensures.1 (subset_of c.args.most_depth
+    blank_mark c.args.root.now c.args.rest.now left (plain_place c.args.place.now) at h)))
+    (plain_item c.in-Some.item) c.in-Some.more.now c.in-Some.ensures.item there.next there.is
+    (c.if-not-has_known_references.ensures.0 refl) (mismatch_at c.args.most_depth blank_mark
+    c.args.root.now c.args.rest.now left (plain_place c.args.place.now) at
+    (plain_item c.in-Some.item) (c.if-is_mismatch.ensures.0 refl)))
 
 pub returns-then-is_other_doctype-clause-refused : goal.returns-then-is_other_doctype-clause-refused
 returns-then-is_other_doctype-clause-refused c = λ left at.
     let there = stands_at c.args.most_depth blank_mark c.args.root.now c.args.rest.now left (plain_place c.args.place.now) at (plain_item c.in-Some.item) (sym c.if-not-may_hold.ensures) in (
       c.args.count,
-      fault doctype_name (other_doctype one_item c.args.most_depth blank_mark c.args.root.now left c.args.rest.now (λ h. never (c.if-has_subset.ensures.1 (subset_of c.args.most_depth blank_mark c.args.root.now c.args.rest.now left (plain_place c.args.place.now) at h)))
-          (plain_item c.in-Some.item) c.in-Some.more.now c.in-Some.ensures.item there.next there.is (c.if-not-has_known_references.ensures.0 refl) (λ h. never (c.if-is_mismatch.ensures.1 (mismatch_of c.args.most_depth blank_mark c.args.root.now c.args.rest.now left (plain_place c.args.place.now) at (plain_item c.in-Some.item) h))) (c.if-is_other_doctype.ensures.0 refl)),
+      fault doctype_name (other_doctype one_item c.args.most_depth blank_mark c.args.root.now left
+          c.args.rest.now (λ h. never (c.if-has_subset.ensures.1 (subset_of c.args.most_depth
+          blank_mark c.args.root.now c.args.rest.now left (plain_place c.args.place.now) at h)))
+          (plain_item c.in-Some.item) c.in-Some.more.now c.in-Some.ensures.item there.next there.is
+          (c.if-not-has_known_references.ensures.0 refl) (λ h. never (c.if-is_mismatch.ensures.1
+          (mismatch_of c.args.most_depth blank_mark c.args.root.now c.args.rest.now left
+          (plain_place c.args.place.now) at (plain_item c.in-Some.item) h)))
+          (c.if-is_other_doctype.ensures.0 refl)),
     )
 
 pub returns-then-is_too_deep-clause-refused : goal.returns-then-is_too_deep-clause-refused
 returns-then-is_too_deep-clause-refused c = λ left at.
     let there = stands_at c.args.most_depth blank_mark c.args.root.now c.args.rest.now left (plain_place c.args.place.now) at (plain_item c.in-Some.item) (sym c.if-not-may_hold.ensures) in
-    fault deep (too_deep one_item c.args.most_depth blank_mark c.args.root.now left c.args.rest.now (λ h. never (c.if-has_subset.ensures.1 (subset_of c.args.most_depth blank_mark c.args.root.now c.args.rest.now left (plain_place c.args.place.now) at h)))
-    (plain_item c.in-Some.item) c.in-Some.more.now c.in-Some.ensures.item there.next there.is (c.if-not-has_known_references.ensures.0 refl) (λ h. never (c.if-is_mismatch.ensures.1 (mismatch_of c.args.most_depth blank_mark c.args.root.now c.args.rest.now left (plain_place c.args.place.now) at (plain_item c.in-Some.item) h))) (λ h. never (c.if-is_other_doctype.ensures.1 h)) (deep_at c.args.most_depth blank_mark c.args.root.now c.args.rest.now left (plain_place c.args.place.now) at (plain_item c.in-Some.item) (c.if-is_too_deep.ensures.0 refl)))
+    fault deep (too_deep one_item c.args.most_depth blank_mark c.args.root.now left c.args.rest.now
+    (λ h. never (c.if-has_subset.ensures.1 (subset_of c.args.most_depth blank_mark
+    c.args.root.now c.args.rest.now left (plain_place c.args.place.now) at h)))
+    (plain_item c.in-Some.item) c.in-Some.more.now c.in-Some.ensures.item there.next there.is
+    (c.if-not-has_known_references.ensures.0 refl) (λ h. never (c.if-is_mismatch.ensures.1
+    (mismatch_of c.args.most_depth blank_mark c.args.root.now c.args.rest.now left
+    (plain_place c.args.place.now) at (plain_item c.in-Some.item) h)))
+    (λ h. never (c.if-is_other_doctype.ensures.1 h)) (deep_at c.args.most_depth blank_mark
+    c.args.root.now c.args.rest.now left (plain_place c.args.place.now) at
+    (plain_item c.in-Some.item) (c.if-is_too_deep.ensures.0 refl)))
 
 pub returns-clause-taken : goal.returns-clause-taken
 returns-clause-taken c = λ left at.
     let there = stands_at c.args.most_depth blank_mark c.args.root.now c.args.rest.now left (plain_place c.args.place.now) at (plain_item c.in-Some.item) (sym c.if-not-may_hold.ensures) in
-    takes one_item c.args.most_depth blank_mark c.args.root.now left c.args.rest.now (λ h. never (c.if-has_subset.ensures.1 (subset_of c.args.most_depth blank_mark c.args.root.now c.args.rest.now left (plain_place c.args.place.now) at h)))
-    (plain_item c.in-Some.item) c.in-Some.more.now c.in-Some.ensures.item there.next there.is (c.if-not-has_known_references.ensures.0 refl) (λ h. never (c.if-is_mismatch.ensures.1 (mismatch_of c.args.most_depth blank_mark c.args.root.now c.args.rest.now left (plain_place c.args.place.now) at (plain_item c.in-Some.item) h))) (λ h. never (c.if-is_other_doctype.ensures.1 h)) (λ h. never (c.if-is_too_deep.ensures.1 (deep_of c.args.most_depth blank_mark c.args.root.now c.args.rest.now left (plain_place c.args.place.now) at (plain_item c.in-Some.item) h)))
+    takes one_item c.args.most_depth blank_mark c.args.root.now left c.args.rest.now
+    (λ h. never (c.if-has_subset.ensures.1 (subset_of c.args.most_depth blank_mark
+    c.args.root.now c.args.rest.now left (plain_place c.args.place.now) at h)))
+    (plain_item c.in-Some.item) c.in-Some.more.now c.in-Some.ensures.item there.next there.is
+    (c.if-not-has_known_references.ensures.0 refl) (λ h. never (c.if-is_mismatch.ensures.1
+    (mismatch_of c.args.most_depth blank_mark c.args.root.now c.args.rest.now left
+    (plain_place c.args.place.now) at (plain_item c.in-Some.item) h)))
+    (λ h. never (c.if-is_other_doctype.ensures.1 h)) (λ h. never (c.if-is_too_deep.ensures.1
+    (deep_of c.args.most_depth blank_mark c.args.root.now c.args.rest.now left
+    (plain_place c.args.place.now) at (plain_item c.in-Some.item) h)))

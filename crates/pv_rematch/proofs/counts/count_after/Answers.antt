@@ -2,8 +2,8 @@ use Rattle.std.proofs.Common.{◌≡◌, ℕ, ◌+◌, ◌-◌, IfOk, map, subst
 use Rattle.std.proofs.lemmas.Grind.{common_steps}
 use Rattle.pv_model.specs.PlainForms.{plain_model, plain_token}
 use Rattle.pv_rematch.specs.Counts.{AreWithout, IsAllowedAlone}
-use Rattle.pv_rematch.proofs.Changing.{number_after}
-use Rattle.pv_rematch.proofs.Walking.{ok_one}
+use Rattle.pv_rematch.proofs.ChangedNumbers.{number_after}
+use Rattle.pv_rematch.proofs.KeptWalks.{ok_one}
 use Rattle.pv_rematch.proofs.counts.count_after.Goals as goal
 
 pub returns : goal.returns

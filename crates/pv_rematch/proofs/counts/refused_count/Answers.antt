@@ -3,8 +3,8 @@ use Rattle.std.proofs.lemmas.List.{length-map, length-take-le, take_all, get_or_
 use Rattle.pv_model.specs.PlainForms.{plain_model, plain_token}
 use Rattle.pv_model.specs.declared.models.Token.TheVariants as token
 use Rattle.pv_rematch.specs.Counts.{IsAllowedAlone}
-use Rattle.pv_rematch.proofs.Changing.{next_with, next_without}
-use Rattle.pv_rematch.proofs.Counting.{at_most}
+use Rattle.pv_rematch.proofs.ChangedNumbers.{next_with, next_without}
+use Rattle.pv_rematch.proofs.TokenNumbers.{at_most}
 use Rattle.pv_rematch.proofs.counts.refused_count.Goals as goal
 use Rattle.pv_rematch.proofs.counts.refused_count.Goals.{then-not-branch, else-not-branch}
 

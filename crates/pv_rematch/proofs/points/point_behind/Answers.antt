@@ -1,5 +1,5 @@
 use Rattle.std.proofs.Common.{arith, add-one}
-use Rattle.pv_rematch.proofs.Leading.{span_more}
+use Rattle.pv_rematch.proofs.LeadingPoints.{span_more}
 use Rattle.pv_rematch.proofs.points.point_behind.Goals as goal
 
 pub returns-then-gap-left-clause-place : goal.returns-then-gap-left-clause-place

@@ -1,6 +1,6 @@
 use Rattle.std.proofs.Common.{arith, add-one, ap}
 use Rattle.pv_rematch.specs.declared.points.Point.{Point}
-use Rattle.pv_rematch.proofs.Leading.{span_more}
+use Rattle.pv_rematch.proofs.LeadingPoints.{span_more}
 use Rattle.pv_rematch.proofs.points.points_before.Goals as goal
 
 pub loop-count-preserved : goal.loop-count-preserved

@@ -1,6 +1,6 @@
 use Rattle.std.proofs.Common.{ap, sym, ◌∙◌, take}
 use Rattle.std.proofs.IntoIterSteps.{All-taken}
-use Rattle.pv_rematch.proofs.Splicing.{cut_off, put_in, told_err, told_ok}
+use Rattle.pv_rematch.proofs.SplicedPoints.{cut_off, put_in, told_err, told_ok}
 use Rattle.pv_rematch.proofs.stretches.replace.Goals as goal
 
 pub returns-then-is_err : goal.returns-then-is_err

@@ -1,6 +1,6 @@
 use Rattle.pv_rules.specs.Barriers.{IsWithinRows}
 use Rattle.pv_rules.specs.Rules.{Rule}
-use Rattle.pv_rules.proofs.Derived.{held}
+use Rattle.pv_rules.proofs.DerivationLaws.{held}
 use Rattle.pv_rules.proofs.laws.barrier_law.Goals as goal
 
 pub returns : goal.returns

@@ -1,4 +1,4 @@
-use Rattle.pv_rules.proofs.Formed.{parts_formed}
+use Rattle.pv_rules.proofs.FormedParts.{parts_formed}
 use Rattle.pv_rules.proofs.laws.formed_law.Goals as goal
 
 pub returns : goal.returns

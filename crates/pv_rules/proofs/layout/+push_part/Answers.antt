@@ -1,7 +1,7 @@
 use Rattle.std.proofs.Common.{ap, arith, drop, refl, ◌∙◌, ◌≡◌, ◌+◌}
 use Rattle.pv_model.specs.PlainForms.{plain_part, plain_parts}
 use Rattle.pv_rules.specs.Flat.{are_some, membership_of}
-use Rattle.pv_rules.proofs.Flattening.{finished, fits_more, follows, members_more, pushed_length}
+use Rattle.pv_rules.proofs.FlatParts.{finished, fits_more, follows, members_more, pushed_length}
 use Rattle.pv_rules.proofs.layout.+push_part.Goals as goal
 
 pub push_part-returns : goal.push_part-returns

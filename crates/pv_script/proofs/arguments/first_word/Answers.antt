@@ -1,6 +1,6 @@
 use Rattle.std.proofs.Common.{◌≡◌, Some, None}
 use Rattle.pv_words.specs.Words.{first_word}
-use Rattle.pv_script.proofs.Failing.{unknown-or}
+use Rattle.pv_script.proofs.FailedReads.{unknown-or}
 use Rattle.pv_script.proofs.arguments.first_word.Goals as goal
 
 pub returns : goal.returns

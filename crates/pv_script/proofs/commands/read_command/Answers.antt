@@ -1,4 +1,4 @@
-use Rattle.pv_script.proofs.Commanding.{reads-command, reads-none}
+use Rattle.pv_script.proofs.CommandAnswers.{reads-command, reads-none}
 use Rattle.pv_script.proofs.commands.read_command.Goals as goal
 
 pub returns-clause-read : goal.returns-clause-read

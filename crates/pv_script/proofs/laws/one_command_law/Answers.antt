@@ -1,4 +1,4 @@
-use Rattle.pv_script.proofs.Spelling.{one-command, some-command}
+use Rattle.pv_script.proofs.SpelledLines.{one-command, some-command}
 use Rattle.pv_script.proofs.laws.one_command_law.Goals as goal
 
 pub returns-clause-one : goal.returns-clause-one

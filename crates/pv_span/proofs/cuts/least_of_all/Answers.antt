@@ -2,7 +2,7 @@ use Rattle.std.proofs.Common.{arith, suc}
 use Rattle.pv_span.specs.Charts.{value_of}
 use Rattle.pv_span.specs.PlainForms.{plain_chart}
 use Rattle.pv_span.proofs.CutSums.{cut_alone}
-use Rattle.pv_span.proofs.Lining.{cut_first}
+use Rattle.pv_span.proofs.CutLines.{cut_first}
 use Rattle.pv_span.proofs.cuts.least_of_all.Goals as goal
 
 pub returns-then-chart : goal.returns-then-chart

@@ -3,7 +3,7 @@ use Rattle.pv_productive.specs.Tables.{no_size}
 use Rattle.pv_span.specs.Charts.{value_of}
 use Rattle.pv_span.specs.PlainForms.{plain_chart}
 use Rattle.pv_span.proofs.CutSums.{cut_more}
-use Rattle.pv_span.proofs.Lining.{none_within}
+use Rattle.pv_span.proofs.CutLines.{none_within}
 use Rattle.pv_span.proofs.cuts.least_of_places.Goals as goal
 
 pub returns-then-chart : goal.returns-then-chart

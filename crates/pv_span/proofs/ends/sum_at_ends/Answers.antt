@@ -5,7 +5,7 @@ use Rattle.pv_layout.specs.FormForms.{plain_all}
 use Rattle.pv_span.specs.PlainForms.{plain_chart}
 use Rattle.pv_span.proofs.Whole.{sum_member, sum_none, sum_nothing}
 use Rattle.pv_span.proofs.Flats.{spanned}
-use Rattle.pv_layout.proofs.Reading.{form_read}
+use Rattle.pv_layout.proofs.ProgramColumns.{form_read}
 use Rattle.pv_span.proofs.ends.sum_at_ends.Goals as goal
 
 pub returns-in-OneOf : goal.returns-in-OneOf

@@ -7,7 +7,7 @@ use Rattle.pv_span.specs.DoneSpans.{rows_done}
 use Rattle.pv_layout.specs.FormForms.{plain_all}
 use Rattle.pv_span.specs.PlainForms.{plain_chart}
 use Rattle.pv_span.proofs.Across.{rows_count}
-use Rattle.pv_span.proofs.Finishing.{filled, put_next, ready_begun, room_left}
+use Rattle.pv_span.proofs.FinishedSpans.{filled, put_next, ready_begun, room_left}
 use Rattle.pv_span.proofs.fill.fill.Goals as goal
 
 pub fill_next-requires-clause-attained : goal.fill_next-requires-clause-attained
@@ -51,7 +51,9 @@ spans-preserved c =
     record {
       done = put_next (plain_all c.args.forms.now) (map plain_token c.args.word.now) t.from t.to (length (rows_done c.next.new.self.done)) (plain_chart t) (plain_chart c.next.new.self)
           c.next.new.self.row.items c.fill_next.ensures.attained
-          (subst (λ z. AreSettled (plain_all c.args.forms.now) (map plain_token c.args.word.now) t.from t.to z (plain_chart t)) (sym n) c.in_ok-fill_next.ensures.settled) c.next.ensures.sized c.next.ensures.blank c.next.ensures.next refl;
+          (subst (λ z. AreSettled (plain_all c.args.forms.now) (map plain_token c.args.word.now)
+          t.from t.to z (plain_chart t)) (sym n) c.in_ok-fill_next.ensures.settled)
+          c.next.ensures.sized c.next.ensures.blank c.next.ensures.next refl;
       long = c.fill_next.ensures.long ∙ c.spans.invariant.long;
       repeats = c.go_to.ensures;
     }

@@ -1,6 +1,6 @@
 use Rattle.std.proofs.Common.{length}
 use Rattle.pv_layout.specs.FormForms.{plain_all}
-use Rattle.pv_span.proofs.Repeating.{copy_attained, copy_settled}
+use Rattle.pv_span.proofs.RepeatedSpans.{copy_attained, copy_settled}
 use Rattle.pv_span.proofs.fill.fill_next.Goals as goal
 
 pub copy_from-requires : goal.copy_from-requires

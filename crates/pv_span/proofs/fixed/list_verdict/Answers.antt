@@ -9,7 +9,7 @@ use Rattle.pv_missing.specs.PlainForms.{plain_of}
 use Rattle.pv_missing.specs.Widths.{FitsWeights}
 use Rattle.pv_missing.specs.WordVerdicts.{has_no_trees}
 use Rattle.pv_missing.proofs.LiveFacts.{live_follows}
-use Rattle.pv_missing.proofs.Judging.{bare_kids, list_judged}
+use Rattle.pv_missing.proofs.VerdictBySite.{bare_kids, list_judged}
 use Rattle.pv_span.proofs.fixed.list_verdict.Goals as goal
 
 pub judge-requires-clause-fits : goal.judge-requires-clause-fits

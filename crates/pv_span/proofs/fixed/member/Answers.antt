@@ -9,6 +9,8 @@ use Rattle.pv_span.proofs.fixed.member.Goals as goal
 pub returns-then-not-is_known_owner-clause-possible : goal.returns-then-not-is_known_owner-clause-possible
 returns-then-not-is_known_owner-clause-possible g c = (
   (λ e. absurd cc),
-  (λ p. absurd (true≢false (sym (c.is_known_owner.ensures.1 (possible_site (dtd_of c.args.grammar.now) (proper c.args.grammar.now.layout.dtd).named (map plain_token c.args.word.now) (plain_of c.args.of) p))
+  (λ p. absurd (true≢false
+      (sym (c.is_known_owner.ensures.1 (possible_site (dtd_of c.args.grammar.now)
+      (proper c.args.grammar.now.layout.dtd).named (map plain_token c.args.word.now) (plain_of c.args.of) p))
       ∙ c.if-not-is_known_owner.true))),
 )

@@ -4,7 +4,7 @@ use Rattle.std.proofs.lemmas.List.{with_items_is}
 use Rattle.pv_productive.specs.Tables.{size_at}
 use Rattle.pv_span.specs.DoneSpans.{row_of}
 use Rattle.pv_span.proofs.Across.{each_lowered}
-use Rattle.pv_span.proofs.Numbering.{later_before}
+use Rattle.pv_span.proofs.SpanNumbers.{later_before}
 use Rattle.pv_span.proofs.lines.add_cut.Goals as goal
 
 pub column-behind-requires : goal.column-behind-requires

@@ -1,6 +1,6 @@
 use Rattle.std.proofs.Common.{arith, inr}
 use Rattle.pv_span.specs.DoneSpans.{rows_done}
-use Rattle.pv_span.proofs.Lining.{few_told, no_more, one_more}
+use Rattle.pv_span.proofs.CutLines.{few_told, no_more, one_more}
 use Rattle.pv_span.proofs.lines.extend_line.Goals as goal
 
 pub add_cut-requires-clause-few : goal.add_cut-requires-clause-few

@@ -2,7 +2,7 @@ use Rattle.std.proofs.Common.{length, map}
 use Rattle.pv_model.specs.PlainForms.{plain_token}
 use Rattle.pv_layout.specs.FormForms.{plain_all}
 use Rattle.pv_span.specs.PlainForms.{plain_chart}
-use Rattle.pv_span.proofs.Settling.{all_settling}
+use Rattle.pv_span.proofs.LoweredRows.{all_settling}
 use Rattle.pv_span.proofs.lowering.lower_all.Goals as goal
 
 pub lower_some-named-requires-clause-attained : goal.lower_some-named-requires-clause-attained

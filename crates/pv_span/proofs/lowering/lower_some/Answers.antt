@@ -3,11 +3,13 @@ use Rattle.std.proofs.lemmas.List.{length-map}
 use Rattle.pv_model.specs.PlainForms.{plain_token}
 use Rattle.pv_layout.specs.FormForms.{plain_all}
 use Rattle.pv_span.specs.PlainForms.{plain_chart}
-use Rattle.pv_span.proofs.Settling.{column_settling}
+use Rattle.pv_span.proofs.LoweredRows.{column_settling}
 use Rattle.pv_span.proofs.lowering.lower_some.Goals as goal
 
 pub overflow_cast-number : goal.overflow_cast-number
-overflow_cast-number c = let s = c.args.chart.now.sized in let b = c.args.chart.now.done.narrow in let a = c.requires.attained.is_row in let n = simp length-map at a in let l = c.loop-number-test.true in omega arith
+overflow_cast-number c = let s = c.args.chart.now.sized in let b = c.args.chart.now.done.narrow in
+    let a = c.requires.attained.is_row in let n = simp length-map at a in let l =
+    c.loop-number-test.true in omega arith
 
 pub lower_column-is_less-requires-clause-attained : goal.lower_column-is_less-requires-clause-attained
 lower_column-is_less-requires-clause-attained c = let i = c.loop-number.invariant in rw (i.same.0, i.same.1) i.settling.attained

@@ -3,7 +3,7 @@ use Rattle.std.proofs.lemmas.List.{length-map}
 use Rattle.pv_dtd.proofs.Proper.{proper}
 use Rattle.pv_productive.specs.PlainForms.{dtd_of}
 use Rattle.pv_missing.specs.PlainForms.{plain_of}
-use Rattle.pv_span.proofs.Answering.{possible_by_value}
+use Rattle.pv_span.proofs.PossibleWords.{possible_by_value}
 use Rattle.pv_span.proofs.KnownSites.{owner_has}
 use Rattle.pv_span.proofs.membership.derives.Goals as goal
 

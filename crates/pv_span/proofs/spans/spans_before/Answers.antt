@@ -1,5 +1,5 @@
 use Rattle.std.proofs.Common.{arith}
-use Rattle.pv_span.proofs.Numbering.{few_spans, halved}
+use Rattle.pv_span.proofs.SpanNumbers.{few_spans, halved}
 use Rattle.pv_span.proofs.spans.spans_before.Goals as goal
 
 pub returns : goal.returns

@@ -6,8 +6,8 @@ use Rattle.pv_span.specs.PlainForms.{plain_chart}
 use Rattle.std.proofs.lemmas.Option.{slice_get-get_or}
 use Rattle.pv_productive.specs.Tables.{size_at}
 use Rattle.pv_span.specs.Waits.{Waits}
-use Rattle.pv_span.proofs.Holding.{fallen_both, first_place, last_place, none_fallen}
-use Rattle.pv_layout.proofs.Mentioning.{told_one}
+use Rattle.pv_span.proofs.WaitingColumns.{fallen_both, first_place, last_place, none_fallen}
+use Rattle.pv_layout.proofs.MentionedColumns.{told_one}
 use Rattle.pv_span.proofs.Spreads.{one_lowered}
 use Rattle.pv_span.proofs.spreading.lower_above.Goals as goal
 
@@ -42,8 +42,12 @@ loop-number-preserved c =
     record {
       attained = c.lower_next.ensures.attained;
       same = (p.0 ∙ i.same.0, p.1 ∙ i.same.1, p.2 ∙ i.same.2, p.3 ∙ i.same.3);
-      fallen = fallen_both c.args.waiting.now c.loop-number.waiting c.lower_next.new.waiting t.row.items c.loop-number.chart.row.items c.lower_next.new.chart.row.items i.fallen c.lower_next.ensures.fallen;
-      held = one_lowered (plain_all c.args.forms.now) (map plain_token c.args.word.now) t.from t.to c.loop-number.chart c.lower_next.new.chart i.attained c.lower_next.ensures.attained i.same.0 i.same.1 p
+      fallen = fallen_both c.args.waiting.now c.loop-number.waiting c.lower_next.new.waiting
+          t.row.items c.loop-number.chart.row.items c.lower_next.new.chart.row.items i.fallen
+          c.lower_next.ensures.fallen;
+      held = one_lowered (plain_all c.args.forms.now) (map plain_token c.args.word.now) t.from t.to
+          c.loop-number.chart c.lower_next.new.chart i.attained c.lower_next.ensures.attained
+          i.same.0 i.same.1 p
           c.loop-number.waiting c.lower_next.new.waiting c.lower_next.ensures.fallen c.args.column c.value_at-value.result above c.loop-number.number (get_or above c.loop-number.number 0)
           (slice_get-get_or above c.loop-number.number 0 (omega arith)) first
           (rw (i.same.0, i.same.1) at c.lower_next.ensures.held) i.held;
@@ -58,4 +62,7 @@ returns-clause-long c = c.loop-number.invariant.fallen.long
 pub returns-clause-held : goal.returns-clause-held
 returns-clause-held c =
     let t = c.args.chart.now in
-    last_place (plain_all c.args.forms.now) (map plain_token c.args.word.now) t.from t.to c.args.column c.value_at-value.result c.above-above.result.now (plain_chart c.loop-number.chart) c.loop-number.waiting c.loop-number.number (omega arith) c.loop-number.invariant.held
+    last_place (plain_all c.args.forms.now) (map plain_token c.args.word.now) t.from t.to
+    c.args.column c.value_at-value.result c.above-above.result.now
+    (plain_chart c.loop-number.chart) c.loop-number.waiting c.loop-number.number (omega arith)
+    c.loop-number.invariant.held

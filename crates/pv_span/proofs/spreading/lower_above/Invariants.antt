@@ -3,7 +3,7 @@ use Rattle.pv_model.specs.PlainForms.{plain_token}
 use Rattle.pv_layout.specs.FormForms.{plain_all}
 use Rattle.pv_span.specs.PlainForms.{DiffersInRow, IsAttainedSoFar, plain_chart}
 use Rattle.pv_span.specs.Waits.{HaveFallen, IsHeld}
-use Rattle.pv_span.proofs.Holding.{StillWaits}
+use Rattle.pv_span.proofs.WaitingColumns.{StillWaits}
 use Rattle.pv_span.proofs.spreading.lower_above.Given as goal
 
 abbrev pub invariant-loop-number : goal.invariant-loop-number

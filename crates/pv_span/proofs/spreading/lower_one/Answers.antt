@@ -5,7 +5,7 @@ use Rattle.pv_model.specs.PlainForms.{plain_token}
 use Rattle.pv_productive.specs.Tables.{IsLowered, capped}
 use Rattle.pv_layout.specs.FormForms.{plain_all}
 use Rattle.pv_span.specs.PlainForms.{plain_chart}
-use Rattle.pv_span.proofs.Settling.{one_attained}
+use Rattle.pv_span.proofs.LoweredRows.{one_attained}
 use Rattle.pv_span.proofs.spreading.lower_one.Goals as goal
 
 pub lower-requires : goal.lower-requires

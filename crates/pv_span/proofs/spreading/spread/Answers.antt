@@ -3,7 +3,7 @@ use Rattle.pv_model.specs.PlainForms.{plain_token}
 use Rattle.pv_layout.specs.FormForms.{plain_all}
 use Rattle.pv_span.specs.PlainForms.{plain_chart}
 use Rattle.pv_span.specs.Waits.{Waits}
-use Rattle.pv_span.proofs.Holding.{held_settled}
+use Rattle.pv_span.proofs.WaitingColumns.{held_settled}
 use Rattle.pv_span.proofs.spreading.spread.Goals as goal
 
 pub begin-requires-clause-long : goal.begin-requires-clause-long
@@ -38,5 +38,7 @@ pub returns-then-not-branch-clause-settled : goal.returns-then-not-branch-clause
 returns-then-not-branch-clause-settled c =
     let t = c.args.chart.now in
     let i = c.loop.invariant in
-    λ e. held_settled (plain_all c.args.forms.now) (map plain_token c.args.word.now) t.from t.to (Waits c.spread_next.new.waiting) (plain_chart c.spread_next.new.chart) (length c.args.forms.now) (c.is_empty-then-not-branch.ensures e)
+    λ e. held_settled (plain_all c.args.forms.now) (map plain_token c.args.word.now) t.from t.to
+    (Waits c.spread_next.new.waiting) (plain_chart c.spread_next.new.chart)
+    (length c.args.forms.now) (c.is_empty-then-not-branch.ensures e)
     (rw (i.same.0, i.same.1) at c.in_ok-spread_next.ensures.held)

@@ -3,7 +3,7 @@ use Rattle.pv_model.specs.PlainForms.{plain_token}
 use Rattle.pv_layout.specs.FormForms.{plain_all}
 use Rattle.pv_span.specs.PlainForms.{plain_chart}
 use Rattle.pv_span.specs.Waits.{Waits}
-use Rattle.pv_span.proofs.Holding.{held_map}
+use Rattle.pv_span.proofs.WaitingColumns.{held_map}
 use Rattle.pv_span.proofs.spreading.spread_next.Goals as goal
 
 pub returns-in_default-clause-held : goal.returns-in_default-clause-held

@@ -4,7 +4,7 @@ use Rattle.pv_dtd.proofs.Proper.{proper}
 use Rattle.pv_productive.specs.PlainForms.{dtd_of}
 use Rattle.pv_missing.specs.PlainForms.{plain_of}
 use Rattle.pv_missing.proofs.LiveFacts.{live_follows}
-use Rattle.pv_span.proofs.Judging.{impossible_judged}
+use Rattle.pv_span.proofs.ListVerdicts.{impossible_judged}
 use Rattle.pv_span.proofs.KnownSites.{possible_site}
 use Rattle.pv_span.proofs.verdict.judge.Goals as goal
 

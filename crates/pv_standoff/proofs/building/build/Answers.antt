@@ -14,7 +14,8 @@ use Rattle.pv_standoff.proofs.Stacks.{close_depth, end_depth}
 use Rattle.pv_standoff.specs.Stacks.{PlainOpen, stack_depth, add, write, tree_of, opened, with_text}
 use Rattle.pv_standoff.specs.PlainForms.{plain_open, plain_outer, seen, IsRootOver}
 use Rattle.pv_standoff.specs.Texts.{SpellsUnits}
-use Rattle.pv_standoff.proofs.Built.{IsAt, at_most, close_at, next_at, end_at, root_holds, inside_mid, drop_next, take_next, split_next, outer_push, outer_length, shallow_at, open_shallow, too_deep, rest_spells, rest_within, rest_taken, rest_more}
+use Rattle.pv_standoff.proofs.Built.{IsAt, at_most, close_at, next_at, end_at, root_holds, inside_mid, drop_next, take_next, split_next, outer_push}
+use Rattle.pv_standoff.proofs.Built.{outer_length, shallow_at, open_shallow, too_deep, rest_spells, rest_within, rest_taken, rest_more}
 use Rattle.pv_standoff.proofs.building.build.Goals as goal
 use Rattle.pv_standoff.proofs.building.build.Goals.{else-ended-test, then-ended-test+in_default}
 
@@ -70,18 +71,34 @@ write-requires-clause-within c =
     let d = split_next c.args.sorted.now i c.range-item.result c.each-test.true c.range-item.is in
     let h = inside_mid (length c.args.text.now) (take i (seen c.args.sorted.now)) (drop (i + 1) (seen c.args.sorted.now)) c.range-item.result.now
     (subst (λ z. AllByRecursion (IsInsideText (length c.args.text.now)) z) d c.requires.inside) in
-    rest_within c.args.text.now (spells c.args.text.now c.bytes-rest.ensures.legal c.requires.no_close_mark) c.ended.at c.range-item.result.now.from c.ended.rest.now c.ended.invariant.3 (omega (arith, h.0, h.1))
+    rest_within c.args.text.now (spells c.args.text.now c.bytes-rest.ensures.legal
+    c.requires.no_close_mark) c.ended.at c.range-item.result.now.from c.ended.rest.now
+    c.ended.invariant.3 (omega (arith, h.0, h.1))
 
 pub each-preserved : goal.each-preserved
 each-preserved c = record {
-  is_at = subst (λ z. IsAt c.args.root c.args.text.now z (plain_open c.replace.new.dest) (plain_outer c.push.new.self.items) c.range-item.result.now.from) (sym (take_next c.args.sorted.now c.each.range-index c.range-item.result c.each-test.true c.range-item.is))
-      (subst (λ z. IsAt c.args.root c.args.text.now (take c.each.range-index (seen c.args.sorted.now) ++ c.range-item.result.now ∷ []) z (plain_outer c.push.new.self.items) c.range-item.result.now.from) (sym new_top)
-      (subst (λ z. IsAt c.args.root c.args.text.now (take c.each.range-index (seen c.args.sorted.now) ++ c.range-item.result.now ∷ []) (opened c.range-item.result.now) z c.range-item.result.now.from) (sym new_outer) step.0));
+  is_at = subst (λ z. IsAt c.args.root c.args.text.now z (plain_open c.replace.new.dest)
+      (plain_outer c.push.new.self.items) c.range-item.result.now.from)
+      (sym (take_next c.args.sorted.now c.each.range-index c.range-item.result c.each-test.true
+      c.range-item.is))
+      (subst (λ z. IsAt c.args.root c.args.text.now (take c.each.range-index
+      (seen c.args.sorted.now) ++ c.range-item.result.now ∷ []) z
+      (plain_outer c.push.new.self.items) c.range-item.result.now.from) (sym new_top)
+      (subst (λ z. IsAt c.args.root c.args.text.now (take c.each.range-index
+      (seen c.args.sorted.now) ++ c.range-item.result.now ∷ []) (opened c.range-item.result.now)
+      z c.range-item.result.now.from) (sym new_outer) step.0));
   left = rest_more c.args.text.now known c.ended.at c.range-item.result.now.from c.ended.rest.now c.in_ok-rest.rest.now c.ended.invariant.1 c.ended.invariant.3 c.in_ok-rest.ensures.left;
   later = step.1;
   shallow = subst (λ z. stack_depth (plain_open c.replace.new.dest ∷ z) ≤ max MAX_DEPTH (suc (length z))) (sym new_outer)
-      (subst (λ z. stack_depth (z ∷ write (plain_open c.ended.top) (take (c.range-item.result.now.from - c.ended.at) (drop c.ended.at c.args.text.now)) ∷ plain_outer c.ended.outer.items) ≤ max MAX_DEPTH (suc (length (write (plain_open c.ended.top) (take (c.range-item.result.now.from - c.ended.at) (drop c.ended.at c.args.text.now)) ∷ plain_outer c.ended.outer.items)))) (sym new_top)
-      (open_shallow (plain_open c.ended.top) (plain_outer c.ended.outer.items) (take (c.range-item.result.now.from - c.ended.at) (drop c.ended.at c.args.text.now)) c.range-item.result.now c.ended.invariant.2));
+      (subst (λ z. stack_depth (z ∷ write (plain_open c.ended.top)
+      (take (c.range-item.result.now.from - c.ended.at)
+      (drop c.ended.at c.args.text.now)) ∷ plain_outer c.ended.outer.items) ≤ max MAX_DEPTH
+      (suc (length (write (plain_open c.ended.top)
+      (take (c.range-item.result.now.from - c.ended.at)
+      (drop c.ended.at c.args.text.now)) ∷ plain_outer c.ended.outer.items)))) (sym new_top)
+      (open_shallow (plain_open c.ended.top) (plain_outer c.ended.outer.items)
+      (take (c.range-item.result.now.from - c.ended.at) (drop c.ended.at c.args.text.now))
+      c.range-item.result.now c.ended.invariant.2));
 }
   where
     known : SpellsUnits (joined c.args.text.now) c.args.text.now
@@ -103,25 +120,43 @@ each-preserved c = record {
           absurd (omega (arith, h, w.ended-test.true)))
     ]
 
-    new_outer : plain_outer c.push.new.self.items ≡ write (plain_open c.ended.top) (take (c.range-item.result.now.from - c.ended.at) (drop c.ended.at c.args.text.now)) ∷ plain_outer c.ended.outer.items
+    new_outer : plain_outer c.push.new.self.items ≡ write (plain_open c.ended.top)
+        (take (c.range-item.result.now.from - c.ended.at)
+        (drop c.ended.at c.args.text.now)) ∷ plain_outer c.ended.outer.items
     new_outer = ap plain_outer c.in_ok-push.ensures.items ∙ outer_push c.ended-test.outer.items c.replace.result
         ∙ ap (λ z. z ∷ plain_outer c.ended-test.outer.items) (ap plain_open c.replace.ensures.value ∙ written)
         ∙ ap (λ z. write (plain_open c.ended.top) (take (c.range-item.result.now.from - c.ended.at) (drop c.ended.at c.args.text.now)) ∷ plain_outer z) ended.1
 
     new_top : plain_open c.replace.new.dest ≡ opened c.range-item.result.now
     new_top = ap plain_open c.replace.ensures.after
-        ∙ ap (λ z. record { from = c.range-item.result.now.from; to = c.range-item.result.now.to; name = z; kids = plain_all c.new-in-each.result.items }) (c.in_ok-bytes_of.ensures ∙ c.as_slice.ensures)
+        ∙ ap (λ z. record {
+          from = c.range-item.result.now.from;
+          to = c.range-item.result.now.to;
+          name = z;
+          kids = plain_all c.new-in-each.result.items;
+        }) (c.in_ok-bytes_of.ensures
+        ∙ c.as_slice.ensures)
         ∙ ap (λ z. record { from = c.range-item.result.now.from; to = c.range-item.result.now.to; name = c.range-item.result.now.name; kids = plain_all z }) c.new-in-each.ensures.items
 
-    step : IsAt c.args.root c.args.text.now (take c.each.range-index (seen c.args.sorted.now) ++ c.range-item.result.now ∷ []) (opened c.range-item.result.now) (write (plain_open c.ended.top) (take (c.range-item.result.now.from - c.ended.at) (drop c.ended.at c.args.text.now)) ∷ plain_outer c.ended.outer.items) c.range-item.result.now.from × AllByRecursion (λ x. c.range-item.result.now.from ≤ x.from) (drop (c.each.range-index + 1) (seen c.args.sorted.now))
-    step = next_at c.args.root c.args.text.now (take c.each.range-index (seen c.args.sorted.now)) (drop (c.each.range-index + 1) (seen c.args.sorted.now)) (plain_open c.ended.top) (plain_outer c.ended.outer.items) c.ended.at c.range-item.result.now c.ended.invariant.0 c.ended.invariant.1 ended.0
+    step : IsAt c.args.root c.args.text.now (take c.each.range-index (seen c.args.sorted.now)
+        ++ c.range-item.result.now ∷ []) (opened c.range-item.result.now)
+        (write (plain_open c.ended.top) (take (c.range-item.result.now.from - c.ended.at)
+        (drop c.ended.at c.args.text.now)) ∷ plain_outer c.ended.outer.items)
+        c.range-item.result.now.from × AllByRecursion (λ x. c.range-item.result.now.from ≤ x.from)
+        (drop (c.each.range-index + 1) (seen c.args.sorted.now))
+    step = next_at c.args.root c.args.text.now (take c.each.range-index (seen c.args.sorted.now))
+        (drop (c.each.range-index + 1) (seen c.args.sorted.now)) (plain_open c.ended.top)
+        (plain_outer c.ended.outer.items) c.ended.at c.range-item.result.now c.ended.invariant.0
+        c.ended.invariant.1 ended.0
         (subst (λ z. AllByRecursion (IsInsideText (length c.args.text.now)) z) split c.requires.inside) (subst AreSorted split c.requires.in_order) (subst NoneCrossLater split c.requires.none_cross)
 
 pub close-requires-in-Some-pop-clause-units : goal.close-requires-in-Some-pop-clause-units
 close-requires-in-Some-pop-clause-units c = rest_spells c.args.text.now (spells c.args.text.now c.bytes-rest.ensures.legal c.requires.no_close_mark) c.left.at c.left.rest.now c.left.invariant.2
 
 pub close-requires-in-Some-pop-clause-within : goal.close-requires-in-Some-pop-clause-within
-close-requires-in-Some-pop-clause-within c = rest_within c.args.text.now (spells c.args.text.now c.bytes-rest.ensures.legal c.requires.no_close_mark) c.left.at c.left.top.to c.left.rest.now c.left.invariant.2
+close-requires-in-Some-pop-clause-within c = rest_within c.args.text.now
+    (spells c.args.text.now c.bytes-rest.ensures.legal c.requires.no_close_mark) c.left.at
+    c.left.top.to c.left.rest.now c.left.invariant.2
     (at_most c.args.root c.args.text.now _ _ _ _ c.left.invariant.0).1
 
 pub left-preserved : goal.left-preserved
@@ -170,7 +205,9 @@ returns-then-len-ge-DEEPEST-2-clause-refused c =
     let l = outer_length c.each.outer.items in
     let k = c.each.outer.ok in
     too_deep c.args.root c.args.text.now (seen c.args.sorted.now) c.each.range-index (plain_open c.each.top) (plain_outer c.each.outer.items) c.each.at
-    c.each.invariant.is_at c.each.invariant.later c.requires.inside c.requires.in_order c.requires.none_cross (let b = c.if-len-ge-DEEPEST-2.true in let e = c.len-2.ensures in omega (arith, l, b, e, k))
+    c.each.invariant.is_at c.each.invariant.later c.requires.inside c.requires.in_order
+    c.requires.none_cross
+    (let b = c.if-len-ge-DEEPEST-2.true in let e = c.len-2.ensures in omega (arith, l, b, e, k))
 
 -- the root alone is left open, and has got the rest of the text
 pub record IsLast (root : List ℕ) (text : List (List ℕ)) (sorted : List Range) (f g : PlainOpen) (at : ℕ) : Type 0 where
@@ -206,7 +243,9 @@ returns-clause-shallow c = last_shallow c.args.root c.args.text.now (seen c.args
     ended = record {
       alone = subst (λ x. IsAt c.args.root c.args.text.now (seen c.args.sorted.now) (plain_open c.left.top) (plain_outer x) c.left.at) none c.left.invariant.0;
       written = c.in_ok-write.ensures.kids ∙ ap (λ z. write (plain_open c.left.top) (take (z - c.left.at) (units_in c.left.rest.now))) c.len-3.ensures.value
-          ∙ ap (write (plain_open c.left.top)) (rest_taken c.args.text.now (spells c.args.text.now c.bytes-rest.ensures.legal c.requires.no_close_mark) c.left.at (length c.args.text.now) c.left.rest.now c.left.invariant.2);
+          ∙ ap (write (plain_open c.left.top)) (rest_taken c.args.text.now
+          (spells c.args.text.now c.bytes-rest.ensures.legal c.requires.no_close_mark) c.left.at
+          (length c.args.text.now) c.left.rest.now c.left.invariant.2);
       shallow = subst (λ x. stack_depth (plain_open c.left.top ∷ plain_outer x) ≤ MAX_DEPTH) none c.left.invariant.1;
     }
 
@@ -220,6 +259,8 @@ returns-clause-built c = last c.args.root c.args.text.now (seen c.args.sorted.no
     ended = record {
       alone = subst (λ x. IsAt c.args.root c.args.text.now (seen c.args.sorted.now) (plain_open c.left.top) (plain_outer x) c.left.at) none c.left.invariant.0;
       written = c.in_ok-write.ensures.kids ∙ ap (λ z. write (plain_open c.left.top) (take (z - c.left.at) (units_in c.left.rest.now))) c.len-3.ensures.value
-          ∙ ap (write (plain_open c.left.top)) (rest_taken c.args.text.now (spells c.args.text.now c.bytes-rest.ensures.legal c.requires.no_close_mark) c.left.at (length c.args.text.now) c.left.rest.now c.left.invariant.2);
+          ∙ ap (write (plain_open c.left.top)) (rest_taken c.args.text.now
+          (spells c.args.text.now c.bytes-rest.ensures.legal c.requires.no_close_mark) c.left.at
+          (length c.args.text.now) c.left.rest.now c.left.invariant.2);
       shallow = subst (λ x. stack_depth (plain_open c.left.top ∷ plain_outer x) ≤ MAX_DEPTH) none c.left.invariant.1;
     }

@@ -15,7 +15,7 @@ use Rattle.pv_standoff.specs.Stacks.{BuildRefuses}
 use Rattle.pv_standoff.specs.declared.errors.NestError.{NestError}
 use Rattle.pv_standoff.specs.declared.errors.NestError.TheVariants as error
 use Rattle.pv_standoff.specs.Nested.{Nests, NestMeans, Refuses}
-use Rattle.pv_standoff.proofs.Sorted.{none_twice-permutation, all-permutation}
+use Rattle.pv_standoff.proofs.OneSortedOrder.{none_twice-permutation, all-permutation}
 use Rattle.pv_standoff.proofs.Exists.{one_nests}
 use Rattle.pv_standoff.proofs.nesting.root_of.Goals as goal
 
@@ -42,7 +42,9 @@ build-requires-clause-inside c =
     subst (λ z. AllByRecursion (IsInsideText (length c.args.text.now)) (seen z)) (sym c.as_slice-3.ensures.value)
     (all-permutation (IsInsideText (length c.args.text.now)) c.args.ranges.now (seen c.in_ok-sorted.sorted.items) c.in_ok-sorted.ensures.permutation i)
 
-over_root : (root : List ℕ) (text : List (List ℕ)) (ranges sorted : List Range) (t : Tree Mark) → IsSortedFrom ranges sorted → IsRootOver root text sorted t → StandsForRanges root text ranges (document_of_root t)
+over_root : (root : List ℕ) (text : List (List ℕ)) (ranges sorted : List Range) (t : Tree Mark) →
+    IsSortedFrom ranges sorted → IsRootOver root text sorted t →
+    StandsForRanges root text ranges (document_of_root t)
 over_root root text ranges sorted t s b = record {
   kids = b.kids;
   is_document = λ i. document_of_root (b.is_root i);

@@ -1,7 +1,7 @@
 use Rattle.std.proofs.Common.{◌∙◌, ap, subst}
 use Rattle.pv_standoff.specs.Stacks.{AreStillOpen}
 use Rattle.pv_standoff.specs.PlainForms.{innermost_first}
-use Rattle.pv_standoff.proofs.Crossing.{covers_pop, stack_push}
+use Rattle.pv_standoff.proofs.FirstCrossing.{covers_pop, stack_push}
 use Rattle.pv_standoff.proofs.refusing.innermost.Goals as goal
 
 pub ended-preserved : goal.ended-preserved

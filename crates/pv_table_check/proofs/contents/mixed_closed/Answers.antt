@@ -12,7 +12,9 @@ pub returns-then-not-nothing_holds : goal.returns-then-not-nothing_holds
 returns-then-not-nothing_holds c = (
   λ t. absurd cc,
   λ h.
-      let held = mixed_from c.listed_or_not_law.ensures (dtd_in c.args.tested.now) (word_in c.args.tested.now) c.args.tested.now.entries.now c.requires.sound.over c.args.id.0 c.requires.mixed.0 c.requires.mixed.1 h in
+      let held = mixed_from c.listed_or_not_law.ensures (dtd_in c.args.tested.now)
+      (word_in c.args.tested.now) c.args.tested.now.entries.now c.requires.sound.over
+      c.args.id.0 c.requires.mixed.0 c.requires.mixed.1 h in
       let t = c.nothing_holds.ensures.1 (nothing_from c.args.tested.now (content_site c.args.id.0) held.nothing) in let f = c.if-not-nothing_holds.true in cc,
 )
 
@@ -20,7 +22,9 @@ pub returns-then-not-text_holds : goal.returns-then-not-text_holds
 returns-then-not-text_holds c = (
   λ t. absurd cc,
   λ h.
-      let held = mixed_from c.listed_or_not_law.ensures (dtd_in c.args.tested.now) (word_in c.args.tested.now) c.args.tested.now.entries.now c.requires.sound.over c.args.id.0 c.requires.mixed.0 c.requires.mixed.1 h in
+      let held = mixed_from c.listed_or_not_law.ensures (dtd_in c.args.tested.now)
+      (word_in c.args.tested.now) c.args.tested.now.entries.now c.requires.sound.over
+      c.args.id.0 c.requires.mixed.0 c.requires.mixed.1 h in
       let t = c.text_holds.ensures.1 held.texts in let f = c.if-not-text_holds.true in cc,
 )
 

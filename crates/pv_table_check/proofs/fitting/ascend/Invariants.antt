@@ -1,5 +1,5 @@
 use Rattle.pv_tables.specs.Tables.{Precedes}
-use Rattle.pv_table_check.proofs.Ascending.{AscendUpTo}
+use Rattle.pv_table_check.proofs.AscendingLists.{AscendUpTo}
 use Rattle.pv_table_check.proofs.fitting.ascend.Given as goal
 
 abbrev pub invariant-loop-place : goal.invariant-loop-place

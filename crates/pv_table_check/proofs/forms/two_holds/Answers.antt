@@ -16,5 +16,7 @@ returns c =
     let found = c.entries_of.result.now in
     let like = c.entries_of.ensures.like in (
       λ t. all_two c.listed_or_not_law.ensures es o (plain_site c.args.left) (plain_site c.args.second) c.args.outer c.args.inner (least_entry c.args.first 0) found like (c.sums_hold.ensures.0 t),
-      λ w. c.sums_hold.ensures.1 (λ k d lt. two_within c.listed_or_not_law.ensures es o (plain_site c.args.left) (plain_site c.args.second) c.args.outer c.args.inner (least_entry c.args.first 0) found like w (get_or found k d) (item_contained found k d lt)),
+      λ w. c.sums_hold.ensures.1 (λ k d lt. two_within c.listed_or_not_law.ensures es o
+          (plain_site c.args.left) (plain_site c.args.second) c.args.outer c.args.inner
+          (least_entry c.args.first 0) found like w (get_or found k d) (item_contained found k d lt)),
     )

@@ -17,7 +17,9 @@ loop-entry-preserved c =
     let is : e ≡ get_or es n e = sym (get_or_default es n e no_entry lt) in
     elim c.if-not-is_no_more_at.branch [
       | then-not-is_no_more_at+in_ok-push w ↦ rw (w.found-is, w.in_ok-push.ensures.items) (put es n c.loop-entry.found.items c.loop-entry.invariant e is lt)
-      | else-not-is_no_more_at w ↦ rw w.found-is (told es n c.loop-entry.found.items c.loop-entry.invariant e is lt (rw c.as_slice.ensures.value at (c.is_no_more_at.ensures w.if-not-is_no_more_at.false)))
+      | else-not-is_no_more_at w ↦ rw w.found-is (told es n c.loop-entry.found.items
+          c.loop-entry.invariant e is lt (rw c.as_slice.ensures.value at
+          (c.is_no_more_at.ensures w.if-not-is_no_more_at.false)))
     ]
 
 pub returns : goal.returns

@@ -7,13 +7,28 @@ pub returns-then-not-one_holds : goal.returns-then-not-one_holds
 returns-then-not-one_holds c = (
   λ t. absurd cc,
   λ h.
-      let held = plus_from c.listed_or_not_law.ensures (dtd_in c.args.tested.now) (word_in c.args.tested.now) c.args.tested.now.entries.now c.requires.sound.over c.args.number c.requires.plus.0 c.requires.plus.1 h in
-      let t = c.one_holds.ensures.1 (one_outer c.listed_or_not_law.ensures (dtd_in c.args.tested.now) (word_in c.args.tested.now) c.args.tested.now.entries.now c.requires.sound.over c.args.number (c.args.number + 1) (omega arith) held.0) in let f = c.if-not-one_holds.true in cc,
+      let held = plus_from c.listed_or_not_law.ensures (dtd_in c.args.tested.now)
+      (word_in c.args.tested.now) c.args.tested.now.entries.now c.requires.sound.over
+      c.args.number c.requires.plus.0 c.requires.plus.1 h in
+      let t = c.one_holds.ensures.1 (one_outer c.listed_or_not_law.ensures
+      (dtd_in c.args.tested.now) (word_in c.args.tested.now) c.args.tested.now.entries.now
+      c.requires.sound.over c.args.number (c.args.number + 1) (omega arith) held.0) in let f =
+      c.if-not-one_holds.true in cc,
 )
 
 pub returns : goal.returns
 returns c = (
-  λ t. plus_to c.listed_or_not_law.ensures (dtd_in c.args.tested.now) (word_in c.args.tested.now) c.args.tested.now.entries.now c.requires.sound.over c.args.number c.requires.plus.0 c.requires.plus.1 (one_inner c.listed_or_not_law.ensures (dtd_in c.args.tested.now) (word_in c.args.tested.now) c.args.tested.now.entries.now c.requires.sound.over c.args.number (c.args.number + 1) (omega arith) (c.one_holds.ensures.0 c.if-not-one_holds.false))
-      (two_inner c.listed_or_not_law.ensures (dtd_in c.args.tested.now) (word_in c.args.tested.now) c.args.tested.now.entries.now c.requires.sound.over c.args.number (c.args.number + 1) (omega arith) true (c.two_holds.ensures.0 t)),
-  λ h. c.two_holds.ensures.1 (two_outer c.listed_or_not_law.ensures (dtd_in c.args.tested.now) (word_in c.args.tested.now) c.args.tested.now.entries.now c.requires.sound.over c.args.number (c.args.number + 1) (omega arith) true (plus_from c.listed_or_not_law.ensures (dtd_in c.args.tested.now) (word_in c.args.tested.now) c.args.tested.now.entries.now c.requires.sound.over c.args.number c.requires.plus.0 c.requires.plus.1 h).1),
+  λ t. plus_to c.listed_or_not_law.ensures (dtd_in c.args.tested.now) (word_in c.args.tested.now)
+      c.args.tested.now.entries.now c.requires.sound.over c.args.number c.requires.plus.0
+      c.requires.plus.1 (one_inner c.listed_or_not_law.ensures (dtd_in c.args.tested.now)
+      (word_in c.args.tested.now) c.args.tested.now.entries.now c.requires.sound.over c.args.number
+      (c.args.number + 1) (omega arith) (c.one_holds.ensures.0 c.if-not-one_holds.false))
+      (two_inner c.listed_or_not_law.ensures (dtd_in c.args.tested.now) (word_in c.args.tested.now)
+      c.args.tested.now.entries.now c.requires.sound.over c.args.number (c.args.number + 1)
+      (omega arith) true (c.two_holds.ensures.0 t)),
+  λ h. c.two_holds.ensures.1 (two_outer c.listed_or_not_law.ensures (dtd_in c.args.tested.now)
+      (word_in c.args.tested.now) c.args.tested.now.entries.now c.requires.sound.over c.args.number
+      (c.args.number + 1) (omega arith) true (plus_from c.listed_or_not_law.ensures
+      (dtd_in c.args.tested.now) (word_in c.args.tested.now) c.args.tested.now.entries.now
+      c.requires.sound.over c.args.number c.requires.plus.0 c.requires.plus.1 h).1),
 )

@@ -9,13 +9,20 @@ use Rattle.pv_table_check.proofs.particles.rest_closed.Goals as goal
 
 pub returns-in_default : goal.returns-in_default
 returns-in_default c = (
-  λ t. outside_closed c.listed_or_not_law.ensures (dtd_in c.args.tested.now) (word_in c.args.tested.now) c.args.tested.now.entries.now c.requires.over c.args.number (no_rest (dtd_in c.args.tested.now) c.args.number (no_flat_part c.args.tested.now c.requires.flat c.args.number c.in_default.ensures)),
+  λ t. outside_closed c.listed_or_not_law.ensures (dtd_in c.args.tested.now)
+      (word_in c.args.tested.now) c.args.tested.now.entries.now c.requires.over c.args.number
+      (no_rest (dtd_in c.args.tested.now) c.args.number (no_flat_part c.args.tested.now
+      c.requires.flat c.args.number c.in_default.ensures)),
   λ h. refl,
 )
 
 pub returns-in-Outside : goal.returns-in-Outside
 returns-in-Outside c = (
-  λ t. outside_closed c.listed_or_not_law.ensures (dtd_in c.args.tested.now) (word_in c.args.tested.now) c.args.tested.now.entries.now c.requires.over c.args.number (outside_at (dtd_in c.args.tested.now) c.args.number c.in-Some.part (flat_part c.args.tested.now c.requires.flat c.args.number c.in-Some.part c.in-Some.ensures) c.in-Outside.is),
+  λ t. outside_closed c.listed_or_not_law.ensures (dtd_in c.args.tested.now)
+      (word_in c.args.tested.now) c.args.tested.now.entries.now c.requires.over c.args.number
+      (outside_at (dtd_in c.args.tested.now) c.args.number c.in-Some.part
+      (flat_part c.args.tested.now c.requires.flat c.args.number c.in-Some.part c.in-Some.ensures)
+      c.in-Outside.is),
   λ h. refl,
 )
 

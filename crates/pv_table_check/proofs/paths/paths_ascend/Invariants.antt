@@ -1,6 +1,6 @@
 use Rattle.pv_tree.specs.PathOrder.{IsPathBefore}
 use Rattle.pv_tables.specs.declared.tables.Table.{Table}
-use Rattle.pv_table_check.proofs.Ascending.{AscendUpTo}
+use Rattle.pv_table_check.proofs.AscendingLists.{AscendUpTo}
 use Rattle.pv_table_check.proofs.paths.paths_ascend.Given as goal
 
 abbrev pub invariant-loop-place : goal.invariant-loop-place

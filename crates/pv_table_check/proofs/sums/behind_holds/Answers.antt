@@ -11,10 +11,14 @@ returns-then-not-is_within_both c =
     let one = c.args.one.now in
     let found = c.row_of-found.result.now in
     let e = get_or found c.loop-two.two-index no_entry in
-    let same = same_value c.listed_or_not_law.ensures ls c.requires.lefts false (least_entry c.args.left one.from) c.row_of-row.result.now c.row_of-row.ensures.like c.row_of-row.ensures.ascend one.from e.to (λ f. refl) in (
+    let same = same_value c.listed_or_not_law.ensures ls c.requires.lefts false
+    (least_entry c.args.left one.from) c.row_of-row.result.now c.row_of-row.ensures.like
+    c.row_of-row.ensures.ascend one.from e.to (λ f. refl) in (
       λ t. absurd cc,
       λ w.
-          let within = behind_within c.listed_or_not_law.ensures es c.requires.seconds ls c.requires.lefts (plain_site c.args.left) one c.args.inner (least_entry c.args.second one.to) refl found c.row_of-found.ensures.like w e
+          let within = behind_within c.listed_or_not_law.ensures es c.requires.seconds ls
+          c.requires.lefts (plain_site c.args.left) one c.args.inner
+          (least_entry c.args.second one.to) refl found c.row_of-found.ensures.like w e
           (item_contained found c.loop-two.two-index no_entry c.loop-two-test.true) in
           let t = c.is_within_both.ensures.1 (λ more. let x = within more in omega (arith, same, x)) in
           let f = c.if-not-is_within_both.true in cc,
@@ -26,10 +30,14 @@ returns c =
     let es = c.args.seconds.now in
     let one = c.args.one.now in
     let found = c.row_of-found.result.now in (
-      λ t. all_behind c.listed_or_not_law.ensures es c.requires.seconds ls c.requires.lefts (plain_site c.args.left) one c.args.inner (least_entry c.args.second one.to) refl found c.row_of-found.ensures.like
+      λ t. all_behind c.listed_or_not_law.ensures es c.requires.seconds ls c.requires.lefts
+          (plain_site c.args.left) one c.args.inner (least_entry c.args.second one.to) refl found
+          c.row_of-found.ensures.like
           (λ k d lt more.
           let h = c.loop-two.invariant k d (let e = c.loop-two-test.false in omega arith) more in
-          let same = same_value c.listed_or_not_law.ensures ls c.requires.lefts false (least_entry c.args.left one.from) c.row_of-row.result.now c.row_of-row.ensures.like c.row_of-row.ensures.ascend one.from (get_or found k d).to (λ f. refl) in
+          let same = same_value c.listed_or_not_law.ensures ls c.requires.lefts false
+          (least_entry c.args.left one.from) c.row_of-row.result.now c.row_of-row.ensures.like
+          c.row_of-row.ensures.ascend one.from (get_or found k d).to (λ f. refl) in
           omega (arith, same, h)),
       λ w. refl,
     )

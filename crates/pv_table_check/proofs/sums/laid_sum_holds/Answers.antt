@@ -9,14 +9,18 @@ row_holds-requires-clause-long c =
     let one = c.args.one.now in
     let span = c.requires.span in let x = span.0 in let y = span.1 in let l = c.requires.lefts.long in let s = c.requires.seconds.long in
     let a = (row_at c.args.entries.now (plain_site c.args.pair.now.left) c.args.most c.args.lefts.now c.requires.lefts one.from c.index-lefts-one.result c.index-lefts-one.is (omega arith)).long in
-    let b = (row_at c.args.entries.now (plain_site c.args.pair.now.second) c.args.most c.args.seconds.now c.requires.seconds one.to c.index-seconds-one.result c.index-seconds-one.is (omega arith)).long in
+    let b = (row_at c.args.entries.now (plain_site c.args.pair.now.second) c.args.most
+    c.args.seconds.now c.requires.seconds one.to c.index-seconds-one.result
+    c.index-seconds-one.is (omega arith)).long in
     omega arith
 
 pub row_holds-requires-clause-some : goal.row_holds-requires-clause-some
 row_holds-requires-clause-some c =
     let one = c.args.one.now in
     let span = c.requires.span in let x = span.0 in let y = span.1 in let s = c.requires.seconds.long in
-    let b = (row_at c.args.entries.now (plain_site c.args.pair.now.second) c.args.most c.args.seconds.now c.requires.seconds one.to c.index-seconds-one.result c.index-seconds-one.is (omega arith)).long in
+    let b = (row_at c.args.entries.now (plain_site c.args.pair.now.second) c.args.most
+    c.args.seconds.now c.requires.seconds one.to c.index-seconds-one.result
+    c.index-seconds-one.is (omega arith)).long in
     omega arith
 
 pub returns : goal.returns

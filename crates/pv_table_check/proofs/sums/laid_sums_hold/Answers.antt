@@ -4,7 +4,9 @@ use Rattle.pv_table_check.proofs.sums.laid_sums_hold.Goals as goal
 
 pub laid_sum_holds-requires-clause-span : goal.laid_sum_holds-requires-clause-span
 laid_sum_holds-requires-clause-span c =
-    c.requires.over.span (get_or c.args.firsts.now c.loop-one.one-index no_entry) (c.requires.firsts (get_or c.args.firsts.now c.loop-one.one-index no_entry) (item_contained c.args.firsts.now c.loop-one.one-index no_entry c.loop-one-test.true))
+    c.requires.over.span (get_or c.args.firsts.now c.loop-one.one-index no_entry) (c.requires.firsts
+    (get_or c.args.firsts.now c.loop-one.one-index no_entry) (item_contained c.args.firsts.now
+    c.loop-one.one-index no_entry c.loop-one-test.true))
 
 pub returns-then-not-laid_sum_holds : goal.returns-then-not-laid_sum_holds
 returns-then-not-laid_sum_holds c = (

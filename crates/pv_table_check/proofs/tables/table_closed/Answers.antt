@@ -24,6 +24,13 @@ pub returns : goal.returns
 returns c =
     let e : map plain_token c.as_slice.result.now ≡ word_of (plain_dtd c.args.dtd.now) (forest c.in-Some.list.kids.now) = ap (λ x. map plain_token x) c.as_slice.ensures ∙ c.in_ok-tokens.ensures in (
       λ t. let k = c.entries_closed.ensures.0 t in
-          table_to (plain_dtd c.args.dtd.now) c.args.root.now (plain_doc c.args.doc.now) c.args.table.now (plain_site c.in-Some.list.site) (forest c.in-Some.list.kids.now) c.in-Some.ensures.found (map plain_token c.as_slice.result.now) e c.as_slice-2.result.now c.as_slice-2.ensures k.0 k.1,
-      λ h. c.entries_closed.ensures.1 (table_from (plain_dtd c.args.dtd.now) c.args.root.now (plain_doc c.args.doc.now) c.args.table.now (plain_site c.in-Some.list.site) (forest c.in-Some.list.kids.now) c.in-Some.ensures.found (map plain_token c.as_slice.result.now) e c.as_slice-2.result.now c.as_slice-2.ensures c.list_at_law.ensures h),
+          table_to (plain_dtd c.args.dtd.now) c.args.root.now (plain_doc c.args.doc.now)
+          c.args.table.now (plain_site c.in-Some.list.site) (forest c.in-Some.list.kids.now)
+          c.in-Some.ensures.found (map plain_token c.as_slice.result.now) e
+          c.as_slice-2.result.now c.as_slice-2.ensures k.0 k.1,
+      λ h. c.entries_closed.ensures.1 (table_from (plain_dtd c.args.dtd.now) c.args.root.now
+          (plain_doc c.args.doc.now) c.args.table.now (plain_site c.in-Some.list.site)
+          (forest c.in-Some.list.kids.now) c.in-Some.ensures.found
+          (map plain_token c.as_slice.result.now) e c.as_slice-2.result.now c.as_slice-2.ensures
+          c.list_at_law.ensures h),
     )

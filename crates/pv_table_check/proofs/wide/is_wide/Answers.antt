@@ -6,7 +6,7 @@ use Rattle.pv_tree.specs.PlainDocs.{plain_doc}
 use Rattle.pv_tree.specs.PlainForms.{forest, plain_all}
 use Rattle.pv_tree.specs.Words.{word_of}
 use Rattle.pv_missing.specs.Widths.{FitsWeights}
-use Rattle.pv_table_check.proofs.Placed.{kids_at, no_kids, some_list}
+use Rattle.pv_table_check.proofs.ListPlaces.{kids_at, no_kids, some_list}
 use Rattle.pv_table_check.proofs.TableParts.{long_as}
 use Rattle.pv_table_check.proofs.wide.is_wide.Goals as goal
 

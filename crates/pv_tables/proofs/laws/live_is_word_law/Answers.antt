@@ -1,4 +1,4 @@
-use Rattle.pv_tables.proofs.Summing.{same_word}
+use Rattle.pv_tables.proofs.WeightSums.{same_word}
 use Rattle.pv_tables.proofs.laws.live_is_word_law.Goals as goal
 
 pub returns : goal.returns

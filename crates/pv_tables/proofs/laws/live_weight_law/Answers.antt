@@ -1,4 +1,4 @@
-use Rattle.pv_tables.proofs.Summing.{live_weight}
+use Rattle.pv_tables.proofs.WeightSums.{live_weight}
 use Rattle.pv_tables.proofs.laws.live_weight_law.Goals as goal
 
 pub returns : goal.returns

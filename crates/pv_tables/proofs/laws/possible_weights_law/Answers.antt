@@ -1,4 +1,4 @@
-use Rattle.pv_tables.proofs.Summing.{possible_weights}
+use Rattle.pv_tables.proofs.WeightSums.{possible_weights}
 use Rattle.pv_tables.proofs.laws.possible_weights_law.Goals as goal
 
 pub returns : goal.returns

@@ -8,7 +8,9 @@ use Rattle.pv_tree.proofs.validity.first_invalid.Goals as goal
 
 pub returns-clause-valid : goal.returns-clause-valid
 returns-clause-valid c =
-    IfOk-weaker c.first_list.result _ _ (λ found h. none_is_valid (plain_dtd c.args.dtd.now) c.args.root.now (plain_doc c.args.doc.now) found c.args.doc.now.units (h c.args.root.now refl)) c.first_list.ensures
+    IfOk-weaker c.first_list.result _ _ (λ found h. none_is_valid (plain_dtd c.args.dtd.now)
+    c.args.root.now (plain_doc c.args.doc.now) found c.args.doc.now.units
+    (h c.args.root.now refl)) c.first_list.ensures
 
 found_one : (found : Option (List ℕ)) (A : Type 0) (P : List ℕ → Type 0) → MatchOption found A P → IfSome found P
 found_one (Some path) A P h = h

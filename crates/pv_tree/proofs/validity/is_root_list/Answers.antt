@@ -4,7 +4,9 @@ use Rattle.pv_tree.specs.PlainForms.{forest, plain}
 use Rattle.pv_tree.specs.declared.nodes.Node.{Node}
 use Rattle.pv_tree.proofs.validity.is_root_list.Goals as goal
 
-one_kid : (root : List ℕ) (kids : List Node) (node : Node) (is : Bool) → 1 ≤ length kids → length kids < 2 → node ≡ get_or kids 0 node → IsTrue is ↔ IsRootElement root (plain node) → IsTrue is ↔ IsRootList root (forest kids)
+one_kid : (root : List ℕ) (kids : List Node) (node : Node) (is : Bool) → 1 ≤ length kids →
+    length kids < 2 → node ≡ get_or kids 0 node → IsTrue is ↔ IsRootElement root (plain node) →
+    IsTrue is ↔ IsRootList root (forest kids)
 one_kid root [] node is some few e h = absurd (omega (arith, some))
 one_kid root (kid ∷ []) node is some few e h = let t = subst (λ (n : Node). IsTrue is ↔ IsRootElement root (plain n)) e h in (λ is. (t.0 is, refl), λ is. t.1 is.0)
 one_kid root (kid ∷ next ∷ kids) node is some few e h = absurd (omega (arith, few))

@@ -1,5 +1,5 @@
 use Rattle.std.proofs.Common.{◌+◌, arith}
-use Rattle.pv_rematch.proofs.Changing.{number_after}
+use Rattle.pv_rematch.proofs.ChangedNumbers.{number_after}
 use Rattle.pv_productive.specs.PlainForms.{dtd_of}
 use Rattle.pv_missing.specs.LiveWords.{IsProductiveToken}
 use Rattle.pv_verdicts.proofs.counts.unproductive_after.Goals as goal

@@ -1,5 +1,5 @@
 use Rattle.std.proofs.Common.{arith, sym, true≢false, ◌∙◌}
-use Rattle.pv_rematch.proofs.Changing.{next_with, next_without}
+use Rattle.pv_rematch.proofs.ChangedNumbers.{next_with, next_without}
 use Rattle.pv_productive.specs.PlainForms.{dtd_of}
 use Rattle.pv_missing.specs.LiveWords.{IsProductiveToken}
 use Rattle.pv_verdicts.proofs.counts.unproductive_in.Goals as goal

@@ -1,8 +1,8 @@
 use Rattle.std.proofs.Common.{◌+◌, arith}
-use Rattle.pv_rematch.proofs.Changing.{number_after}
+use Rattle.pv_rematch.proofs.ChangedNumbers.{number_after}
 use Rattle.pv_productive.specs.PlainForms.{dtd_of}
 use Rattle.pv_verdicts.specs.Counting.{IsTakenToken}
-use Rattle.pv_verdicts.proofs.Answering.{told_of}
+use Rattle.pv_verdicts.proofs.CountAnswers.{told_of}
 use Rattle.pv_verdicts.proofs.counts.untaken_after.Goals as goal
 
 pub overflow_sub-result : goal.overflow_sub-result

@@ -1,6 +1,6 @@
 use Rattle.std.proofs.lemmas.Bool.{eq-eqb, eqb-true}
 use Rattle.pv_productive.specs.PlainForms.{dtd_of}
-use Rattle.pv_verdicts.proofs.Answering.{free_derives, told_of}
+use Rattle.pv_verdicts.proofs.CountAnswers.{free_derives, told_of}
 use Rattle.pv_verdicts.proofs.deciding.derives.Goals as goal
 
 pub returns-in-Some : goal.returns-in-Some

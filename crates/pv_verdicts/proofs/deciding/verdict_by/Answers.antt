@@ -1,13 +1,13 @@
 use Rattle.std.proofs.Common.{arith, map, sym, true≢false, ◌∙◌}
 use Rattle.pv_dtd.proofs.Proper.{proper}
-use Rattle.pv_missing.proofs.Judging.{content_possible_judged, content_valid_judged}
-use Rattle.pv_missing.proofs.Judging.{judged_impossible, unproductive_judged}
+use Rattle.pv_missing.proofs.VerdictBySite.{content_possible_judged, content_valid_judged}
+use Rattle.pv_missing.proofs.VerdictBySite.{judged_impossible, unproductive_judged}
 use Rattle.pv_missing.specs.LiveWords.{IsProductiveToken}
 use Rattle.pv_model.specs.PlainForms.{plain_model, plain_token}
 use Rattle.pv_productive.specs.PlainForms.{dtd_of}
 use Rattle.pv_rules.specs.Sites.{content_site}
-use Rattle.pv_verdicts.proofs.Answering.{possible_answer}
-use Rattle.pv_rematch.proofs.Counting.{all_of_none, none_of_all}
+use Rattle.pv_verdicts.proofs.CountAnswers.{possible_answer}
+use Rattle.pv_rematch.proofs.TokenNumbers.{all_of_none, none_of_all}
 use Rattle.pv_verdicts.proofs.deciding.verdict_by.Goals as goal
 
 pub returns-then-counts-gt0 : goal.returns-then-counts-gt0

@@ -1,5 +1,5 @@
 use Rattle.std.proofs.Common.{◌-◌, ◌+◌, length}
-use Rattle.pv_verdicts.proofs.Differing.{ends_behind, put_back, same_back}
+use Rattle.pv_verdicts.proofs.ListDifferences.{ends_behind, put_back, same_back}
 use Rattle.pv_verdicts.proofs.differences.change_between.Goals as goal
 
 pub returns-clause-before : goal.returns-clause-before

@@ -1,7 +1,7 @@
 use Rattle.std.proofs.Common.{◌∙◌, ◌+◌, ◌-◌, ◌++◌, ◌≡◌, ap, arith, length, length-append, refl}
 use Rattle.std.proofs.Common.{vec_len}
 use Rattle.std.proofs.lemmas.Slice.{pushed}
-use Rattle.pv_verdicts.proofs.Following.{exchanged}
+use Rattle.pv_verdicts.proofs.ReplacedParts.{exchanged}
 use Rattle.pv_verdicts.proofs.last.exchange.Goals as goal
 
 pub returns-clause-items : goal.returns-clause-items

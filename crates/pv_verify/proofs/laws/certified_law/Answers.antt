@@ -1,4 +1,4 @@
-use Rattle.pv_verify.proofs.Certified.{accepted_is_least}
+use Rattle.pv_verify.proofs.LeastByTests.{accepted_is_least}
 use Rattle.pv_verify.proofs.laws.certified_law.Goals as goal
 
 pub returns : goal.returns

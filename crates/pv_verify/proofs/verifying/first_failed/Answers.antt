@@ -58,7 +58,9 @@ returns-then-not-branch-2 c =
     let is-valid = c.in_ok-is_valid.ensures read.body read.is_text in
     let valid = is-valid.0 c.if-not-branch.false in
     let closes = c.in_ok-tables_closed.ensures in
-    at-closure g root doc pack read.body text marks kept valid (λ t. not-so (closes.1 (subst (λ ts. AreClosedTables g root (lists_of doc) ts) (sym c.as_slice-tables.ensures) t)) c.if-not-branch-2.true)
+    at-closure g root doc pack read.body text marks kept valid
+    (λ t. not-so (closes.1 (subst (λ ts. AreClosedTables g root (lists_of doc) ts)
+    (sym c.as_slice-tables.ensures) t)) c.if-not-branch-2.true)
 
 pub returns-then-not-branch-3 : goal.returns-then-not-branch-3
 returns-then-not-branch-3 c =

@@ -20,4 +20,6 @@ returns-in_err-number-clause-line c =
 
 pub returns-then-most-number-clause-line : goal.returns-then-most-number-clause-line
 returns-then-most-number-clause-line c =
-    past-number-line c.args.word.now c.args.most c.args.bytes.now c.in_ok-digits.digits.now c.in_ok-digits.rest.now c.in_ok-number.number c.requires (omega arith) c.in_ok-digits.ensures.line c.in_ok-number.ensures c.if-most-number.true
+    past-number-line c.args.word.now c.args.most c.args.bytes.now c.in_ok-digits.digits.now
+    c.in_ok-digits.rest.now c.in_ok-number.number c.requires (omega arith)
+    c.in_ok-digits.ensures.line c.in_ok-number.ensures c.if-most-number.true

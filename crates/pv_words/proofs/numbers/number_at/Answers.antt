@@ -23,7 +23,9 @@ returns-then-first-ne0 c =
     let front = cons_of bytes c.in-len1-up.len_at_least in
     let is = c.in_ok-first.ensures in
     let some : 0 < d = omega (arith, c.if-first-ne0.true) in
-    match_same c.go_on.result ((n : ℕ) (behind : List ℕ) → GoesOnTo d rest n behind → ⊥) ((n : ℕ) (behind : List ℕ) → IsNumberAt bytes n behind → ⊥) (λ r. GoesOnTo d rest r.0 r.1.now) (λ r. IsNumberAt bytes r.0 r.1.now)
+    match_same c.go_on.result ((n : ℕ) (behind : List ℕ) → GoesOnTo d rest n behind →
+    ⊥) ((n : ℕ) (behind : List ℕ) → IsNumberAt bytes n behind →
+    ⊥) (λ r. GoesOnTo d rest r.0 r.1.now) (λ r. IsNumberAt bytes r.0 r.1.now)
     (λ none n behind a. none n behind (to-first bytes b d rest n behind front is.0 is.1 a)) (λ r g. from-first bytes b d rest r.0 r.1.now front is.0 some is.1 g) c.go_on.ensures
 
 pub returns-then-not-begins_no_digit : goal.returns-then-not-begins_no_digit
@@ -37,4 +39,6 @@ pub returns : goal.returns
 returns c =
     let bytes = c.args.bytes.now in
     let zero : c.in_ok-first.first ≡ 0 = omega (arith, c.if-first-ne0.false) in
-    zero-at bytes (get_or bytes 0 0) c.in_ok-first.first (take (length bytes - 1) (drop 1 bytes)) (cons_of bytes c.in-len1-up.len_at_least) c.in_ok-first.ensures.0 zero (c.begins_no_digit.ensures.0 c.if-not-begins_no_digit.false)
+    zero-at bytes (get_or bytes 0 0) c.in_ok-first.first (take (length bytes - 1) (drop 1 bytes))
+    (cons_of bytes c.in-len1-up.len_at_least) c.in_ok-first.ensures.0 zero
+    (c.begins_no_digit.ensures.0 c.if-not-begins_no_digit.false)

@@ -14,4 +14,6 @@ returns-then-not-is_empty c =
 
 pub returns : goal.returns
 returns c =
-    spelled-alone c.args.word.now c.in_ok-number.number c.in_ok-number.rest.now c.in_ok-number.ensures (nil_from_length c.in_ok-number.rest.now (eqb-true _ 0 (sym c.is_empty.ensures ∙ c.if-not-is_empty.false)))
+    spelled-alone c.args.word.now c.in_ok-number.number c.in_ok-number.rest.now
+    c.in_ok-number.ensures (nil_from_length c.in_ok-number.rest.now
+    (eqb-true _ 0 (sym c.is_empty.ensures ∙ c.if-not-is_empty.false)))

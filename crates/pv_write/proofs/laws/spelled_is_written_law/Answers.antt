@@ -1,4 +1,4 @@
-use Rattle.pv_write.proofs.Spelled.{doc_text-spelled}
+use Rattle.pv_write.proofs.WrittenTexts.{doc_text-spelled}
 use Rattle.pv_write.proofs.laws.spelled_is_written_law.Goals as goal
 
 pub returns : goal.returns

@@ -2,7 +2,7 @@ use Rattle.std.proofs.Common.{◌≡◌, ◌∙◌, arith}
 use Rattle.std.proofs.lemmas.Grind.{common_steps}
 use Rattle.pv_tree.specs.PlainDocs.{plain_doc}
 use Rattle.pv_write.specs.Text.{doc_text}
-use Rattle.pv_write.proofs.Spelled.{doc_text-spelled}
+use Rattle.pv_write.proofs.WrittenTexts.{doc_text-spelled}
 use Rattle.pv_write.proofs.Views.{view_kept}
 use Rattle.pv_write.proofs.writing.doc_bytes.Goals as goal
 

@@ -18,5 +18,7 @@ pub returns-in-Impossible : goal.returns-in-Impossible
 returns-in-Impossible c = λ root g doc tells.
     let path = c.in-Impossible.path in
     let at_path = rw c.in-Impossible.is at tells in
-    let told : RefusesWith (λ r. r ≡ with_line Negative (codes "no impossible " ++ path_text path)) c.refuse_path-in-Impossible.result = rw c.places-in-Impossible.ensures at c.refuse_path-in-Impossible.ensures in
+    let told : RefusesWith (λ r. r ≡ with_line Negative (codes "no impossible " ++ path_text path))
+    c.refuse_path-in-Impossible.result = rw c.places-in-Impossible.ensures at
+    c.refuse_path-in-Impossible.ensures in
     stops_as (λ r. r ≡ with_line Negative (codes "no impossible " ++ path_text path)) (TellsNothing root g doc) c.refuse_path-in-Impossible.result (λ r is. is_impossible path at_path is) told

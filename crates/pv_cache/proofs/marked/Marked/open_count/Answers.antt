@@ -2,7 +2,7 @@ use Rattle.std.proofs.Common.{subst}
 use Rattle.pv_tree.specs.PlainDocs.{plain_doc}
 use Rattle.pv_cache.specs.Moves.{HasOpen}
 use Rattle.pv_cache.specs.Stamps.{StampedDoc}
-use Rattle.pv_cache.proofs.Moved.{open_stamps}
+use Rattle.pv_cache.proofs.StampMoves.{open_stamps}
 use Rattle.pv_cache.proofs.marked.Marked.open_count.Goals as goal
 
 pub returns : goal.returns

@@ -9,7 +9,7 @@ use Rattle.pv_cache.specs.Moves.{IsReverted}
 use Rattle.pv_cache.specs.PlainForms.{stamped_doc}
 use Rattle.pv_cache.specs.Stamps.{StampedDoc, stamp_of}
 use Rattle.pv_cache.proofs.Alike.{unmarked_as}
-use Rattle.pv_cache.proofs.Moved.{leads_from}
+use Rattle.pv_cache.proofs.StampMoves.{leads_from}
 use Rattle.pv_cache.proofs.marked.Marked.revert.Goals as goal
 
 pub revert-requires : goal.revert-requires

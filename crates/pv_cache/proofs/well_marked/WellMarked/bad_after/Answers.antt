@@ -2,8 +2,8 @@ use Rattle.std.proofs.Common.{arith}
 use Rattle.pv_edit.specs.Fitting.{plain_task}
 use Rattle.pv_tree.specs.PlainDocs.{plain_doc}
 use Rattle.pv_tree.specs.PlainForms.{plain}
-use Rattle.pv_cache.proofs.Counting.{inner-small, mended-counted}
-use Rattle.pv_cache.proofs.Telling.{bad-within, own-bad-small}
+use Rattle.pv_cache.proofs.ImpossibleCounts.{inner-small, mended-counted}
+use Rattle.pv_cache.proofs.TreeMarks.{bad-within, own-bad-small}
 use Rattle.pv_cache.proofs.well_marked.WellMarked.bad_after.Goals as goal
 
 pub overflow_add-result : goal.overflow_add-result

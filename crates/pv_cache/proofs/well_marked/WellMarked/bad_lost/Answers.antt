@@ -8,7 +8,7 @@ use Rattle.pv_tree.specs.PlainDocs.{plain_doc}
 use Rattle.pv_tree.specs.PlainForms.{plain_all}
 use Rattle.pv_tree.specs.declared.nodes.Mark.{Mark}
 use Rattle.pv_cache.specs.BadLists.{bad_gone}
-use Rattle.pv_cache.proofs.Counting.{few-between, gone-few, own-at-small}
+use Rattle.pv_cache.proofs.ImpossibleCounts.{few-between, gone-few, own-at-small}
 use Rattle.pv_cache.proofs.Tasks.{task-few, task-suits}
 use Rattle.pv_cache.proofs.well_marked.WellMarked.bad_lost.Goals as goal
 

@@ -4,7 +4,7 @@ use Rattle.pv_cache.specs.Stamps.{StampedDoc, stamped_doc_of}
 use Rattle.pv_cache.specs.WellMarked.{IsWellMarked}
 use Rattle.pv_edit.specs.Fitting.{plain_task}
 use Rattle.pv_tree.specs.PlainDocs.{plain_doc}
-use Rattle.pv_cache.proofs.Moved.{edit_made, same_ground, stamped_ground}
+use Rattle.pv_cache.proofs.StampMoves.{edit_made, same_ground, stamped_ground}
 use Rattle.pv_cache.proofs.well_marked.WellMarked.edit.Goals as goal
 
 pub returns-clause-edited : goal.returns-clause-edited

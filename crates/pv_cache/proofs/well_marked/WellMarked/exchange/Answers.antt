@@ -8,7 +8,7 @@ use Rattle.pv_tree.specs.PlainForms.{plain_all}
 use Rattle.pv_tree.specs.declared.nodes.Mark.{Mark}
 use Rattle.pv_cache.specs.Mending.{IsExchange}
 use Rattle.pv_cache.specs.WellMarked.{told_left_in, told_nodes_in}
-use Rattle.pv_cache.proofs.Leaving.{gone-left, gone-nodes}
+use Rattle.pv_cache.proofs.LostKids.{gone-left, gone-nodes}
 use Rattle.pv_cache.proofs.Tasks.{task-suits}
 use Rattle.pv_cache.proofs.well_marked.WellMarked.exchange.Goals as goal
 

@@ -7,10 +7,10 @@ use Rattle.pv_cache.specs.Accepting.{MAX_EDITED_NODES}
 use Rattle.std.proofs.lemmas.Result.{err_from_is_err_and}
 use Rattle.pv_edit.specs.Fitting.{plain_task}
 use Rattle.pv_tree.specs.PlainDocs.{plain_doc}
-use Rattle.pv_edit.proofs.Prepared.{doc-kept}
+use Rattle.pv_edit.proofs.PreparedChanges.{doc-kept}
 use Rattle.pv_cache.specs.Judging.{AreListTokens}
-use Rattle.pv_cache.proofs.Moved.{edit_accepted, edit_refused, few_after, many_after, not_shaped}
-use Rattle.pv_cache.proofs.Moved.{told_nodes, too_many}
+use Rattle.pv_cache.proofs.StampMoves.{edit_accepted, edit_refused, few_after, many_after, not_shaped}
+use Rattle.pv_cache.proofs.StampMoves.{told_nodes, too_many}
 use Rattle.pv_cache.proofs.well_marked.WellMarked.judge.Goals as goal
 
 pub returns-in_err-ready-clause-refused : goal.returns-in_err-ready-clause-refused

@@ -19,12 +19,12 @@ use Rattle.pv_cache.specs.PlainMarked.{PlainMarked, plain_marked}
 use Rattle.pv_cache.specs.WellMarked.{IsWellMarked, told_bad}
 use Rattle.pv_cache.specs.declared.words.KeptTokens.{KeptTokens}
 use Rattle.pv_cache.specs.Stamps.{changed_by, stamp_lists, stamps_of}
-use Rattle.pv_cache.proofs.Stamping.{changed_are, same_number, stamps_mended}
-use Rattle.pv_cache.proofs.Counting.{mended-counted}
+use Rattle.pv_cache.proofs.DocumentStamps.{changed_are, same_number, stamps_mended}
+use Rattle.pv_cache.proofs.ImpossibleCounts.{mended-counted}
 use Rattle.pv_cache.proofs.Kept.{kept-after, kept-of}
 use Rattle.pv_cache.proofs.Ready.{ready-can, ready-counted, ready-marked}
 use Rattle.pv_cache.proofs.Tasks.{task-list}
-use Rattle.pv_cache.proofs.Unmarked.{doc-as, few-mended}
+use Rattle.pv_cache.proofs.MarksAlone.{doc-as, few-mended}
 use Rattle.pv_cache.proofs.well_marked.WellMarked.make_judged.Goals as goal
 
 pub owner_of-owner-requires : goal.owner_of-owner-requires

@@ -8,7 +8,7 @@ use Rattle.pv_edit.specs.Reasons.{kids_at}
 use Rattle.pv_tree.specs.Plain.{forest_of}
 use Rattle.pv_tree.specs.PlainDocs.{plain_doc}
 use Rattle.pv_cache.specs.Judging.{AreListTokens}
-use Rattle.pv_cache.proofs.Moved.{back_few, back_made, back_narrow, same_ground, stamped_ground}
+use Rattle.pv_cache.proofs.StampMoves.{back_few, back_made, back_narrow, same_ground, stamped_ground}
 use Rattle.pv_cache.proofs.well_marked.WellMarked.revert.Goals as goal
 
 pub words_of-requires : goal.words_of-requires

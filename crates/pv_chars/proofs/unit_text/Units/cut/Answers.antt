@@ -12,7 +12,9 @@ behind_units-rest-requires-clause-within c = omega (arith, c.requires.within, co
 pub overflow_sub-bytes : goal.overflow_sub-bytes
 overflow_sub-bytes c =
     let bytes = c.as_slice-bytes.result.now in
-    behind_shorter bytes c.behind_units-rest.result.now c.self.inside.count c.args.at (cut_named bytes c.self.inside.bytes.items c.self.inside.count c.self.invariant c.as_slice-bytes.ensures.value) c.behind_units-rest.ensures
+    behind_shorter bytes c.behind_units-rest.result.now c.self.inside.count c.args.at
+    (cut_named bytes c.self.inside.bytes.items c.self.inside.count c.self.invariant
+    c.as_slice-bytes.ensures.value) c.behind_units-rest.ensures
 
 -- the text, and that the cut is within it
 is_cut : (c : goal.In_ok-from_slice-2) → IsCut c.as_slice-bytes.result.now c.self.inside.count

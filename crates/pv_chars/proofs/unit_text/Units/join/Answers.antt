@@ -4,7 +4,9 @@ use Rattle.pv_chars.proofs.unit_text.Units.join.Goals as goal
 
 both_items : (c : goal.In_ok-extend_from_slice-2) → c.extend_from_slice-2.new.self.items ≡ c.self.inside.bytes.items ++ c.other.inside.bytes.items
 both_items c =
-    c.in_ok-extend_from_slice-2.ensures.items ∙ (λ i. c.in_ok-extend_from_slice.ensures.items i ++ c.as_slice-2.ensures.value i) ∙ (λ i. (c.in_ok-bytes.ensures.items i ++ c.as_slice.ensures.value i) ++ c.other.inside.bytes.items)
+    c.in_ok-extend_from_slice-2.ensures.items ∙ (λ i. c.in_ok-extend_from_slice.ensures.items i
+    ++ c.as_slice-2.ensures.value i) ∙ (λ i. (c.in_ok-bytes.ensures.items i
+    ++ c.as_slice.ensures.value i) ++ c.other.inside.bytes.items)
 
 pub overflow_add-result : goal.overflow_add-result
 overflow_add-result c =
@@ -15,4 +17,6 @@ pub invariant_of-result : goal.invariant_of-result
 invariant_of-result c = cut_units-append c.self.inside.bytes.items c.other.inside.bytes.items _ c.self.inside.count c.other.inside.count c.self.invariant c.other.invariant (both_items c)
 
 pub returns : goal.returns
-returns c = units_in-append c.self.inside.bytes.items c.other.inside.bytes.items _ c.self.inside.count c.other.inside.count c.self.invariant c.other.invariant (both_items c) ∙ (λ i. c.self.view_is i ++ c.other.view_is i)
+returns c = units_in-append c.self.inside.bytes.items c.other.inside.bytes.items _
+    c.self.inside.count c.other.inside.count c.self.invariant c.other.invariant (both_items c)
+    ∙ (λ i. c.self.view_is i ++ c.other.view_is i)

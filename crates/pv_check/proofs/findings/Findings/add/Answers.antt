@@ -1,5 +1,5 @@
 use Rattle.std.proofs.Common.{Some, ap, ◌∙◌, refl}
-use Rattle.pv_check.proofs.Inserting.{put_wide}
+use Rattle.pv_check.proofs.InsertedLists.{put_wide}
 use Rattle.pv_check.proofs.findings.Findings.add.Goals as goal
 
 pub returns-in_ok-new-in-None-2 : goal.returns-in_ok-new-in-None-2

@@ -1,6 +1,6 @@
 use Rattle.std.proofs.Common.{Some, ap, ◌∙◌, refl, arith}
 use Rattle.pv_tree.specs.declared.nodes.Verdict.TheVariants as verdict
-use Rattle.pv_check.proofs.Inserting.{put_impossible, put_live}
+use Rattle.pv_check.proofs.InsertedLists.{put_impossible, put_live}
 use Rattle.pv_check.proofs.findings.Findings.add_judged.Goals as goal
 
 pub returns-in_ok-new-in-Impossible : goal.returns-in_ok-new-in-Impossible

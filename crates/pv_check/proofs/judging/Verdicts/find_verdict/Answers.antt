@@ -1,7 +1,7 @@
 use Rattle.std.proofs.Common.{◌∷◌, ◌++◌}
 use Rattle.pv_productive.specs.PlainForms.{dtd_of}
 use Rattle.pv_lists.specs.Judging.{ended_list, path_in}
-use Rattle.pv_check.proofs.Ending.{first_so_far, on_ok}
+use Rattle.pv_check.proofs.EndedLists.{first_so_far, on_ok}
 use Rattle.pv_check.proofs.judging.Verdicts.find_verdict.Goals as goal
 
 pub returns : goal.returns

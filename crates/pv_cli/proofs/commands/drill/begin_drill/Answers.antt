@@ -12,7 +12,7 @@ use Rattle.pv_cli.specs.Drill.{DRILL_ROOT, reading_stage}
 use Rattle.pv_opening.specs.Opening.{dtd_stage}
 use Rattle.pv_opening.specs.Returns.{plain_opened}
 use Rattle.pv_conversation.specs.Session.{guarding_stage}
-use Rattle.pv_cli.proofs.Counting.{opened_document}
+use Rattle.pv_cli.proofs.CommandCounts.{opened_document}
 use Rattle.pv_opening.proofs.JudgedLists.{opening_first, opening_second}
 use Rattle.pv_opening.proofs.Stages.{returned_second, stopped_first, stopped_second}
 use Rattle.pv_cli.proofs.commands.drill.begin_drill.Goals as goal

@@ -1,6 +1,6 @@
 use Rattle.std.proofs.Common.{arith}
-use Rattle.pv_cli.proofs.Counting.{section_cut, section_few}
-use Rattle.pv_cli.proofs.Drilling.{counts_section}
+use Rattle.pv_cli.proofs.CommandCounts.{section_cut, section_few}
+use Rattle.pv_cli.proofs.DrillReplies.{counts_section}
 use Rattle.pv_cli.proofs.commands.drill.count_drill.Goals as goal
 
 pub loop-k-preserved : goal.loop-k-preserved

@@ -1,6 +1,6 @@
 use Rattle.std.proofs.Common.{arith}
-use Rattle.pv_cli.proofs.Counting.{three_lines, two_lines}
-use Rattle.pv_cli.proofs.Drilling.{counts_third}
+use Rattle.pv_cli.proofs.CommandCounts.{three_lines, two_lines}
+use Rattle.pv_cli.proofs.DrillReplies.{counts_third}
 use Rattle.pv_cli.proofs.commands.drill.count_section.Goals as goal
 
 pub returns-then-k-eq0-clause-counted : goal.returns-then-k-eq0-clause-counted

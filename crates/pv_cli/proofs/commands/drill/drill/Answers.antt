@@ -6,7 +6,7 @@ use Rattle.pv_cli.specs.Checking.{CountsAtMost, judging_drill_stage}
 use Rattle.pv_drill.specs.Drill.{drill_lines}
 use Rattle.pv_opening.specs.Judging.{lists_judged}
 use Rattle.pv_opening.specs.Returns.{ending_of}
-use Rattle.pv_cli.proofs.Counting.{drill_stopped}
+use Rattle.pv_cli.proofs.CommandCounts.{drill_stopped}
 use Rattle.pv_opening.proofs.JudgedLists.{opened_goes}
 use Rattle.pv_cli.proofs.DrillStages.{asks_none}
 use Rattle.pv_opening.proofs.Stages.{found_behind, stop_found, tells_found}

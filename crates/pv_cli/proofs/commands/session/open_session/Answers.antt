@@ -9,7 +9,7 @@ use Rattle.pv_opening.specs.Stage.{beside}
 use Rattle.pv_opening.specs.Documents.{document_stage}
 use Rattle.pv_opening.specs.Returns.{plain_opened}
 use Rattle.pv_conversation.specs.Session.{guarding_stage}
-use Rattle.pv_cli.proofs.Counting.{opened_document}
+use Rattle.pv_cli.proofs.CommandCounts.{opened_document}
 use Rattle.pv_opening.proofs.JudgedLists.{opening_first}
 use Rattle.pv_opening.proofs.Stages.{returned_second, stopped_first}
 use Rattle.pv_cli.proofs.commands.session.open_session.Goals as goal

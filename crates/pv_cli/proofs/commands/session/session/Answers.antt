@@ -1,7 +1,7 @@
 use Rattle.std.proofs.Common.{Err}
 use Rattle.pv_opening.specs.Returns.{ending_of, plain_fetched}
 use Rattle.pv_cli.specs.declared.verb.Verb.TheVariants.{Session}
-use Rattle.pv_cli.proofs.Counting.{session_quiet}
+use Rattle.pv_cli.proofs.CommandCounts.{session_quiet}
 use Rattle.pv_cli.proofs.Runs.{found_rest, session_stopped, talked_rest}
 use Rattle.pv_cli.proofs.commands.session.session.Goals as goal
 

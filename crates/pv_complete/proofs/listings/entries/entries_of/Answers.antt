@@ -1,6 +1,6 @@
 use Rattle.pv_productive.specs.PlainForms.{dtd_of}
 use Rattle.pv_span.specs.Weights.{tokens_of, weight_of}
-use Rattle.pv_complete.proofs.Listed.{listed_none}
+use Rattle.pv_complete.proofs.EntryLists.{listed_none}
 use Rattle.pv_complete.proofs.listings.entries.entries_of.Goals as goal
 
 pub list_kind-requires-clause-listed : goal.list_kind-requires-clause-listed

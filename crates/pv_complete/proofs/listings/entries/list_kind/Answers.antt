@@ -3,7 +3,7 @@ use Rattle.pv_productive.specs.PlainForms.{dtd_of}
 use Rattle.pv_span.specs.Weights.{tokens_of, weight_of}
 use Rattle.pv_complete.specs.Kinds.{count_of, rank_of_kind}
 use Rattle.pv_complete.proofs.KindFacts.{past_end}
-use Rattle.pv_complete.proofs.Listed.{listed_kind}
+use Rattle.pv_complete.proofs.EntryLists.{listed_kind}
 use Rattle.pv_complete.proofs.listings.entries.list_kind.Goals as goal
 
 pub returns-clause-listed : goal.returns-clause-listed

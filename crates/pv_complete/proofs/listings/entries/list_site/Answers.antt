@@ -3,13 +3,15 @@ use Rattle.pv_productive.specs.PlainForms.{dtd_of}
 use Rattle.pv_rules.specs.PlainForms.{plain_site}
 use Rattle.pv_span.specs.Weights.{tokens_of, weight_of}
 use Rattle.pv_tables.specs.Tables.{kind_rank, site_number}
-use Rattle.pv_complete.proofs.Listed.{listed_site}
+use Rattle.pv_complete.proofs.EntryLists.{listed_site}
 use Rattle.pv_complete.proofs.listings.entries.list_site.Goals as goal
 
 pub returns-clause-listed : goal.returns-clause-listed
 returns-clause-listed c =
     let e : c.loop-from.from ≡ suc (tokens_of c.args.listing.now.spans.now) = let l = c.args.listing.now.long in omega arith in
-    listed_site (dtd_of c.args.listing.now.grammar.now) (tokens_of c.args.listing.now.spans.now) (weight_of c.args.listing.now.spans.now) (kind_rank (plain_site c.args.listing.now.site)) (site_number (plain_site c.args.listing.now.site)) c.loop-from.entries.items
+    listed_site (dtd_of c.args.listing.now.grammar.now) (tokens_of c.args.listing.now.spans.now)
+    (weight_of c.args.listing.now.spans.now) (kind_rank (plain_site c.args.listing.now.site))
+    (site_number (plain_site c.args.listing.now.site)) c.loop-from.entries.items
     (rw e at c.loop-from.invariant.listed)
 
 pub loop-from-init : goal.loop-from-init

@@ -9,5 +9,7 @@ use Rattle.pv_complete.proofs.listings.entries.list_site.Given as goal
 abbrev pub invariant-loop-from : goal.invariant-loop-from
 invariant-loop-from l = record {
   few : length l.entries.items ≤ l.room;
-  listed : IsListedTo (dtd_of l.listing.grammar.now) (tokens_of l.listing.spans.now) (weight_of l.listing.spans.now) (key (kind_rank (plain_site l.listing.site)) (site_number (plain_site l.listing.site)) l.from l.from) l.entries.items;
+  listed : IsListedTo (dtd_of l.listing.grammar.now) (tokens_of l.listing.spans.now)
+      (weight_of l.listing.spans.now) (key (kind_rank (plain_site l.listing.site))
+      (site_number (plain_site l.listing.site)) l.from l.from) l.entries.items;
 }

@@ -13,7 +13,9 @@ abbrev pub invariant-table_kids-loop-i : goal.invariant-table_kids-loop-i
 invariant-table_kids-loop-i l = record {
   same_places : l.made.load.places.items ≡ l.fn.made.load.places.items;
   few_nodes : nodes_in_all (forest (drop l.i l.kids)) ≤ nodes_in_all (forest l.kids);
-  makes : (root : List ℕ) (last : PlainMade) → MakesTables (dtd_of l.layout.grammar.now) root (lists_from l.made.load.places.items l.i (forest (drop l.i l.kids))) l.verdicts.verdicts (made_of l.made) last →
+  makes : (root : List ℕ) (last : PlainMade) → MakesTables (dtd_of l.layout.grammar.now) root
+      (lists_from l.made.load.places.items l.i (forest (drop l.i l.kids))) l.verdicts.verdicts
+      (made_of l.made) last →
       MakesTables (dtd_of l.layout.grammar.now) root (lists_from l.made.load.places.items 0 (forest l.kids)) l.verdicts.verdicts (made_of l.fn.made) last;
   stops : (root : List ℕ) (e : NeedError) → StopsTables (dtd_of l.layout.grammar.now) root (lists_from l.made.load.places.items l.i (forest (drop l.i l.kids))) l.verdicts.verdicts (made_of l.made) e →
       StopsTables (dtd_of l.layout.grammar.now) root (lists_from l.made.load.places.items 0 (forest l.kids)) l.verdicts.verdicts (made_of l.fn.made) e;

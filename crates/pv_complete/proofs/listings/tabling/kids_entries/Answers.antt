@@ -16,7 +16,10 @@ known_entries-requires-clause-productive c =
     subst (λ v. AreProductiveTokens d (map plain_token v)) (sym c.as_slice.ensures)
     (live_follows d (word_of d (forest c.args.kids.now)) (map plain_token c.in_ok-live.live) c.in_ok-live.ensures).names
 
-is_live : (c : goal.After-drop-live-inside) → IsLiveWord (dtd_of c.args.owner.now.layout.now.grammar.now) (word_of (dtd_of c.args.owner.now.layout.now.grammar.now) (forest c.args.kids.now)) (map plain_token c.as_slice.result.now)
+is_live : (c : goal.After-drop-live-inside) →
+    IsLiveWord (dtd_of c.args.owner.now.layout.now.grammar.now)
+    (word_of (dtd_of c.args.owner.now.layout.now.grammar.now) (forest c.args.kids.now))
+    (map plain_token c.as_slice.result.now)
 is_live c = rw c.as_slice.ensures c.in_ok-live.ensures
 
 same_length : (c : goal.After-drop-live-inside) → length (map plain_token c.as_slice.result.now) ≡ length (word_of (dtd_of c.args.owner.now.layout.now.grammar.now) (forest c.args.kids.now))
@@ -28,9 +31,13 @@ pub returns-clause-entries : goal.returns-clause-entries
 returns-clause-entries c = IfOk-weaker c.known_entries.result _ _ (λ es all. (map plain_token c.as_slice.result.now, is_live c, all)) c.known_entries.ensures.entries
 
 pub returns-clause-fits : goal.returns-clause-fits
-returns-clause-fits c = let n : length c.as_slice.result.now ≡ length (word_of (dtd_of c.args.owner.now.layout.now.grammar.now) (forest c.args.kids.now)) = simp length-map at (same_length c) in rw n at c.known_entries.ensures.fits
+returns-clause-fits c = let n : length c.as_slice.result.now
+    ≡ length (word_of (dtd_of c.args.owner.now.layout.now.grammar.now) (forest c.args.kids.now)) =
+    simp length-map at (same_length c) in rw n at c.known_entries.ensures.fits
 
 pub returns-clause-refused : goal.returns-clause-refused
 returns-clause-refused c =
     IfErr-weaker c.known_entries.result _ _
-    (λ e s. stops_kids (dtd_of c.args.owner.now.layout.now.grammar.now) (forest c.args.kids.now) (map plain_token c.as_slice.result.now) c.args.places.now c.args.room e (is_live c) (same_length c) s) c.known_entries.ensures.refused
+    (λ e s. stops_kids (dtd_of c.args.owner.now.layout.now.grammar.now) (forest c.args.kids.now)
+    (map plain_token c.as_slice.result.now) c.args.places.now c.args.room e (is_live c)
+    (same_length c) s) c.known_entries.ensures.refused

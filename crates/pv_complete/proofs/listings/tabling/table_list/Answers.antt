@@ -20,7 +20,9 @@ returns-in_default-clause-tabled c = λ root list kids path owner.
 
 pub returns-then-not-is_known_owner-clause-tabled : goal.returns-then-not-is_known_owner-clause-tabled
 returns-then-not-is_known_owner-clause-tabled c = λ root list kids path owner.
-    absurd (true≢false (sym (c.is_known_owner.ensures.1 (owner_site (dtd_of c.args.layout.now.grammar.now) root list.owner (plain_of c.in-Some.of) (rw c.in-Some.is at owner))) ∙ c.if-not-is_known_owner.true))
+    absurd (true≢false (sym (c.is_known_owner.ensures.1
+    (owner_site (dtd_of c.args.layout.now.grammar.now) root list.owner (plain_of c.in-Some.of)
+    (rw c.in-Some.is at owner))) ∙ c.if-not-is_known_owner.true))
 
 pub returns-in_err-entries-clause-refused : goal.returns-in_err-entries-clause-refused
 returns-in_err-entries-clause-refused c =
@@ -37,6 +39,8 @@ returns-in_err-entries-clause-refused c =
 pub returns-clause-tabled : goal.returns-clause-tabled
 returns-clause-tabled c = λ root list kids path owner.
     let at = ap (λ v. v.items) c.if-not-takes_possible.ensures.places in
-    makes_table (dtd_of c.args.layout.now.grammar.now) root c.args.verdicts.now.verdicts list (made_of c.args.made.now) (made_of c.add.new.self) (forest c.args.kids.now) c.in_ok-entries.entries.items kids
+    makes_table (dtd_of c.args.layout.now.grammar.now) root c.args.verdicts.now.verdicts list
+    (made_of c.args.made.now) (made_of c.add.new.self) (forest c.args.kids.now)
+    c.in_ok-entries.entries.items kids
     (rw c.add.ensures.load c.if-not-takes_possible.ensures.taken) c.in_ok-entries.ensures.entries c.in_ok-entries.ensures.fits
     (rw path (rw at at c.in_ok-add.ensures.tables)) c.in_ok-add.ensures.room

@@ -13,7 +13,9 @@ overflow_cast-tokens c =
 
 pub entries_of-requires : goal.entries_of-requires
 entries_of-requires c =
-    let l = c.requires.long (plain_of c.args.owner.now.of) (owner_has c.args.owner.now) in let m = simp length-map at l in let s = c.args.spans.now.chart.short in record { tokens = (omega arith, omega arith) }
+    let l = c.requires.long (plain_of c.args.owner.now.of) (owner_has c.args.owner.now) in let m =
+    simp length-map at l in let s = c.args.spans.now.chart.short in
+    record { tokens = (omega arith, omega arith) }
 
 pub returns-in-Ok : goal.returns-in-Ok
 returns-in-Ok c =

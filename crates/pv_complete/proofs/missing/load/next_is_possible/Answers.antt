@@ -1,5 +1,5 @@
 use Rattle.std.proofs.Common.{inl, refl, sym, ◌∙◌}
-use Rattle.pv_complete.proofs.Adding.{drop_none, takes_next}
+use Rattle.pv_complete.proofs.WeightSums.{drop_none, takes_next}
 use Rattle.pv_complete.proofs.missing.load.next_is_possible.Goals as goal
 
 pub returns-in_default : goal.returns-in_default

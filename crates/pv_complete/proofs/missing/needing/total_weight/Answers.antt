@@ -6,12 +6,14 @@ use Rattle.pv_tree.specs.PlainDocs.{plain_doc}
 use Rattle.pv_missing.specs.Verdicts.{AreVerdicts}
 use Rattle.pv_complete.specs.Needing.{CanWeigh}
 use Rattle.pv_complete.specs.PlainForms.{load_of}
-use Rattle.pv_complete.proofs.Adding.{stops_in, weighs_in}
+use Rattle.pv_complete.proofs.WeightSums.{stops_in, weighs_in}
 use Rattle.pv_complete.proofs.missing.needing.total_weight.Goals as goal
 
 pub returns-in-Ok-clause-total : goal.returns-in-Ok-clause-total
 returns-in-Ok-clause-total c = λ live.
-    weighs_in (dtd_of c.args.layout.now.grammar.now) c.args.root.now c.possible_weights_law.ensures (plain_doc c.args.doc.now) c.args.verdicts.now.verdicts (load_of c.new-load.result) (load_of c.weigh_doc.new.load)
+    weighs_in (dtd_of c.args.layout.now.grammar.now) c.args.root.now c.possible_weights_law.ensures
+    (plain_doc c.args.doc.now) c.args.verdicts.now.verdicts (load_of c.new-load.result)
+    (load_of c.weigh_doc.new.load)
     (rw c.dtd.ensures at c.proper_dtd_law.ensures) c.proper_doc_law.ensures live.verdicts live.possible live.narrow c.new-load.ensures.used c.new-load.ensures.total c.in-Ok.ensures.weighed
 
 pub returns-in-Err-TooWide-clause-refused : goal.returns-in-Err-TooWide-clause-refused
@@ -20,7 +22,9 @@ returns-in-Err-TooWide-clause-refused c = λ live.
     inr (record {
       narrow = live.narrow;
       possible = live.possible;
-      first = rw (c.in_ok-new-in-Err-TooWide.ensures, c.deref.ensures.value) (stops_in d c.args.root.now (lists_of (plain_doc c.args.doc.now)) c.args.verdicts.now.verdicts (load_of c.new-load.result) c.weigh_doc.new.load.places.items
+      first = rw (c.in_ok-new-in-Err-TooWide.ensures, c.deref.ensures.value)
+          (stops_in d c.args.root.now (lists_of (plain_doc c.args.doc.now))
+          c.args.verdicts.now.verdicts (load_of c.new-load.result) c.weigh_doc.new.load.places.items
           c.new-load.ensures.used live.verdicts (c.in-Err-TooWide.ensures.wide c.in-Err-TooWide.field-0-is));
     })
 

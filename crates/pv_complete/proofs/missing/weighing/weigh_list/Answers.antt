@@ -3,7 +3,7 @@ use Rattle.pv_productive.specs.PlainForms.{dtd_of}
 use Rattle.pv_tree.specs.PlainForms.{forest}
 use Rattle.pv_missing.specs.PlainForms.{plain_of}
 use Rattle.pv_complete.specs.PlainForms.{load_of}
-use Rattle.pv_complete.proofs.Adding.{adds_no_owner, adds_other, adds_weight, stops_here, weighs_by}
+use Rattle.pv_complete.proofs.WeightSums.{adds_no_owner, adds_other, adds_weight, stops_here, weighs_by}
 use Rattle.pv_complete.proofs.OwnerSites.{owner_site}
 use Rattle.pv_complete.proofs.missing.weighing.weigh_list.Goals as goal
 
@@ -19,7 +19,9 @@ returns-in_default-clause-weighed c = λ root list kids owner.
 
 pub returns-then-not-is_known_owner-clause-weighed : goal.returns-then-not-is_known_owner-clause-weighed
 returns-then-not-is_known_owner-clause-weighed c = λ root list kids owner.
-    absurd (true≢false (sym (c.is_known_owner.ensures.1 (owner_site (dtd_of c.args.layout.now.grammar.now) root list.owner (plain_of c.in-Some.of) (rw c.in-Some.is at owner))) ∙ c.if-not-is_known_owner.true))
+    absurd (true≢false (sym (c.is_known_owner.ensures.1
+    (owner_site (dtd_of c.args.layout.now.grammar.now) root list.owner (plain_of c.in-Some.of)
+    (rw c.in-Some.is at owner))) ∙ c.if-not-is_known_owner.true))
 
 pub returns-in-Ok-clause-weighed : goal.returns-in-Ok-clause-weighed
 returns-in-Ok-clause-weighed c = λ root list kids owner.

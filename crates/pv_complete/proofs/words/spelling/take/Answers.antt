@@ -8,17 +8,21 @@ use Rattle.pv_complete.specs.PieceForms.{plain_pieces}
 use Rattle.pv_complete.specs.declared.words.pieces.Piece.TheVariants as piece
 use Rattle.pv_complete.proofs.Powers.{nearer_end}
 use Rattle.pv_complete.proofs.Stacks.{goes_end, pushed}
-use Rattle.pv_complete.proofs.Weighed.{long_word}
+use Rattle.pv_complete.proofs.WordWeights.{long_word}
 use Rattle.pv_rules.specs.PlainForms.{plain_site}
 use Rattle.pv_complete.proofs.words.spelling.take.Goals as goal
 
 pub returns-in_ok-push-in-End-clause-goes : goal.returns-in_ok-push-in-End-clause-goes
 returns-in_ok-push-in-End-clause-goes c = rw c.in-End.is
-    (goes_end (dtd_of c.args.weights.now.grammar.now) (map plain_token c.args.weights.now.word.now) (weight_of c.args.weights.now.spans.now) c.args.stack.now.items c.in-End.id (plain_pieces c.args.pieces.now.items) (plain_pieces c.push.new.self.items)
+    (goes_end (dtd_of c.args.weights.now.grammar.now) (map plain_token c.args.weights.now.word.now)
+    (weight_of c.args.weights.now.spans.now) c.args.stack.now.items c.in-End.id
+    (plain_pieces c.args.pieces.now.items) (plain_pieces c.push.new.self.items)
     (pushed c.args.pieces.now.items c.push.new.self.items (piece.End c.in-End.id) c.in_ok-push-in-End.ensures.items))
 
 pub returns-in_ok-push-in-End-clause-nearer : goal.returns-in_ok-push-in-End-clause-nearer
-returns-in_ok-push-in-End-clause-nearer c = nearer_end (dtd_of c.args.weights.now.grammar.now) (map plain_token c.args.weights.now.word.now) (weight_of c.args.weights.now.spans.now) c.args.stack.now.items c.args.work
+returns-in_ok-push-in-End-clause-nearer c = nearer_end (dtd_of c.args.weights.now.grammar.now)
+    (map plain_token c.args.weights.now.word.now) (weight_of c.args.weights.now.spans.now)
+    c.args.stack.now.items c.args.work
 
 pub invariant_of-spot-clause-has : goal.invariant_of-spot-clause-has
 invariant_of-spot-clause-has c = let r = rw c.in-Goal.is at c.requires.ready in ∣ r.0 ∣₁
@@ -36,8 +40,12 @@ go-requires c = let r = rw c.in-Goal.is at c.requires.ready in let q = r.1 in le
 
 pub returns-in-Goal-clause-goes : goal.returns-in-Goal-clause-goes
 returns-in-Goal-clause-goes c = rw c.in-Goal.is
-    (IfOk-weaker c.go.result _ _ (λ _ f. f (dtd_of c.args.weights.now.grammar.now) (map plain_token c.args.weights.now.word.now) (weight_of c.args.weights.now.spans.now) c.move_of-step.ensures) c.go.ensures.goes)
+    (IfOk-weaker c.go.result _ _ (λ _ f. f (dtd_of c.args.weights.now.grammar.now)
+    (map plain_token c.args.weights.now.word.now) (weight_of c.args.weights.now.spans.now)
+    c.move_of-step.ensures) c.go.ensures.goes)
 
 pub returns-in-Goal-clause-nearer : goal.returns-in-Goal-clause-nearer
 returns-in-Goal-clause-nearer c = rw c.in-Goal.is
-    (IfOk-weaker c.go.result _ _ (λ _ f. f (dtd_of c.args.weights.now.grammar.now) (map plain_token c.args.weights.now.word.now) (weight_of c.args.weights.now.spans.now) c.move_of-step.ensures) c.go.ensures.nearer)
+    (IfOk-weaker c.go.result _ _ (λ _ f. f (dtd_of c.args.weights.now.grammar.now)
+    (map plain_token c.args.weights.now.word.now) (weight_of c.args.weights.now.spans.now)
+    c.move_of-step.ensures) c.go.ensures.nearer)

@@ -1,4 +1,4 @@
-use Rattle.pv_complete.proofs.Taking.{one_kept_more}
+use Rattle.pv_complete.proofs.PiecesByVerdict.{one_kept_more}
 use Rattle.pv_complete.proofs.writing.by_verdict.kept_pieces.Goals as goal
 
 pub loop-i-preserved : goal.loop-i-preserved

@@ -16,7 +16,7 @@ use Rattle.pv_complete.specs.PieceForms.{plain_pieces}
 use Rattle.pv_missing.specs.Widths.{FitsWeights}
 use Rattle.pv_missing.specs.declared.owners.Of.{Of}
 use Rattle.pv_complete.specs.Written.{HasNextList, SuitsWord, kept_for, kept_times}
-use Rattle.pv_complete.proofs.Taking.{kept_by_length, kept_pieces, possible_pieces, suits_at, suits_kept, suits_length}
+use Rattle.pv_complete.proofs.PiecesByVerdict.{kept_by_length, kept_pieces, possible_pieces, suits_at, suits_kept, suits_length}
 use Rattle.pv_complete.proofs.OwnerSites.{owner_site}
 use Rattle.pv_complete.proofs.LightLists.{has_owner, next_light}
 use Rattle.pv_complete.proofs.writing.by_verdict.take_pieces.Goals as goal
@@ -106,5 +106,7 @@ returns-clause-suits c =
     let is : IsLiveWord d w live = rw c.as_slice-else-possible.ensures c.in_ok-live.ensures in
     let n : length c.as_slice-else-possible.result.now ≡ length live = simp length-map in
     IfOk-weaker c.kept_pieces.result _ _
-    (λ pieces f. subst (λ x. SuitsWord d x w) (sym (f ∙ ap kept_times n ∙ kept_by_length live)) (suits_length d (kept_for live) live w (sym (live_follows d w live is).same_length) (suits_kept d live)))
+    (λ pieces f. subst (λ x. SuitsWord d x w) (sym (f ∙ ap kept_times n ∙ kept_by_length live))
+    (suits_length d (kept_for live) live w (sym (live_follows d w live is).same_length)
+    (suits_kept d live)))
     c.kept_pieces.ensures

@@ -14,7 +14,10 @@ pub write_doc-requires-clause-possible : goal.write_doc-requires-clause-possible
 write_doc-requires-clause-possible c =
     live_verdicts c.args.verdicts.now.verdicts
     (∥∥₁_map c.requires.verdicts
-    (λ live. (c.locality_law.ensures (dtd_of c.args.layout.now.grammar.now) c.args.root.now (plain_doc c.args.doc.now) c.args.verdicts.now.verdicts (proper c.args.layout.now.grammar.now.layout.dtd) c.proper_doc_law.ensures live.verdicts).0 live.possible))
+    (λ live. (c.locality_law.ensures (dtd_of c.args.layout.now.grammar.now) c.args.root.now
+    (plain_doc c.args.doc.now) c.args.verdicts.now.verdicts
+    (proper c.args.layout.now.grammar.now.layout.dtd) c.proper_doc_law.ensures live.verdicts).0
+    live.possible))
 
 pub write_doc-requires-clause-verdicts : goal.write_doc-requires-clause-verdicts
 write_doc-requires-clause-verdicts c = ∥∥₁_map c.requires.verdicts (λ live.
@@ -41,7 +44,9 @@ pub returns-clause-completed : goal.returns-clause-completed
 returns-clause-completed c = λ live.
     let dtd = c.args.layout.now.grammar.now.layout.dtd in
     rw (c.of.ensures, c.in_ok-marks.ensures, c.as_slice.ensures.value, c.of-2.ensures)
-    (least_completion (dtd_of c.args.layout.now.grammar.now) c.args.root.now (plain_doc c.args.doc.now) c.args.verdicts.now.verdicts c.args.count c.in_ok-text.text.marks.items c.in_ok-text.text.body.items
+    (least_completion (dtd_of c.args.layout.now.grammar.now) c.args.root.now
+    (plain_doc c.args.doc.now) c.args.verdicts.now.verdicts c.args.count
+    c.in_ok-text.text.marks.items c.in_ok-text.text.body.items
     (proper dtd) (dtd_names dtd) c.every_view_is_written_law.ensures c.tags_extend_law.ensures c.possible_weights_law.ensures c.proper_doc_law.ensures (doc_writable c.args.doc.now)
     c.requires.names (doc_epilog c.args.doc.now) (c.requires.needs live) live.verdicts (c.in_ok-text.ensures live.verdicts))
 

@@ -4,7 +4,7 @@ use Rattle.std.proofs.lemmas.Result.{IfOk-weaker}
 use Rattle.pv_dtd.proofs.Proper.{proper}
 use Rattle.pv_productive.specs.PlainForms.{dtd_of}
 use Rattle.std.specs.Option.{option_map}
-use Rattle.pv_missing.proofs.Walking.{element_site}
+use Rattle.pv_missing.proofs.ListPaths.{element_site}
 use Rattle.pv_tree.specs.Lists.{Listed, an_element, lists_at, lists_from}
 use Rattle.pv_tree.specs.declared.nodes.Mark.{Mark}
 use Rattle.pv_missing.specs.PlainForms.{plain_of}
@@ -46,11 +46,24 @@ write_node-write_list-requires t c =
     let is : plain c.args.node.now ≡ whole = ap plain c.in-Elem.is ∙ plain-Elem x c.in-Elem.attrs c.in-Elem.end c.in-Elem.kids c.in-Elem.mark in
     let owner : site_of d [] (an_element x) ≡ option_map plain_of c.element_owner-owner.result = element_site _ d [] _ x _ c.dtd.ensures c.as_slice.ensures c.element_owner-owner.ensures.owner in
     let next = ∥∥₁_map c.requires.next (λ h.
-    next_kids d c.args.verdicts.now.verdicts (plain c.args.node.now) x c.in-Elem.attrs (plain_end c.in-Elem.end) kids c.in-Elem.mark c.args.out.now.used c.take_pieces.new.out.used (plain_pieces c.in_ok-pieces-in-Elem.pieces.items) is h
-    (λ root path more are. c.in_ok-pieces-in-Elem.ensures.pieces root (record { path = path; owner = an_element x; kids = kids }) (lists_from path 0 kids ++ more) (rw c.deref.ensures.value refl) owner are)) in
+    next_kids d c.args.verdicts.now.verdicts (plain c.args.node.now) x c.in-Elem.attrs
+    (plain_end c.in-Elem.end) kids c.in-Elem.mark c.args.out.now.used c.take_pieces.new.out.used
+    (plain_pieces c.in_ok-pieces-in-Elem.pieces.items) is h
+    (λ root path more are. c.in_ok-pieces-in-Elem.ensures.pieces root
+    (record { path = path; owner = an_element x; kids = kids }) (lists_from path 0 kids ++ more)
+    (rw c.deref.ensures.value refl) owner are)) in
     let suits = rw c.deref.ensures.value at c.in_ok-pieces-in-Elem.ensures.suits in (
       rw c.deref-in-Elem-2.ensures.value (omega (arith, ap nodes_in is, c.decreases)),
-      (c.requires.known, (c.requires.possible, (rw (c.deref-in-Elem-2.ensures.value, c.start_old-in-Elem.ensures.used) next, rw (c.as_slice-in-Elem-4.ensures.value, c.deref-in-Elem-2.ensures.value) suits))),
+      (
+        c.requires.known,
+        (
+          c.requires.possible,
+          (
+            rw (c.deref-in-Elem-2.ensures.value, c.start_old-in-Elem.ensures.used) next,
+            rw (c.as_slice-in-Elem-4.ensures.value, c.deref-in-Elem-2.ensures.value) suits,
+          ),
+        ),
+      ),
     )
 
 pub write_list-write_node-requires : goal.write_list-write_node-requires
@@ -71,7 +84,9 @@ write_list-loop-kid-init t c = record {
   within = omega arith;
   few = omega arith;
   suits = c.requires.suits;
-  some = λ root path more are. some_none (dtd_of c.args.layout.now.grammar.now) root path (plain_pieces c.args.pieces.now) (forest c.args.kids.now) more c.args.verdicts.now.verdicts (writing_of c.args.out.now) are;
+  some = λ root path more are. some_none (dtd_of c.args.layout.now.grammar.now) root path
+      (plain_pieces c.args.pieces.now) (forest c.args.kids.now) more c.args.verdicts.now.verdicts
+      (writing_of c.args.out.now) are;
 }
 
 pub write_list-loop-kid-preserved : goal.write_list-loop-kid-preserved
@@ -84,9 +99,16 @@ write_list-loop-kid-preserved t c =
     let tags = c.in_ok-next.ensures.written in
     let pieces = c.args.pieces.now in
     let b = c.has_token.result in
-    let next : IsNext b c.in_ok-next.next c.if-has_token.next = elim c.if-has_token.branch [ write_list-then-has_token w ↦ rw w.if-has_token.true w.next-is | write_list-else-has_token w ↦ rw w.if-has_token.false w.next-is ] in
+    let next : IsNext b c.in_ok-next.next c.if-has_token.next =
+    elim c.if-has_token.branch [
+      | write_list-then-has_token w ↦ rw w.if-has_token.true w.next-is
+      | write_list-else-has_token w ↦ rw w.if-has_token.false w.next-is
+    ] in
     let token = let e = c.has_token.ensures.shown in rw (← e) at (tells_token (plain kid)) in
-    let suits : SuitsWord d (plain_pieces (drop c.in_ok-next.next pieces)) (word_of d (tree (plain kid) rest)) = rw step at (tags.front.suits (word_of d (forest (drop i c.args.kids.now))) c.loop-kid.invariant.suits) in
+    let suits : SuitsWord d (plain_pieces (drop c.in_ok-next.next pieces))
+    (word_of d (tree (plain kid) rest)) =
+    rw step at (tags.front.suits (word_of d (forest (drop i c.args.kids.now)))
+    c.loop-kid.invariant.suits) in
     let after = after_node d pieces c.in_ok-next.next c.if-has_token.next b (plain kid) rest c.in_ok-next.ensures.within tags.awaits token suits next in
     record {
       within = after.within;
@@ -129,7 +151,9 @@ write_node-returns-in-Cdata t c =
     IfOk-weaker c.bytes-in-Cdata.result _ _
     (λ _ f root path more are.
     subst (λ k. WritesTree d root path k more c.args.verdicts.now.verdicts (writing_of c.args.out.now) (writing_of c.bytes-in-Cdata.new.self)) (sym is)
-    (leaf_written d root path leaf more c.args.verdicts.now.verdicts (writing_of c.args.out.now) (writing_of c.bytes-in-Cdata.new.self) refl (rw c.as_slice-in-Cdata.ensures at f) c.bytes-in-Cdata.ensures.used
+    (leaf_written d root path leaf more c.args.verdicts.now.verdicts (writing_of c.args.out.now)
+    (writing_of c.bytes-in-Cdata.new.self) refl (rw c.as_slice-in-Cdata.ensures at f)
+    c.bytes-in-Cdata.ensures.used
     (subst (λ k. AreVerdicts d root (lists_at path k ++ more) (drop c.args.out.now.used c.args.verdicts.now.verdicts)) is are)))
     c.bytes-in-Cdata.ensures.written
 
@@ -141,7 +165,9 @@ write_node-returns-in-Misc t c =
     IfOk-weaker c.bytes-in-Misc.result _ _
     (λ _ f root path more are.
     subst (λ k. WritesTree d root path k more c.args.verdicts.now.verdicts (writing_of c.args.out.now) (writing_of c.bytes-in-Misc.new.self)) (sym is)
-    (leaf_written d root path leaf more c.args.verdicts.now.verdicts (writing_of c.args.out.now) (writing_of c.bytes-in-Misc.new.self) refl (rw c.as_slice-in-Misc.ensures at f) c.bytes-in-Misc.ensures.used
+    (leaf_written d root path leaf more c.args.verdicts.now.verdicts (writing_of c.args.out.now)
+    (writing_of c.bytes-in-Misc.new.self) refl (rw c.as_slice-in-Misc.ensures at f)
+    c.bytes-in-Misc.ensures.used
     (subst (λ k. AreVerdicts d root (lists_at path k ++ more) (drop c.args.out.now.used c.args.verdicts.now.verdicts)) is are)))
     c.bytes-in-Misc.ensures.written
 
@@ -160,10 +186,14 @@ write_node-returns-then-is_bare t c =
     IfOk-weaker c.start_old.result _ _
     (λ _ f root path more are.
     let list : Listed Mark = record { path = path; owner = an_element x; kids = kids } in
-    let left : AreVerdicts d root (list ∷ (lists_from path 0 kids ++ more)) (drop c.args.out.now.used vs) = subst (λ k. AreVerdicts d root (lists_at path k ++ more) (drop c.args.out.now.used vs)) is are in
+    let left : AreVerdicts d root (list ∷ (lists_from path 0 kids ++ more))
+    (drop c.args.out.now.used vs) = subst (λ k. AreVerdicts d root (lists_at path k ++ more)
+    (drop c.args.out.now.used vs)) is are in
     let p = c.in_ok-pieces-in-Elem.ensures.pieces root list (lists_from path 0 kids ++ more) (rw c.deref.ensures.value refl) owner left in
     subst (λ k. WritesTree d root path k more vs (writing_of c.args.out.now) (writing_of c.start_old.new.self)) (sym is)
-    (bare_written d (proper c.args.layout.now.grammar.now.layout.dtd) (dtd_names c.args.layout.now.grammar.now.layout.dtd) root path x c.in-Elem.attrs (plain_end c.in-Elem.end) kids c.in-Elem.mark more vs
+    (bare_written d (proper c.args.layout.now.grammar.now.layout.dtd)
+    (dtd_names c.args.layout.now.grammar.now.layout.dtd) root path x c.in-Elem.attrs
+    (plain_end c.in-Elem.end) kids c.in-Elem.mark more vs
     (writing_of c.args.out.now) (writing_of c.take_pieces.new.out) (writing_of c.start_old.new.self) (plain_pieces c.in_ok-pieces-in-Elem.pieces.items) p bare.0 no_kids no_pieces
     (rw c.take_pieces.ensures.body refl) (rw c.take_pieces.ensures.marks refl) c.take_pieces.ensures.begun
     (rw (c.as_slice-then-is_bare.ensures, c.as_slice-then-is_bare-2.ensures) at f) c.start_old.ensures.used))
@@ -183,11 +213,17 @@ write_node-returns-in_ok-write_list-in-Elem t c =
     IfOk-weaker c.end_old.result _ _
     (λ _ f root path more are.
     let list : Listed Mark = record { path = path; owner = an_element x; kids = kids } in
-    let left : AreVerdicts d root (list ∷ (lists_from path 0 kids ++ more)) (drop c.args.out.now.used vs) = subst (λ k. AreVerdicts d root (lists_at path k ++ more) (drop c.args.out.now.used vs)) is are in
+    let left : AreVerdicts d root (list ∷ (lists_from path 0 kids ++ more))
+    (drop c.args.out.now.used vs) = subst (λ k. AreVerdicts d root (lists_at path k ++ more)
+    (drop c.args.out.now.used vs)) is are in
     let p = c.in_ok-pieces-in-Elem.ensures.pieces root list (lists_from path 0 kids ++ more) (rw c.deref.ensures.value refl) owner left in
     subst (λ k. WritesTree d root path k more vs (writing_of c.args.out.now) (writing_of c.end_old.new.self)) (sym is)
-    (element_written d (proper c.args.layout.now.grammar.now.layout.dtd) (dtd_names c.args.layout.now.grammar.now.layout.dtd) root path x c.in-Elem.attrs (plain_end c.in-Elem.end) kids c.in-Elem.mark more vs
-    (writing_of c.args.out.now) (writing_of c.take_pieces.new.out) (writing_of c.start_old-in-Elem.new.self) (writing_of c.write_list.new.out) (writing_of c.end_old.new.self) (plain_pieces c.in_ok-pieces-in-Elem.pieces.items) p
+    (element_written d (proper c.args.layout.now.grammar.now.layout.dtd)
+    (dtd_names c.args.layout.now.grammar.now.layout.dtd) root path x c.in-Elem.attrs
+    (plain_end c.in-Elem.end) kids c.in-Elem.mark more vs
+    (writing_of c.args.out.now) (writing_of c.take_pieces.new.out)
+    (writing_of c.start_old-in-Elem.new.self) (writing_of c.write_list.new.out)
+    (writing_of c.end_old.new.self) (plain_pieces c.in_ok-pieces-in-Elem.pieces.items) p
     (rw c.take_pieces.ensures.body refl) (rw c.take_pieces.ensures.marks refl) c.take_pieces.ensures.begun
     first c.start_old-in-Elem.ensures.used (all root path more (rw c.start_old-in-Elem.ensures.used p.passes.left))
     (λ s k q. absurd (let r = c.if-is_bare.ensures.1 (s, rw c.deref-in-Elem.ensures.value k, rw c.as_slice-in-Elem.ensures.value q) in cc))

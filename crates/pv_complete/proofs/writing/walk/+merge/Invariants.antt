@@ -18,7 +18,9 @@ invariant-write_list-loop-kid l = record {
   few : nodes_in_all (forest (drop l.kid-index l.kids)) ≤ nodes_in_all (forest l.kids);
   suits : SuitsWord (dtd_of l.layout.grammar.now) (plain_pieces (drop l.next l.pieces)) (word_of (dtd_of l.layout.grammar.now) (forest (drop l.kid-index l.kids)));
   some : (root path : List ℕ) (more : List (Listed Mark)) → AreVerdicts (dtd_of l.layout.grammar.now) root (lists_from path 0 (forest l.kids) ++ more) (drop l.fn.out.used l.verdicts.verdicts) →
-      WritesSome (dtd_of l.layout.grammar.now) root path l.kid-index (plain_pieces l.pieces) (plain_pieces (drop l.next l.pieces)) (forest l.kids) (forest (drop l.kid-index l.kids)) more l.verdicts.verdicts
+      WritesSome (dtd_of l.layout.grammar.now) root path l.kid-index (plain_pieces l.pieces)
+      (plain_pieces (drop l.next l.pieces)) (forest l.kids) (forest (drop l.kid-index l.kids))
+      more l.verdicts.verdicts
       (writing_of l.fn.out) (writing_of l.out);
 }
 

@@ -10,7 +10,7 @@ use Rattle.pv_tree.specs.declared.nodes.Mark.{Mark}
 use Rattle.pv_missing.specs.PlainForms.{plain_of}
 use Rattle.pv_missing.specs.Verdicts.{AreVerdicts}
 use Rattle.pv_missing.specs.Weighing.{site_of}
-use Rattle.pv_missing.proofs.Walking.{root_site}
+use Rattle.pv_missing.proofs.ListPaths.{root_site}
 use Rattle.pv_tree.proofs.Every.{all_left}
 use Rattle.pv_complete.specs.Needing.{AreLightLists, IsLightList}
 use Rattle.pv_complete.specs.PieceForms.{plain_pieces}
@@ -70,8 +70,12 @@ returns c = λ are.
     let l = written root [] [] (rw c.bytes.ensures.used p.passes.left) in
     let before = rw c.as_slice.ensures at c.in_ok-bytes.ensures.written in
     let after = rw c.as_slice-3.ensures at c.in_ok-bytes-2.ensures.written in
-    let first = appends_after (writing_of c.new-out.result) (writing_of c.take_pieces.new.out) (writing_of c.bytes.new.self) _ (rw c.take_pieces.ensures.body refl) (rw c.take_pieces.ensures.marks refl) c.take_pieces.ensures.begun before in
-    let text = whole_text (writing_of c.new-out.result) (writing_of c.bytes.new.self) (writing_of c.write_list.new.out) (writing_of c.bytes-2.new.self) c.args.doc.now.before c.args.doc.now.after l.events
+    let first = appends_after (writing_of c.new-out.result) (writing_of c.take_pieces.new.out)
+    (writing_of c.bytes.new.self) _ (rw c.take_pieces.ensures.body refl)
+    (rw c.take_pieces.ensures.marks refl) c.take_pieces.ensures.begun before in
+    let text = whole_text (writing_of c.new-out.result) (writing_of c.bytes.new.self)
+    (writing_of c.write_list.new.out) (writing_of c.bytes-2.new.self) c.args.doc.now.before
+    c.args.doc.now.after l.events
     c.new-out.ensures.body c.new-out.ensures.marks c.new-out.ensures.begun first l.appends after in
     record {
       pieces = plain_pieces c.in_ok-pieces.pieces.items;

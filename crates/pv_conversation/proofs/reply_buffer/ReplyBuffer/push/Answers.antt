@@ -1,5 +1,5 @@
 use Rattle.std.proofs.lemmas.Result.{err_from_is_err_and}
-use Rattle.pv_conversation.proofs.Holding.{holds_no_more}
+use Rattle.pv_conversation.proofs.HeldReplies.{holds_no_more}
 use Rattle.pv_conversation.proofs.Replies.{front_behind}
 use Rattle.pv_conversation.proofs.reply_buffer.ReplyBuffer.push.Goals as goal
 

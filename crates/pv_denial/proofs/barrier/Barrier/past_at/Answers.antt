@@ -4,7 +4,7 @@ use Rattle.pv_rules.specs.PlainForms.{plain_site}
 use Rattle.pv_denial.specs.Indexes.{IsSlot, slot}
 use Rattle.pv_denial.specs.RowForms.{one_past, past_at}
 use Rattle.pv_denial.specs.declared.denials.Row.{Row}
-use Rattle.pv_denial.proofs.Indexing.{none_listed, row_listed}
+use Rattle.pv_denial.proofs.RowIndex.{none_listed, row_listed}
 use Rattle.pv_denial.proofs.barrier.Barrier.past_at.Goals as goal
 
 pub returns-then-number-eq0 : goal.returns-then-number-eq0

@@ -1,7 +1,7 @@
 use Rattle.std.proofs.Common.{◌∙◌, ◌∷◌, [], ap, sym, subst}
 use Rattle.pv_flat.specs.Coming.{EventsCome}
 use Rattle.pv_flat.specs.Plain.{begin_element}
-use Rattle.pv_flat.proofs.Entered.{entered, entered-short}
+use Rattle.pv_flat.proofs.EnteredRoot.{entered, entered-short}
 use Rattle.pv_flat.specs.declared.state.Stage.TheVariants as stage
 use Rattle.pv_flat.proofs.States.{comes-as, pushed-names, same-names}
 use Rattle.pv_flat.proofs.state.Events.enter.Goals as goal

@@ -2,7 +2,7 @@ use Rattle.std.proofs.Common.{◌≡◌, [], sym, subst, refl}
 use Rattle.std.proofs.lemmas.Result.{err_from_is_err_and}
 use Rattle.pv_flat.specs.Coming.{EventsCome, IsIn, ends_with, open_names}
 use Rattle.pv_flat.specs.declared.state.Stage.TheVariants as stage
-use Rattle.pv_flat.proofs.Refused.{ends-behind, refused-behind}
+use Rattle.pv_flat.proofs.RootRefusals.{ends-behind, refused-behind}
 use Rattle.pv_flat.proofs.States.{comes-by, refused-advance, same-inside, same-names}
 use Rattle.pv_flat.proofs.state.Events.finish.Goals as goal
 
@@ -12,7 +12,9 @@ returns-in_err-read_epilog-clause-advances c =
     let none : open_names s ≡ [] = same-names [] s.elements.items c.requires.none in
     let from = err_from_is_err_and c.from_residual.result c.from_residual.ensures.1 in
     rw (from.1, from.2)
-    (refused-advance s _ _ c.requires.inside (λ left h. refused-behind s.root s.before.now s.rest.now s.count _ (rw c.as_slice.ensures at c.in_err-read_epilog.ensures.refused) left (subst (λ ns. IsIn s.before.now ns left) none h))
+    (refused-advance s _ _ c.requires.inside (λ left h. refused-behind s.root s.before.now
+    s.rest.now s.count _ (rw c.as_slice.ensures at c.in_err-read_epilog.ensures.refused) left
+    (subst (λ ns. IsIn s.before.now ns left) none h))
     (same-inside s _ c.requires.inside c.requires.inside (λ es end. (λ x. x, λ x. x))))
 
 pub returns-clause-advances : goal.returns-clause-advances

@@ -14,4 +14,6 @@ returns-clause-taken c =
 pub returns-clause-refused : goal.returns-clause-refused
 returns-clause-refused c =
     let n : c.len.result ≡ length c.args.self.now.elements.items = omega arith in
-    refused-in-place c.args.self.now c.args.name.now c.len.result c.next_item.result c.requires (number c.args.self.now.elements.items c.len.result n) (rw c.as_slice.ensures at c.next_item.ensures.refused)
+    refused-in-place c.args.self.now c.args.name.now c.len.result c.next_item.result c.requires
+    (number c.args.self.now.elements.items c.len.result n)
+    (rw c.as_slice.ensures at c.next_item.ensures.refused)

@@ -9,7 +9,9 @@ use Rattle.pv_flat.proofs.state.Events.take.Goals as goal
 pub returns-in-CommentOrInstruction-clause-leads : goal.returns-in-CommentOrInstruction-clause-leads
 returns-in-CommentOrInstruction-clause-leads c = λ es end comes.
     let p = c.pass.ensures in
-    passed c.args.self.now c.pass.new.self (comment_or_instruction c.in-CommentOrInstruction.bytes.now) c.args.more.now c.requires.inside c.requires.some (rw c.in-CommentOrInstruction.is at c.requires.taken)
+    passed c.args.self.now c.pass.new.self
+    (comment_or_instruction c.in-CommentOrInstruction.bytes.now) c.args.more.now
+    c.requires.inside c.requires.some (rw c.in-CommentOrInstruction.is at c.requires.taken)
     p.root p.before p.rest p.count (same-names _ _ p.open_elements) es end (comes-as c.pass.new.self stage.Inside (p.at_stage ∙ c.requires.inside) es end comes)
 
 pub returns-in-CdataSection-clause-leads : goal.returns-in-CdataSection-clause-leads
@@ -27,7 +29,9 @@ returns-in-TextRun-clause-leads c = λ es end comes.
 pub returns-in_ok-push-in-StartTag-clause-leads : goal.returns-in_ok-push-in-StartTag-clause-leads
 returns-in_ok-push-in-StartTag-clause-leads c = λ es end comes.
     let p = c.pass-in-StartTag.ensures in
-    passed c.args.self.now c.pass-in-StartTag.new.self (start_tag c.in-StartTag.tag.name.now c.in-StartTag.tag.attrs.now) c.args.more.now c.requires.inside c.requires.some (rw c.in-StartTag.is at c.requires.taken)
+    passed c.args.self.now c.pass-in-StartTag.new.self (start_tag c.in-StartTag.tag.name.now
+    c.in-StartTag.tag.attrs.now) c.args.more.now c.requires.inside c.requires.some
+    (rw c.in-StartTag.is at c.requires.taken)
     p.root p.before p.rest p.count (pushed-names c.args.self.now.elements.items _ _ c.in-StartTag.tag.name c.in_ok-push-in-StartTag.ensures.items p.open_elements) es end
     (comes-as c.pass-in-StartTag.new.self stage.Inside (p.at_stage ∙ c.requires.inside) es end comes)
 
@@ -45,6 +49,8 @@ returns-in-EndTag-clause-leads c = λ es end comes.
     let p = c.pass-in-EndTag.ensures in
     passed c.args.self.now c.pass-in-EndTag.new.self (end_tag c.in-EndTag.name.now c.in-EndTag.gap.now) c.args.more.now c.requires.inside c.requires.some (rw c.in-EndTag.is at c.requires.taken)
     p.root p.before p.rest p.count
-    (popped-names c.args.self.now.elements.items c.pop-name.new.self.items c.pass-in-EndTag.new.self.elements.items c.pop-name.result c.in-EndTag.name.now c.in-EndTag.gap.now c.pop-name.ensures.items p.open_elements
+    (popped-names c.args.self.now.elements.items c.pop-name.new.self.items
+    c.pass-in-EndTag.new.self.elements.items c.pop-name.result c.in-EndTag.name.now
+    c.in-EndTag.gap.now c.pop-name.ensures.items p.open_elements
     (λ none. let z = rw none at c.pop-name.ensures.cases in omega (arith, z.0)) c.requires.some)
     es end (comes-as c.pass-in-EndTag.new.self stage.Inside (p.at_stage ∙ c.requires.inside) es end comes)

@@ -3,7 +3,7 @@ use Rattle.pv_dtd.specs.PlainForms.{plain_dtd}
 use Rattle.pv_tree.specs.Lists.{Listed}
 use Rattle.pv_tree.specs.Walks.{list_given}
 use Rattle.pv_tree.specs.declared.nodes.Mark.{Mark}
-use Rattle.pv_tree.proofs.Searching.{tells_one}
+use Rattle.pv_tree.proofs.ListSearches.{tells_one}
 use Rattle.pv_missing.specs.Widths.{IsListForVerdict}
 use Rattle.pv_fresh.proofs.widths.WidthsListTest.passes_list.Goals as goal
 

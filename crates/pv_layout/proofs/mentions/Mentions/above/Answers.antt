@@ -1,7 +1,7 @@
 use Rattle.std.proofs.Common.{arith, suc, ◌+◌, ◌≡◌}
 use Rattle.std.proofs.lemmas.Option.{slice_get_within}
 use Rattle.pv_layout.specs.Mentions.{start_of}
-use Rattle.pv_layout.proofs.Mentioning.{told_between}
+use Rattle.pv_layout.proofs.MentionedColumns.{told_between}
 use Rattle.pv_layout.proofs.mentions.Mentions.above.Goals as goal
 
 pub returns-then-first-end : goal.returns-then-first-end

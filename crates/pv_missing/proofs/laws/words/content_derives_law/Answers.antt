@@ -1,4 +1,4 @@
-use Rattle.pv_missing.proofs.Spanned.{content_weights}
+use Rattle.pv_missing.proofs.SpanDerivations.{content_weights}
 use Rattle.pv_missing.proofs.laws.words.content_derives_law.Goals as goal
 
 pub returns : goal.returns

@@ -1,4 +1,4 @@
-use Rattle.pv_missing.proofs.Spanned.{root_weights}
+use Rattle.pv_missing.proofs.SpanDerivations.{root_weights}
 use Rattle.pv_missing.proofs.laws.words.root_derives_law.Goals as goal
 
 pub returns : goal.returns

@@ -7,7 +7,10 @@ use Rattle.pv_params.proofs.names.NamesBeingRead.leave.Goals.{in-Some-1, in-None
 
 pub returns-then-of_entity : goal.returns-then-of_entity
 returns-then-of_entity c =
-    let left : last_first_on c.pop.new.self.keys [] ≡ names_behind c.args.of_entity c.args.self.now = name_left c.self.inside.set.keys _ c.self.view_is c.pop.new.self.keys c.pop.result c.pop.ensures.keys c.pop.ensures.found.1 ∙ ap (λ b. names_behind b c.args.self.now) (sym c.if-of_entity.true) in
+    let left : last_first_on c.pop.new.self.keys [] ≡ names_behind c.args.of_entity
+    c.args.self.now = name_left c.self.inside.set.keys _ c.self.view_is c.pop.new.self.keys
+    c.pop.result c.pop.ensures.keys c.pop.ensures.found.1
+    ∙ ap (λ b. names_behind b c.args.self.now) (sym c.if-of_entity.true) in
     elim c.match-pop.branch [
       | in-Some-1 w ↦ w.self-is ∙ left
       | in-None-1 w ↦ w.self-is ∙ left

@@ -1,7 +1,7 @@
 use Rattle.std.proofs.Common.{◌≡◌}
 use Rattle.std.proofs.lemmas.Bool.{lt-ltb, ltb-true}
 use Rattle.pv_productive.specs.Tables.{size_at}
-use Rattle.pv_productive.proofs.Sized.{productive_sized, size_small}
+use Rattle.pv_productive.proofs.NameSizes.{productive_sized, size_small}
 use Rattle.pv_productive.proofs.grammar.Grammar.is_productive.Goals as goal
 
 pub returns : goal.returns

@@ -1,6 +1,6 @@
 use Rattle.std.proofs.Common.{arith, ◌∙◌, ◌≡◌}
 use Rattle.pv_productive.specs.Tables.{size_at}
-use Rattle.pv_productive.proofs.Sized.{cut_size, size_small}
+use Rattle.pv_productive.proofs.NameSizes.{cut_size, size_small}
 use Rattle.pv_productive.proofs.grammar.Grammar.least_tree.Goals as goal
 
 pub returns-then-size-lt-NO_SIZE : goal.returns-then-size-lt-NO_SIZE

@@ -1,9 +1,9 @@
 use Rattle.std.proofs.Common.{Bool, Contains, List, subst, sym}
 use Rattle.pv_columns.specs.Marks.{AreMarked}
-use Rattle.pv_columns.proofs.Marking.{marked_at}
+use Rattle.pv_columns.proofs.ClosedMarks.{marked_at}
 use Rattle.pv_productive.specs.PlainForms.{dtd_of}
 use Rattle.pv_reach.proofs.FormedDtds.{formed_dtd}
-use Rattle.pv_reach.proofs.Leading.{bare_more, bare_names}
+use Rattle.pv_reach.proofs.LinkedColumns.{bare_more, bare_names}
 use Rattle.pv_reach.proofs.columns.bare.bare_columns.Goals.{then-is_open, else-is_open}
 use Rattle.pv_reach.proofs.columns.bare.bare_columns.Goals as goal
 
@@ -20,7 +20,9 @@ loop-rule-preserved c =
     elim c.if-is_open.branch [
       | then-is_open w ↦
           rw w.flags-is
-          (bare_more c.args.rules.now c.loop-rule.flags.items w.set_flag.new.flags.items r con (c.is_open.ensures.token w.if-is_open.true) (marked_at c.loop-rule.flags.items r.columns.items (subst P c.deref.ensures.value (c.is_open.ensures.marked w.if-is_open.true)))
+          (bare_more c.args.rules.now c.loop-rule.flags.items w.set_flag.new.flags.items r con
+          (c.is_open.ensures.token w.if-is_open.true) (marked_at c.loop-rule.flags.items
+          r.columns.items (subst P c.deref.ensures.value (c.is_open.ensures.marked w.if-is_open.true)))
           c.loop-rule.invariant w.set_flag.ensures.set)
       | else-is_open w ↦ rw w.flags-is c.loop-rule.invariant
     ]

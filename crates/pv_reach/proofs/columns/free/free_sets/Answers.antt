@@ -1,6 +1,6 @@
 use Rattle.std.proofs.Common.{List, subst, ℕ}
 use Rattle.pv_columns.specs.FreeSets.{AreFreeSets}
-use Rattle.pv_reach.proofs.Listing.{if_ok_as}
+use Rattle.pv_reach.proofs.ContentRules.{if_ok_as}
 use Rattle.pv_reach.proofs.columns.free.free_sets.Goals as goal
 
 pub returns : goal.returns

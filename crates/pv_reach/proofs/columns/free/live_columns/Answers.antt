@@ -26,7 +26,9 @@ loop-column-preserved c =
           let e : w.column_head.result ≡ column_head m.heads.items x = w.column_head.ensures ∙ ap (λ v. column_head v x) w.deref-then-is_marked.ensures.value in
           rw w.live-is record {
             long = w.set_flag.ensures.long ∙ before.long;
-            bare = head_more c.args.merged.now c.loop-column.live.items w.set_flag.new.flags.items w.column_head.result (column_head m.heads.items x) e (c.requires.heads x marked lt) before.bare w.set_flag.ensures.set;
+            bare = head_more c.args.merged.now c.loop-column.live.items w.set_flag.new.flags.items
+                w.column_head.result (column_head m.heads.items x) e (c.requires.heads x marked lt)
+                before.bare w.set_flag.ensures.set;
           }
       | else-is_marked w ↦ rw w.live-is before
     ]

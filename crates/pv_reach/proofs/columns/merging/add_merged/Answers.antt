@@ -1,6 +1,6 @@
 use Rattle.std.proofs.Common.{ap, inl, ◌∙◌, ◌≡◌}
 use Rattle.pv_reach.specs.Merging.{column_head, column_heads}
-use Rattle.pv_reach.proofs.Replacing.{adds_one, has_merged, merged_rule, ok_then}
+use Rattle.pv_reach.proofs.StandInColumns.{adds_one, has_merged, merged_rule, ok_then}
 use Rattle.pv_reach.proofs.columns.merging.add_merged.Goals as goal
 
 pub returns-clause-added : goal.returns-clause-added

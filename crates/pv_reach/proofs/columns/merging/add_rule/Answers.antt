@@ -1,5 +1,5 @@
 use Rattle.pv_reach.specs.Merging.{column_head, column_heads}
-use Rattle.pv_reach.proofs.Replacing.{adds_twice}
+use Rattle.pv_reach.proofs.StandInColumns.{adds_twice}
 use Rattle.pv_reach.proofs.columns.merging.add_rule.Goals as goal
 
 pub returns-in_ok-add_further-clause-added : goal.returns-in_ok-add_further-clause-added

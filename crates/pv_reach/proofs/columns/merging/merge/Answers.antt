@@ -1,6 +1,6 @@
 use Rattle.std.proofs.Common.{Contains, List, arith, subst, sym, ℕ}
 use Rattle.std.proofs.lemmas.List.{take_all}
-use Rattle.pv_reach.proofs.Replacing.{rule_more, rule_passed}
+use Rattle.pv_reach.proofs.StandInColumns.{rule_more, rule_passed}
 use Rattle.pv_reach.proofs.columns.merging.merge.Goals.{then-number-rules+in_ok-add_rule, else-number-rules}
 use Rattle.pv_reach.proofs.columns.merging.merge.Goals as goal
 
@@ -10,7 +10,9 @@ loop-place-preserved c =
     elim c.if-number-rules.branch [
       | then-number-rules+in_ok-add_rule w ↦ rw w.new-is record {
         merged = w.in_ok-add_rule.ensures.added.merged c.loop-place.invariant.merged;
-        has = rule_more rules m order n c.loop-place.new.items w.add_rule.new.new.items c.loop-place-test.true w.in_ok-add_rule.ensures.added.grow w.in_ok-add_rule.ensures.has c.loop-place.invariant.has;
+        has = rule_more rules m order n c.loop-place.new.items w.add_rule.new.new.items
+            c.loop-place-test.true w.in_ok-add_rule.ensures.added.grow w.in_ok-add_rule.ensures.has
+            c.loop-place.invariant.has;
       }
       | else-number-rules w ↦ rw w.new-is record {
         merged = c.loop-place.invariant.merged;

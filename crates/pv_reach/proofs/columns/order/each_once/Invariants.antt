@@ -1,4 +1,4 @@
-use Rattle.pv_reach.proofs.Placing.{ArePlaced}
+use Rattle.pv_reach.proofs.PlacedNumbers.{ArePlaced}
 use Rattle.pv_reach.proofs.columns.order.each_once.Given as goal
 
 abbrev pub invariant-loop-number : goal.invariant-loop-number

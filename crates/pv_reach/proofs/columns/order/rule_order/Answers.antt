@@ -1,6 +1,6 @@
 use Rattle.std.proofs.Common.{Contains, List, arith, subst, sym, ℕ}
-use Rattle.pv_reach.proofs.Listing.{if_ok_as}
-use Rattle.pv_reach.proofs.Naming.{one_more_name}
+use Rattle.pv_reach.proofs.ContentRules.{if_ok_as}
+use Rattle.pv_reach.proofs.NameRules.{one_more_name}
 use Rattle.pv_reach.proofs.columns.order.rule_order.Goals as goal
 
 pub loop-number-preserved : goal.loop-number-preserved

@@ -2,8 +2,8 @@ use Rattle.std.proofs.Common.{Contains, ap, arith, get_or, length, replicate, �
 use Rattle.std.proofs.lemmas.Grind.{common_steps}
 use Rattle.std.proofs.lemmas.List.{get_or_default}
 use Rattle.pv_columns.specs.declared.rules.ColumnRule.{ColumnRule}
-use Rattle.pv_reach.proofs.Closing.{columns_in_range}
-use Rattle.pv_reach.proofs.Ranged.{end_more}
+use Rattle.pv_reach.proofs.ClosedCells.{columns_in_range}
+use Rattle.pv_reach.proofs.RuleRanges.{end_more}
 use Rattle.pv_reach.proofs.columns.ranges.ends_of.Goals as goal
 
 pub loop-number-init : goal.loop-number-init
@@ -28,5 +28,8 @@ loop-number-preserved c =
     let lt : n < length rules = omega (arith, c.loop-number-test.true) in
     record {
       long = e.long ∙ c.loop-number.invariant.long;
-      held = end_more rules c.loop-number.ends.items c.put_number.new.numbers.items n r.left (λ d. ap (λ (v : ColumnRule). v.left) (get_or_default rules n d c.index-rules-number.result lt)) e.others e.here c.loop-number.invariant.held;
+      held = end_more rules c.loop-number.ends.items c.put_number.new.numbers.items n r.left
+          (λ d. ap (λ (v : ColumnRule). v.left)
+          (get_or_default rules n d c.index-rules-number.result lt)) e.others e.here
+          c.loop-number.invariant.held;
     }

@@ -16,5 +16,7 @@ heads_are turned above below first second (Err error) e f long led h = tt
 pub returns : goal.returns
 returns c =
     let below = c.in_ok-below in
-    heads_are c.args.turned.now c.args.above.now.table.items below.below.table.items _ _ c.common_ends.result c.deref-3.ensures.value c.deref-4.ensures.value (below.ensures.0 ∙ sym c.requires) below.ensures.1
+    heads_are c.args.turned.now c.args.above.now.table.items below.below.table.items _ _
+    c.common_ends.result c.deref-3.ensures.value c.deref-4.ensures.value (below.ensures.0
+    ∙ sym c.requires) below.ensures.1
     c.common_ends.ensures

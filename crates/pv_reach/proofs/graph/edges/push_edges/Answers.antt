@@ -1,6 +1,6 @@
 use Rattle.std.proofs.Common.{List, ap, get_or, length, refl, subst, ℕ, ◌<◌}
 use Rattle.pv_columns.specs.declared.layers.Edge.{Edge}
-use Rattle.pv_reach.proofs.Sweeping.{edge_more}
+use Rattle.pv_reach.proofs.EdgeSweeps.{edge_more}
 use Rattle.pv_reach.proofs.graph.edges.push_edges.Goals as goal
 
 pub loop-column-preserved : goal.loop-column-preserved

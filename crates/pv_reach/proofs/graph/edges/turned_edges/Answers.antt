@@ -1,7 +1,7 @@
 use Rattle.std.proofs.Common.{Contains, get_or, refl}
 use Rattle.std.proofs.lemmas.List.{get_or_default}
 use Rattle.pv_columns.specs.declared.layers.Edge.{Edge}
-use Rattle.pv_reach.proofs.Sweeping.{turned_more, turned_none}
+use Rattle.pv_reach.proofs.EdgeSweeps.{turned_more, turned_none}
 use Rattle.pv_reach.proofs.graph.edges.turned_edges.Goals as goal
 
 pub loop-edge-init : goal.loop-edge-init

@@ -3,7 +3,7 @@ use Rattle.std.proofs.Math.ListN.{length-set}
 use Rattle.std.proofs.lemmas.List.{get_or_default}
 use Rattle.pv_reach.specs.Leading.{AreLed}
 use Rattle.pv_columns.specs.declared.layers.Edge.{Edge}
-use Rattle.pv_reach.proofs.Sweeping.{lead_more}
+use Rattle.pv_reach.proofs.EdgeSweeps.{lead_more}
 use Rattle.pv_reach.proofs.graph.sweep.lead.Goals as goal
 
 pub returns-then-edge-len-2 : goal.returns-then-edge-len-2

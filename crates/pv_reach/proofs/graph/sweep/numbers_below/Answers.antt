@@ -1,6 +1,6 @@
 use Rattle.std.proofs.Common.{arith}
 use Rattle.std.proofs.lemmas.Grind.{common_steps}
-use Rattle.pv_reach.proofs.Sweeping.{led_self, number_more}
+use Rattle.pv_reach.proofs.EdgeSweeps.{led_self, number_more}
 use Rattle.pv_reach.proofs.graph.sweep.numbers_below.Goals as goal
 
 pub loop-number-preserved : goal.loop-number-preserved

@@ -1,5 +1,5 @@
 use Rattle.pv_columns.specs.declared.rules.ColumnRule.{ColumnRule}
-use Rattle.pv_reach.proofs.Pushing.{added}
+use Rattle.pv_reach.proofs.PushedRules.{added}
 use Rattle.pv_reach.proofs.rules.adding.add.Goals as goal
 
 pub returns : goal.returns

@@ -1,5 +1,5 @@
 use Rattle.pv_productive.specs.PlainForms.{dtd_of}
-use Rattle.pv_reach.proofs.Naming.{any_laid, no_any_laid}
+use Rattle.pv_reach.proofs.NameRules.{any_laid, no_any_laid}
 use Rattle.pv_reach.proofs.rules.any.add_any.Goals as goal
 
 pub returns-then-not-has_any : goal.returns-then-not-has_any

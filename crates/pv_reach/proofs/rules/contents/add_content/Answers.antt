@@ -1,7 +1,7 @@
 use Rattle.std.proofs.Common.{ap, sym, ◌∙◌}
 use Rattle.pv_productive.specs.PlainForms.{dtd_of}
 use Rattle.pv_reach.specs.Columns.{part_column}
-use Rattle.pv_reach.proofs.Listing.{any_laid, children_laid, empty_laid, if_ok_as, made, undeclared_laid, unmade}
+use Rattle.pv_reach.proofs.ContentRules.{any_laid, children_laid, empty_laid, if_ok_as, made, undeclared_laid, unmade}
 use Rattle.pv_reach.proofs.rules.contents.add_content.Goals as goal
 
 pub returns-in_default : goal.returns-in_default

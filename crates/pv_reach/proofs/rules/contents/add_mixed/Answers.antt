@@ -1,6 +1,6 @@
 use Rattle.std.proofs.Common.{arith, ◌∙◌}
 use Rattle.pv_productive.specs.PlainForms.{dtd_of}
-use Rattle.pv_reach.proofs.Listing.{made, mixed_laid}
+use Rattle.pv_reach.proofs.ContentRules.{made, mixed_laid}
 use Rattle.pv_reach.proofs.rules.contents.add_mixed.Goals as goal
 
 pub add_listed-requires : goal.add_listed-requires

@@ -1,6 +1,6 @@
 use Rattle.std.proofs.Common.{arith, ◌-◌}
 use Rattle.pv_productive.specs.PlainForms.{dtd_of}
-use Rattle.pv_reach.proofs.Naming.{parts_more, parts_none}
+use Rattle.pv_reach.proofs.NameRules.{parts_more, parts_none}
 use Rattle.pv_reach.proofs.rules.contents.add_parts.Goals as goal
 
 pub loop-number-init : goal.loop-number-init

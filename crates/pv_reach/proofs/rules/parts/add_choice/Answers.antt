@@ -1,7 +1,7 @@
 use Rattle.std.proofs.Common.{arith, ◌+◌}
 use Rattle.pv_rules.proofs.Members.{part_passed, passed_further}
 use Rattle.pv_productive.specs.PlainForms.{dtd_of}
-use Rattle.pv_reach.proofs.Laying.{choice_laid, member_laid, none_laid}
+use Rattle.pv_reach.proofs.PartRules.{choice_laid, member_laid, none_laid}
 use Rattle.pv_reach.proofs.rules.parts.add_choice.Goals as goal
 
 pub loop-member-init : goal.loop-member-init
@@ -15,7 +15,9 @@ end_of-member-requires c =
 pub loop-member-smaller : goal.loop-member-smaller
 loop-member-smaller c =
     let g = dtd_of c.args.grammar.now in let lt = c.loop-member-test.true in
-    let z = passed_further g c.args.number c.args.end c.requires _ c.loop-member.member c.loop-member.invariant.members lt c.end_of-member.result (c.end_of-member.ensures g c.flat.ensures) in omega arith
+    let z = passed_further g c.args.number c.args.end c.requires _ c.loop-member.member
+    c.loop-member.invariant.members lt c.end_of-member.result
+    (c.end_of-member.ensures g c.flat.ensures) in omega arith
 
 pub loop-member-preserved : goal.loop-member-preserved
 loop-member-preserved c =

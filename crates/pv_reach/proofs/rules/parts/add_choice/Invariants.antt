@@ -1,6 +1,6 @@
 use Rattle.std.proofs.Common.{◌-◌}
 use Rattle.pv_productive.specs.PlainForms.{dtd_of}
-use Rattle.pv_reach.proofs.Laying.{IsPassed}
+use Rattle.pv_reach.proofs.PartRules.{IsPassed}
 use Rattle.pv_reach.proofs.rules.parts.add_choice.Given as goal
 
 abbrev pub invariant-loop-member : goal.invariant-loop-member

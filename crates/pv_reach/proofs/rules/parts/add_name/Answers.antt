@@ -1,7 +1,7 @@
 use Rattle.std.proofs.Common.{ap, ◌∙◌}
 use Rattle.pv_dtd.specs.Plain.{declared}
 use Rattle.pv_productive.specs.PlainForms.{dtd_of}
-use Rattle.pv_reach.proofs.Laying.{name_one, name_two}
+use Rattle.pv_reach.proofs.PartRules.{name_one, name_two}
 use Rattle.pv_reach.proofs.rules.parts.add_name.Goals as goal
 
 pub returns-in_ok-add-2 : goal.returns-in_ok-add-2

@@ -1,7 +1,7 @@
 use Rattle.std.proofs.Common.{None, List, ℕ, subst}
 use Rattle.pv_productive.specs.PlainForms.{dtd_of}
 use Rattle.pv_reach.specs.Adding.{AddsRule}
-use Rattle.pv_reach.proofs.Laying.{seq_laid}
+use Rattle.pv_reach.proofs.PartRules.{seq_laid}
 use Rattle.pv_reach.proofs.rules.parts.add_seq.Goals as goal
 
 pub returns : goal.returns

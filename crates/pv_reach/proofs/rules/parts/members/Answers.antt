@@ -2,7 +2,7 @@ use Rattle.std.proofs.Common.{Some, ap, arith, suc, ◌+◌, ◌≡◌}
 use Rattle.pv_productive.specs.PlainForms.{dtd_of}
 use Rattle.pv_reach.proofs.FormedDtds.{formed_dtd}
 use Rattle.pv_reach.specs.Columns.{member_columns}
-use Rattle.pv_reach.proofs.Membering.{full_seq, left_all, left_less, left_more, left_none}
+use Rattle.pv_reach.proofs.MembersLeft.{full_seq, left_all, left_less, left_more, left_none}
 use Rattle.pv_reach.proofs.rules.parts.members.Goals as goal
 
 pub loop-next-init : goal.loop-next-init

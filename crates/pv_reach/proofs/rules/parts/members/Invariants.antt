@@ -3,7 +3,7 @@ use Rattle.pv_model.specs.Plain.{PlainParts, seq}
 use Rattle.pv_rules.specs.Numbering.{part_at}
 use Rattle.pv_productive.specs.PlainForms.{dtd_of}
 use Rattle.pv_reach.specs.Columns.{member_columns}
-use Rattle.pv_reach.proofs.Membering.{IsLeft, parts_from}
+use Rattle.pv_reach.proofs.MembersLeft.{IsLeft, parts_from}
 use Rattle.pv_reach.proofs.rules.parts.members.Given as goal
 
 abbrev pub invariant-loop-next : goal.invariant-loop-next

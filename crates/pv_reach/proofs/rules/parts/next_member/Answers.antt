@@ -1,6 +1,6 @@
 use Rattle.std.proofs.Common.{sym, ◌∙◌}
 use Rattle.pv_productive.specs.PlainForms.{dtd_of}
-use Rattle.pv_reach.proofs.Membering.{next_of_followed, next_of_last, next_of_none, next_of_outside}
+use Rattle.pv_reach.proofs.MembersLeft.{next_of_followed, next_of_last, next_of_none, next_of_outside}
 use Rattle.pv_reach.proofs.rules.parts.next_member.Goals as goal
 
 pub returns-in_default : goal.returns-in_default

@@ -3,9 +3,9 @@ use Rattle.pv_model.specs.declared.models.Token.{Token}
 use Rattle.pv_columns.specs.ColumnRules.{InRange, ReadThrough, TokensMayBeMissing}
 use Rattle.pv_columns.specs.declared.rules.ColumnRule.{ColumnRule}
 use Rattle.pv_reach.specs.Cuts.{AreRulesCut, AreTokensOf, HasCut}
-use Rattle.pv_reach.proofs.Cutting.{cut_reaches, few_in_range, few_missing}
-use Rattle.pv_reach.proofs.Joining.{joined}
-use Rattle.pv_reach.proofs.Listing.{if_ok_as}
+use Rattle.pv_reach.proofs.FewColumns.{cut_reaches, few_in_range, few_missing}
+use Rattle.pv_reach.proofs.FreeRules.{joined}
+use Rattle.pv_reach.proofs.ContentRules.{if_ok_as}
 use Rattle.pv_reach.proofs.tables.by_cut.reaches_by_cut.Goals as goal
 
 pub reaches_end-requires-clause-narrow : goal.reaches_end-requires-clause-narrow
@@ -42,7 +42,9 @@ returns c =
     let rules = c.args.plan.now.rules.items in let word = c.args.word.now in let cut = c.args.cut.now in let names = cut.names.items in let front = c.in_ok-front.front.items in
     let T : List Token → Type 0 = λ v. AreTokensOf word v in
     let is = joined rules names cut.frees.items c.deref.result.now front cut.rules.items c.requires.cut.kept c.in_ok-front.ensures.cut c.in_ok-front.ensures.has in
-    let reaches = cut_reaches rules (front ++ cut.rules.items) names c.deref.result.now word is (subst T (sym c.deref.ensures.value) c.in_ok-tokens.ensures) c.requires.missing cut.number c.requires.cut.number 0 (length word) in
+    let reaches = cut_reaches rules (front ++ cut.rules.items) names c.deref.result.now word is
+    (subst T (sym c.deref.ensures.value) c.in_ok-tokens.ensures) c.requires.missing cut.number
+    c.requires.cut.number 0 (length word) in
     let F : List ColumnRule → Type 0 = λ v. ReadThrough (v ++ c.deref-3.result.now) word (cut.number ∷ []) 0 (length word) in
     let P : List ColumnRule → Type 0 = λ v. ReadThrough (front ++ v) word (cut.number ∷ []) 0 (length word) in
     let there : ReadThrough (front ++ cut.rules.items) word (cut.number ∷ []) 0 (length word) → ReadThrough (c.deref-2.result.now ++ c.deref-3.result.now) word (cut.number ∷ []) 0 (length word) =

@@ -3,7 +3,7 @@ use Rattle.std.proofs.lemmas.List.{get_or_default}
 use Rattle.pv_columns.specs.declared.rules.ColumnRule.{ColumnRule}
 use Rattle.pv_reach.specs.Cuts.{AddsCut, HasAllNumbered}
 use Rattle.pv_reach.specs.Merging.{column_head}
-use Rattle.pv_reach.proofs.Ranged.{adds_none, by_range, on_ok_as, push_contains, push_keeps}
+use Rattle.pv_reach.proofs.RuleRanges.{adds_none, by_range, on_ok_as, push_contains, push_keeps}
 use Rattle.pv_reach.proofs.tables.cut.add_column.Goals as goal
 
 pub returns-then-is_some-clause-adds : goal.returns-then-is_some-clause-adds
@@ -26,5 +26,7 @@ returns-clause-has c =
     let names = c.args.found.now.names.items in let l = c.args.left in let column = c.index-column.result.now in let new = c.add_rules.new.few.items in
     let is : column_head names l ≡ column = get_or_default names l 0 column c.requires.left ∙ sym c.index-column.ensures in
     on_ok_as c.add_rules.result _ _
-    (λ has. inr (by_range c.args.plan.now.rules.items c.deref.result.now names new l column c.first_of-first.result c.end_of-end.result c.args.plan.now.ranges c.requires.ranges c.deref.ensures.value is
+    (λ has. inr (by_range c.args.plan.now.rules.items c.deref.result.now names new l column
+    c.first_of-first.result c.end_of-end.result c.args.plan.now.ranges c.requires.ranges
+    c.deref.ensures.value is
     c.first_of-first.ensures c.end_of-end.ensures has)) c.add_rules.ensures.has

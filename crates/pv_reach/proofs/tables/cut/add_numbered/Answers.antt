@@ -3,7 +3,7 @@ use Rattle.std.proofs.lemmas.List.{get_or_default}
 use Rattle.pv_columns.specs.declared.rules.ColumnRule.{ColumnRule}
 use Rattle.pv_reach.specs.Cuts.{AreColumnNumbers, HasNumbered, of_rule}
 use Rattle.pv_reach.specs.Merging.{column_head, column_heads}
-use Rattle.pv_reach.proofs.Ranged.{adds_rule}
+use Rattle.pv_reach.proofs.RuleRanges.{adds_rule}
 use Rattle.pv_reach.proofs.tables.cut.add_numbered.Goals as goal
 
 pub returns-clause-adds : goal.returns-clause-adds
@@ -14,7 +14,9 @@ returns-clause-adds c =
     let e : r.left ≡ column_head names l = c.if-rule-index.false ∙ c.index.ensures ∙ get_or_default names l c.index.result.now 0 c.requires in
     let f : column_heads names c.deref-2.result.now ≡ r.columns.items = ap (λ v. column_heads names v) c.deref-2.ensures.value ∙ c.in_ok-numbers.ensures.are ∙ c.deref.ensures.value in
     let A : List ℕ → Type 0 = λ v. AreColumnNumbers names v in
-    adds_rule rules names c.args.few.now.items c.add.new.rules.items l r.token c.deref-2.result.now c.in_ok-add.ensures (of_rule r con (sym e) refl f) c.requires (subst A (sym c.deref-2.ensures.value) c.in_ok-numbers.ensures.within)
+    adds_rule rules names c.args.few.now.items c.add.new.rules.items l r.token c.deref-2.result.now
+    c.in_ok-add.ensures (of_rule r con (sym e) refl f) c.requires
+    (subst A (sym c.deref-2.ensures.value) c.in_ok-numbers.ensures.within)
 
 pub returns-clause-has : goal.returns-clause-has
 returns-clause-has c = λ x lt is z.

@@ -7,5 +7,7 @@ use Rattle.pv_reach.proofs.tables.cut.add_rules.Given as goal
 abbrev pub invariant-loop-number : goal.invariant-loop-number
 invariant-loop-number l = record {
   adds : AddsCut l.rules l.found.names.items l.fn.few.items l.few.items;
-  has : (k : ℕ) (r : ColumnRule) → l.first ≤ k → k < l.number → k < length l.rules → r ≡ get_or l.rules k r → r.left ≡ column_head l.found.names.items l.left → HasNumbered l.found.names.items l.few.items l.left r;
+  has : (k : ℕ) (r : ColumnRule) → l.first ≤ k → k < l.number → k < length l.rules →
+      r ≡ get_or l.rules k r → r.left ≡ column_head l.found.names.items l.left →
+      HasNumbered l.found.names.items l.few.items l.left r;
 }

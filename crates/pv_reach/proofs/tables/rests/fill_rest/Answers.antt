@@ -1,6 +1,6 @@
 use Rattle.std.proofs.Common.{arith, length, set, subst, sym, ℕ, ◌+◌, ◌≤◌}
 use Rattle.pv_productive.specs.PlainForms.{dtd_of}
-use Rattle.pv_reach.proofs.Resting.{IsFilled, filled_more, filled_row}
+use Rattle.pv_reach.proofs.MemberRows.{IsFilled, filled_more, filled_row}
 use Rattle.pv_reach.proofs.tables.rests.fill_rest.Goals as goal
 
 pub loop-from-preserved : goal.loop-from-preserved

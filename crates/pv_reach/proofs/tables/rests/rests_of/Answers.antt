@@ -1,7 +1,7 @@
 use Rattle.std.proofs.Common.{ap, arith, length, suc, vec_len, ◌*◌, ◌+◌, ◌∙◌, ◌≡◌}
 use Rattle.pv_dtd.specs.Plain.{PlainDtd, parts_in_models}
 use Rattle.pv_productive.specs.PlainForms.{dtd_of}
-use Rattle.pv_reach.proofs.Resting.{rests_none}
+use Rattle.pv_reach.proofs.MemberRows.{rests_none}
 use Rattle.pv_reach.proofs.tables.rests.rests_of.Goals as goal
 
 pub loop-number-init : goal.loop-number-init

@@ -1,7 +1,7 @@
 use Rattle.std.proofs.Common.{◌≡◌, ◌≤◌, ◌-◌, List, ℕ, length, take, drop, ◌++◌, arith, suc, get_or, subst}
 use Rattle.std.proofs.lemmas.Grind.{common_steps}
-use Rattle.pv_reach.proofs.Closing.{closed_complete}
-use Rattle.pv_reach.proofs.Raising.{rise_complete}
+use Rattle.pv_reach.proofs.ClosedCells.{closed_complete}
+use Rattle.pv_reach.proofs.RaisedCells.{rise_complete}
 use Rattle.pv_reach.proofs.tables.table.fill.Goals as goal
 
 pub loop-place-preserved : goal.loop-place-preserved

@@ -2,7 +2,7 @@ use Rattle.std.proofs.Common.{ℕ, List, Contains, true≢false, set, sym, ◌*�
 use Rattle.pv_columns.specs.ColumnRules.{InRange}
 use Rattle.pv_columns.specs.declared.rules.ColumnRule.{ColumnRule}
 use Rattle.pv_reach.specs.Tables.{AreAmong, IsReachedTable, RaisesNothing}
-use Rattle.pv_reach.proofs.Raising.{Raised, raised, holds_more}
+use Rattle.pv_reach.proofs.RaisedCells.{Raised, raised, holds_more}
 use Rattle.pv_reach.proofs.tables.table.raise.Goals as goal
 use Rattle.pv_reach.proofs.tables.table.raise.Goals.{then-table-at, else-table-at}
 

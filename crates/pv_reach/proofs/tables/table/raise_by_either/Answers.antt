@@ -1,5 +1,5 @@
 use Rattle.std.proofs.Common.{◌++◌}
-use Rattle.pv_reach.proofs.Fronting.{front_among, rules_among, rules_in_range}
+use Rattle.pv_reach.proofs.RuleLists.{front_among, rules_among, rules_in_range}
 use Rattle.pv_reach.proofs.tables.table.raise_by_either.Goals as goal
 
 pub raise-requires-2-clause-in_range : goal.raise-requires-2-clause-in_range

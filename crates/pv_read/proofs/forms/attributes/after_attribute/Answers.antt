@@ -15,25 +15,38 @@ pub returns-in_err-start : goal.returns-in_err-start
 returns-in_err-start c =
     let R = IsReferenceOf c.args.references in
     let bytes = c.args.bytes.now in
-    match_none _ (BeginsNone (IsAttribute R) bytes) (λ r. Begins (IsAttribute R) bytes r.now) c.from_residual.ensures (none_by_blank R (are_references c.args.references) bytes (sym c.in_err-start.ensures.after))
+    match_none _ (BeginsNone (IsAttribute R) bytes) (λ r. Begins (IsAttribute R) bytes r.now)
+    c.from_residual.ensures (none_by_blank R (are_references c.args.references) bytes
+    (sym c.in_err-start.ensures.after))
 
 pub returns-in_err-name : goal.returns-in_err-name
 returns-in_err-name c =
     let R = IsReferenceOf c.args.references in
     let bytes = c.args.bytes.now in
-    match_none _ (BeginsNone (IsAttribute R) bytes) (λ r. Begins (IsAttribute R) bytes r.now) c.from_residual-in_err-name.ensures (none_by_name R (are_references c.args.references) bytes c.in_ok-start.start.now (sym c.in_ok-start.ensures.after) c.in_err-name.ensures.found)
+    match_none _ (BeginsNone (IsAttribute R) bytes) (λ r. Begins (IsAttribute R) bytes r.now)
+    c.from_residual-in_err-name.ensures (none_by_name R (are_references c.args.references) bytes
+    c.in_ok-start.start.now (sym c.in_ok-start.ensures.after) c.in_err-name.ensures.found)
 
 pub returns-in_err-value : goal.returns-in_err-value
 returns-in_err-value c =
     let R = IsReferenceOf c.args.references in
     let bytes = c.args.bytes.now in
-    match_none _ (BeginsNone (IsAttribute R) bytes) (λ r. Begins (IsAttribute R) bytes r.now) c.from_residual-in_err-value.ensures (none_by_part R (are_references c.args.references) bytes c.in_ok-start.start.now c.in_ok-name.name.now _ (sym c.in_ok-start.ensures.after) c.in_ok-name.ensures.found c.in_err-value.ensures)
+    match_none _ (BeginsNone (IsAttribute R) bytes) (λ r. Begins (IsAttribute R) bytes r.now)
+    c.from_residual-in_err-value.ensures (none_by_part R (are_references c.args.references)
+    bytes c.in_ok-start.start.now c.in_ok-name.name.now _ (sym c.in_ok-start.ensures.after)
+    c.in_ok-name.ensures.found c.in_err-value.ensures)
 
 pub returns-then-not-are_pieces : goal.returns-then-not-are_pieces
 returns-then-not-are_pieces c =
-    none_by_value (IsReferenceOf c.args.references) (are_references c.args.references) c.args.bytes.now c.in_ok-start.start.now c.in_ok-name.name.now _ c.in_ok-value.value.now c.in_ok-value.rest.now (sym c.in_ok-start.ensures.after) c.in_ok-name.ensures.found c.in_ok-value.ensures
+    none_by_value (IsReferenceOf c.args.references) (are_references c.args.references)
+    c.args.bytes.now c.in_ok-start.start.now c.in_ok-name.name.now _ c.in_ok-value.value.now
+    c.in_ok-value.rest.now (sym c.in_ok-start.ensures.after) c.in_ok-name.ensures.found
+    c.in_ok-value.ensures
     (iff_false c.are_pieces.ensures c.if-not-are_pieces.true)
 
 pub returns : goal.returns
 returns c =
-    by_part (IsReferenceOf c.args.references) (are_references c.args.references) c.args.bytes.now c.in_ok-name.name.now c.in_ok-value.value.now c.in_ok-value.rest.now c.in_ok-name.ensures.found.is_name c.in_ok-value.ensures (c.are_pieces.ensures.0 c.if-not-are_pieces.false)
+    by_part (IsReferenceOf c.args.references) (are_references c.args.references) c.args.bytes.now
+    c.in_ok-name.name.now c.in_ok-value.value.now c.in_ok-value.rest.now
+    c.in_ok-name.ensures.found.is_name c.in_ok-value.ensures
+    (c.are_pieces.ensures.0 c.if-not-are_pieces.false)

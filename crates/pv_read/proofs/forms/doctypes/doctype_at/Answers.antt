@@ -17,4 +17,6 @@ returns-in_err-rest c =
     (no_doctype_end bytes c.in_ok-name.name.now c.in_ok-name.end.now c.in_ok-name.ensures c.in_err-rest.ensures.found)
 
 pub returns : goal.returns
-returns c = doctype_by c.args.bytes.now c.in_ok-name.name.now c.in_ok-name.end.now c.in_ok-rest.rest.now c.split_at.result.0.now c.in_ok-name.ensures c.in_ok-rest.ensures.found c.split_at.ensures.front
+returns c = doctype_by c.args.bytes.now c.in_ok-name.name.now c.in_ok-name.end.now
+    c.in_ok-rest.rest.now c.split_at.result.0.now c.in_ok-name.ensures c.in_ok-rest.ensures.found
+    c.split_at.ensures.front

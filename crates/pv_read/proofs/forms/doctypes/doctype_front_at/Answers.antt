@@ -9,7 +9,9 @@ use Rattle.pv_read.proofs.forms.doctypes.doctype_front_at.Goals as goal
 pub returns-in_err-start : goal.returns-in_err-start
 returns-in_err-start c =
     let bytes = c.args.bytes.now in
-    match_none _ (BeginsNoDoctypeFront bytes) (λ r. TakesDoctypeFront bytes r.0.now r.1.now) c.from_residual-in_err-start.ensures (no_front_blank bytes c.in_ok-inside.inside.now c.in_ok-inside.ensures.found (sym c.in_err-start.ensures.after))
+    match_none _ (BeginsNoDoctypeFront bytes) (λ r. TakesDoctypeFront bytes r.0.now r.1.now)
+    c.from_residual-in_err-start.ensures (no_front_blank bytes c.in_ok-inside.inside.now
+    c.in_ok-inside.ensures.found (sym c.in_err-start.ensures.after))
 
 pub returns-in_err-name : goal.returns-in_err-name
 returns-in_err-name c =

@@ -13,7 +13,9 @@ returns-in_err-public c =
 pub returns-in_err-between : goal.returns-in_err-between
 returns-in_err-between c =
     let bytes = c.args.bytes.now in
-    match_none _ (BeginsNone IsPublicId bytes) (λ r. Begins IsPublicId bytes r.now) c.from_residual-in_err-between.ensures (no_public_literal bytes c.in_ok-public.public.now c.in_ok-public.ensures c.in_err-between.ensures)
+    match_none _ (BeginsNone IsPublicId bytes) (λ r. Begins IsPublicId bytes r.now)
+    c.from_residual-in_err-between.ensures (no_public_literal bytes c.in_ok-public.public.now
+    c.in_ok-public.ensures c.in_err-between.ensures)
 
 pub returns-in_err-system : goal.returns-in_err-system
 returns-in_err-system c =

@@ -9,7 +9,9 @@ pub returns-in_err-start : goal.returns-in_err-start
 returns-in_err-start c =
     let word = c.args.word.now in
     let bytes = c.args.bytes.now in
-    match_none _ ((rest : List ℕ) → TakesWord word bytes rest → ⊥) (λ r. TakesWord word bytes r.now) c.from_residual.ensures (no_word_blank word c.requires.some c.requires.black bytes (sym c.in_err-start.ensures.after))
+    match_none _ ((rest : List ℕ) → TakesWord word bytes rest → ⊥) (λ r. TakesWord word bytes r.now)
+    c.from_residual.ensures (no_word_blank word c.requires.some c.requires.black bytes
+    (sym c.in_err-start.ensures.after))
 
 pub returns-in_err-named : goal.returns-in_err-named
 returns-in_err-named c =

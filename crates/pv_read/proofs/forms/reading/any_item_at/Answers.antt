@@ -30,7 +30,9 @@ returns-in-EndTag c =
 pub returns-in-Misc : goal.returns-in-Misc
 returns-in-Misc c =
     let bytes = c.args.bytes.now in
-    match_same _ (BeginsNone IsComment bytes × BeginsNone IsInstruction bytes × BeginsNone IsXmlDecl bytes) (BeginsNoItem bytes) (λ r. BeginsItem (plain_item r.0) bytes r.1.now) (λ r. BeginsItem (plain_item r.0) bytes r.1.now)
+    match_same _ (BeginsNone IsComment bytes × BeginsNone IsInstruction bytes
+    × BeginsNone IsXmlDecl bytes) (BeginsNoItem bytes) (λ r. BeginsItem (plain_item r.0) bytes
+    r.1.now) (λ r. BeginsItem (plain_item r.0) bytes r.1.now)
     (no_misc bytes (sym c.sort_of.ensures ∙ c.in-Misc.is)) (λ r b. b) c.misc_at.ensures
 
 pub returns-in-Section : goal.returns-in-Section

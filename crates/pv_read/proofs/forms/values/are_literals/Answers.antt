@@ -1,6 +1,6 @@
 use Rattle.std.proofs.Common.{refl, sym, ◌∙◌}
 use Rattle.pv_read.proofs.Cuts.{simple_literals, literals_where, not_literals, holds_found}
-use Rattle.pv_chars.proofs.Delimited.{byte_nowhere}
+use Rattle.pv_chars.proofs.DelimiterPlaces.{byte_nowhere}
 use Rattle.pv_read.proofs.forms.values.are_literals.Goals as goal
 
 pub returns-in-Some : goal.returns-in-Some

@@ -1,5 +1,5 @@
 use Rattle.std.proofs.Common.{◌∙◌, sym}
-use Rattle.pv_rematch.proofs.Reading.{same_flags}
+use Rattle.pv_rematch.proofs.ReadStates.{same_flags}
 use Rattle.pv_rematch.proofs.states.State.is_same.Goals as goal
 
 pub returns-then-self-other-2-clause-positions : goal.returns-then-self-other-2-clause-positions

@@ -1,7 +1,7 @@
 use Rattle.std.proofs.Common.{refl, sym, ◌∙◌, arith}
 use Rattle.std.proofs.lemmas.List.{with_items_is}
 use Rattle.pv_model.specs.PlainForms.{plain_part}
-use Rattle.pv_rematch.proofs.Reading.{after_more, never_on}
+use Rattle.pv_rematch.proofs.ReadStates.{after_more, never_on}
 use Rattle.pv_rematch.proofs.states.State.read.Goals as goal
 
 pub returns-clause-next : goal.returns-clause-next

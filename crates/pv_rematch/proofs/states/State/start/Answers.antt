@@ -1,7 +1,7 @@
 use Rattle.std.proofs.Common.{◌∙◌, ◌++◌, ap, refl}
 use Rattle.pv_model.specs.Positions.{unreached_positions}
 use Rattle.pv_model.specs.PlainForms.{plain_part}
-use Rattle.pv_rematch.proofs.Reading.{after_none}
+use Rattle.pv_rematch.proofs.ReadStates.{after_none}
 use Rattle.pv_rematch.proofs.states.State.start.Goals as goal
 
 pub returns : goal.returns

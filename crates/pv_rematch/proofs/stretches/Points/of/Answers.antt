@@ -2,8 +2,8 @@ use Rattle.std.proofs.Common.{[], refl, sym, subst}
 use Rattle.pv_model.specs.PlainForms.{plain_part}
 use Rattle.pv_rematch.specs.States.{IsAfter}
 use Rattle.pv_rematch.specs.declared.states.State.{State}
-use Rattle.pv_rematch.proofs.Turning.{walked_whole}
-use Rattle.pv_rematch.proofs.Walking.{read_none}
+use Rattle.pv_rematch.proofs.TurnedPoints.{walked_whole}
+use Rattle.pv_rematch.proofs.KeptWalks.{read_none}
 use Rattle.pv_rematch.proofs.stretches.Points.of.Goals as goal
 
 pub returns : goal.returns

@@ -1,5 +1,5 @@
 use Rattle.std.proofs.Common.{refl}
-use Rattle.pv_rematch.proofs.Turning.{put_points}
+use Rattle.pv_rematch.proofs.TurnedPoints.{put_points}
 use Rattle.pv_rematch.proofs.stretches.Points.put.Goals as goal
 
 pub returns-then-last-len : goal.returns-then-last-len

@@ -1,5 +1,5 @@
 use Rattle.pv_model.specs.PlainForms.{plain_part}
-use Rattle.pv_rematch.proofs.Turning.{after_point}
+use Rattle.pv_rematch.proofs.TurnedPoints.{after_point}
 use Rattle.pv_rematch.proofs.stretches.Points.start.Goals as goal
 
 pub returns-then-len-clause-after : goal.returns-then-len-clause-after

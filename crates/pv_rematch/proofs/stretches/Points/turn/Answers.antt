@@ -4,8 +4,8 @@ use Rattle.std.proofs.lemmas.List.{length-map}
 use Rattle.pv_model.specs.Plain.{PlainToken}
 use Rattle.pv_model.specs.PlainForms.{plain_part, plain_token}
 use Rattle.pv_rematch.specs.Stretches.{AreOf}
-use Rattle.pv_rematch.proofs.Turning.{before_map, stays, waits_behind}
-use Rattle.pv_rematch.proofs.Walking.{ok_one}
+use Rattle.pv_rematch.proofs.TurnedPoints.{before_map, stays, waits_behind}
+use Rattle.pv_rematch.proofs.KeptWalks.{ok_one}
 use Rattle.pv_rematch.proofs.stretches.Points.turn.Goals as goal
 
 pub returns : goal.returns

@@ -4,8 +4,8 @@ use Rattle.std.proofs.lemmas.List.{take_rest}
 use Rattle.pv_model.specs.PlainForms.{plain_part, plain_token}
 use Rattle.pv_rematch.specs.States.{IsAfter}
 use Rattle.pv_rematch.specs.declared.states.State.{State}
-use Rattle.pv_rematch.proofs.Turning.{turn_lost, turn_walked, wait_parts}
-use Rattle.pv_rematch.proofs.Walking.{read_none}
+use Rattle.pv_rematch.proofs.TurnedPoints.{turn_lost, turn_walked, wait_parts}
+use Rattle.pv_rematch.proofs.KeptWalks.{read_none}
 use Rattle.pv_rematch.proofs.stretches.Points.walk_on.Goals as goal
 
 pub returns-then-not-branch : goal.returns-then-not-branch

@@ -1,5 +1,5 @@
 use Rattle.std.proofs.Common.{refl}
-use Rattle.pv_rematch.proofs.Walking.{read_left}
+use Rattle.pv_rematch.proofs.KeptWalks.{read_left}
 use Rattle.pv_rematch.proofs.walkers.Walker.leave_point.Goals as goal
 
 pub returns-clause-read : goal.returns-clause-read

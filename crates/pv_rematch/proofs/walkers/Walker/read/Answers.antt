@@ -2,8 +2,8 @@ use Rattle.std.proofs.Common.{◌≡◌, ◌+◌, ◌++◌, ◌∷◌, refl, sym
 use Rattle.std.proofs.lemmas.Grind.{common_steps}
 use Rattle.pv_model.specs.PlainForms.{plain_part, plain_token}
 use Rattle.pv_rematch.specs.States.{is_word}
-use Rattle.pv_rematch.proofs.Reading.{never_no_name}
-use Rattle.pv_rematch.proofs.Walking.{read_more}
+use Rattle.pv_rematch.proofs.ReadStates.{never_no_name}
+use Rattle.pv_rematch.proofs.KeptWalks.{read_more}
 use Rattle.pv_rematch.proofs.walkers.Walker.read.Goals as goal
 
 pub returns-in_ok-leave_point-clause-next : goal.returns-in_ok-leave_point-clause-next

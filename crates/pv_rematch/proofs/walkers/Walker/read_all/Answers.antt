@@ -1,6 +1,6 @@
 use Rattle.pv_model.specs.PlainForms.{plain_part}
 use Rattle.pv_model.specs.declared.models.Token.TheVariants as token
-use Rattle.pv_rematch.proofs.Walking.{read_token, lost_token, lost_points}
+use Rattle.pv_rematch.proofs.KeptWalks.{read_token, lost_token, lost_points}
 use Rattle.pv_rematch.proofs.walkers.Walker.read_all.Goals as goal
 
 pub returns-then-not-branch-clause-lost : goal.returns-then-not-branch-clause-lost

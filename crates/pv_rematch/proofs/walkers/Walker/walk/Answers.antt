@@ -5,8 +5,8 @@ use Rattle.pv_model.specs.Plain.{PlainToken}
 use Rattle.pv_model.specs.PlainForms.{plain_part, plain_token}
 use Rattle.pv_rematch.specs.Walks.{Wait}
 use Rattle.pv_rematch.specs.declared.points.Point.{Point}
-use Rattle.pv_rematch.proofs.Walking.{read_token, walked_on, walked_lost, walked_all, wait_passed}
-use Rattle.pv_rematch.proofs.Walking.{ok_three}
+use Rattle.pv_rematch.proofs.KeptWalks.{read_token, walked_on, walked_lost, walked_all, wait_passed}
+use Rattle.pv_rematch.proofs.KeptWalks.{ok_three}
 use Rattle.pv_rematch.proofs.walkers.Walker.walk.Goals as goal
 use Rattle.pv_rematch.proofs.walkers.Walker.walk.Goals.{then-next-points+then-ahead-eq0+else-meets}
 use Rattle.pv_rematch.proofs.walkers.Walker.walk.Goals.{else-next-points, then-ahead-eq0-2}

@@ -1,5 +1,5 @@
 use Rattle.std.proofs.Common.{refl}
-use Rattle.pv_rematch.proofs.Answering.{count_answers, points_answer}
+use Rattle.pv_rematch.proofs.KeptAnswers.{count_answers, points_answer}
 use Rattle.pv_rematch.proofs.word_matches.Kept.is_allowed.Goals as goal
 
 pub returns-in-Count : goal.returns-in-Count

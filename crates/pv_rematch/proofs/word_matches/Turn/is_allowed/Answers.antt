@@ -1,4 +1,4 @@
-use Rattle.pv_rematch.proofs.Answering.{word_answer}
+use Rattle.pv_rematch.proofs.KeptAnswers.{word_answer}
 use Rattle.pv_rematch.proofs.word_matches.Turn.is_allowed.Goals as goal
 
 pub returns-in-Part : goal.returns-in-Part

@@ -7,7 +7,7 @@ use Rattle.pv_span.specs.Charts.{span_number}
 use Rattle.pv_span.specs.DoneSpans.{rows_done}
 use Rattle.pv_span.specs.PlainForms.{plain_chart}
 use Rattle.pv_span.proofs.Across.{rows_count}
-use Rattle.pv_span.proofs.Lined.{told_of}
+use Rattle.pv_span.proofs.LineFacts.{told_of}
 use Rattle.pv_span.proofs.charts.Chart.least_inside.Goals as goal
 
 pub returns : goal.returns

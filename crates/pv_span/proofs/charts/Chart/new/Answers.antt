@@ -2,8 +2,8 @@ use Rattle.std.specs.Vec.{with_items}
 use Rattle.std.proofs.Common.{arith, ◌-◌, ◌≡◌}
 use Rattle.std.proofs.lemmas.List.{with_items_is}
 use Rattle.pv_span.specs.DoneSpans.{rows_done}
-use Rattle.pv_span.proofs.Lined.{forgotten}
-use Rattle.pv_span.proofs.Numbering.{few_in_all}
+use Rattle.pv_span.proofs.LineFacts.{forgotten}
+use Rattle.pv_span.proofs.SpanNumbers.{few_in_all}
 use Rattle.pv_span.proofs.charts.Chart.new.Goals as goal
 
 pub overflow_add-spans : goal.overflow_add-spans

@@ -4,8 +4,8 @@ use Rattle.std.proofs.lemmas.List.{with_items_is}
 use Rattle.pv_span.specs.Charts.{span_number}
 use Rattle.pv_span.specs.DoneSpans.{rows_done}
 use Rattle.pv_span.proofs.Across.{rows_count}
-use Rattle.pv_span.proofs.Lined.{moved, pushed}
-use Rattle.pv_span.proofs.Numbering.{next_number}
+use Rattle.pv_span.proofs.LineFacts.{moved, pushed}
+use Rattle.pv_span.proofs.SpanNumbers.{next_number}
 use Rattle.pv_span.proofs.charts.Chart.next.Goals as goal
 
 pub put-requires-clause-room : goal.put-requires-clause-room
@@ -29,7 +29,9 @@ invariant_of-self-clause-next c = λ l.
 pub invariant_of-self-clause-lined : goal.invariant_of-self-clause-lined
 invariant_of-self-clause-lined c =
     let s = c.args.self.now in
-    let e : (with_items s.lines c.extend_lines.new.lines).items ≡ c.extend_lines.new.lines = with_items_is s.lines _ (let l = c.extend_lines.auto.lines in let m = c.deref_mut-then-self.ensures.len in omega arith) in
+    let e : (with_items s.lines c.extend_lines.new.lines).items ≡ c.extend_lines.new.lines =
+    with_items_is s.lines _
+    (let l = c.extend_lines.auto.lines in let m = c.deref_mut-then-self.ensures.len in omega arith) in
     ∣ rw e (moved s.tokens s.from s.to (rows_done c.put.new.self) c.extend_lines.new.lines c.extend_lines.ensures) ∣₁
 
 pub invariant_of-self-clause-sized : goal.invariant_of-self-clause-sized

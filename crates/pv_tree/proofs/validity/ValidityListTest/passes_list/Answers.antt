@@ -6,7 +6,7 @@ use Rattle.pv_tree.specs.Lists.{IsOwnValid, IsValidList, Listed}
 use Rattle.pv_tree.specs.PlainForms.{forest}
 use Rattle.pv_tree.specs.Walks.{list_given}
 use Rattle.pv_tree.specs.declared.nodes.Mark.{Mark}
-use Rattle.pv_tree.proofs.Searching.{tells_one}
+use Rattle.pv_tree.proofs.ListSearches.{tells_one}
 use Rattle.pv_tree.proofs.validity.ValidityListTest.passes_list.Goals as goal
 
 pub returns-in-Document : goal.returns-in-Document
@@ -20,5 +20,8 @@ returns-in-Element c = λ path.
     let g = plain_dtd c.args.self.now.dtd.now in
     let asked : List ℕ → List (Listed Mark) → Type 0 = λ root _. root ≡ c.args.self.now.root.now in
     IfOk-weaker c.is_own_valid.result _ _
-    (λ (told : Bool) (is : IsTrue told ↔ IsOwnValid g (number_of g c.in-Element.name.now) (forest c.args.list.now.kids.now)). tells_one (IsValidList g) asked asked (list_given path c.args.list.now) told (λ root more next. rw c.in-Element.is is) (λ root more next t. next))
+    (λ (told : Bool) (is : IsTrue told ↔ IsOwnValid g (number_of g c.in-Element.name.now)
+    (forest c.args.list.now.kids.now)). tells_one (IsValidList g) asked asked
+    (list_given path c.args.list.now) told (λ root more next. rw c.in-Element.is is)
+    (λ root more next t. next))
     c.is_own_valid.ensures

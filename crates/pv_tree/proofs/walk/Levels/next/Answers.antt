@@ -25,21 +25,35 @@ nodes-preserved-in_default c =
 -- the nodes of a level are those of its first and those of the others
 split_nodes : (c : In-Elem) → nodes_in_all (forest c.nodes.self.here.nodes.now) ≡ suc (nodes_in_all (forest c.in-Elem.kids.items)) + nodes_in_all (forest c.in-Some.nodes.now)
 split_nodes c =
-    let own : nodes_in (plain c.in-Some.node.now) ≡ suc (nodes_in_all (forest c.in-Elem.kids.items)) = ap nodes_in (ap plain c.in-Elem.is ∙ plain-Elem c.in-Elem.name c.in-Elem.attrs c.in-Elem.end c.in-Elem.kids c.in-Elem.mark) in
+    let own : nodes_in (plain c.in-Some.node.now)
+    ≡ suc (nodes_in_all (forest c.in-Elem.kids.items)) = ap nodes_in (ap plain c.in-Elem.is
+    ∙ plain-Elem c.in-Elem.name c.in-Elem.attrs c.in-Elem.end c.in-Elem.kids c.in-Elem.mark) in
     ap (λ nodes. nodes_in_all (forest nodes)) c.in-Some.ensures.cases.0 ∙ ap (λ n. n + nodes_in_all (forest c.in-Some.nodes.now)) own
 
 pub invariant_of-self-in-Elem : goal.invariant_of-self-in-Elem
 invariant_of-self-in-Elem c =
     let split = split_nodes (goal.at.invariant_of-self-in-Elem c).In-Elem in
     let kids = ap (λ nodes. nodes_in_all (forest nodes)) c.deref.ensures.value in
-    record { small = omega (arith, c.nodes.self.small, split, kids, ap nodes_above c.in_ok-push.ensures.items, nodes_above-more c.nodes.self.above.items (record { next = c.nodes.self.here.next + 1; nodes = c.in-Some.nodes })) }
+    record {
+      small = omega (
+        arith,
+        c.nodes.self.small,
+        split,
+        kids,
+        ap nodes_above c.in_ok-push.ensures.items,
+        nodes_above-more c.nodes.self.above.items
+            (record { next = c.nodes.self.here.next + 1; nodes = c.in-Some.nodes }),
+      );
+    }
 
 pub returns-in-Elem-clause-given : goal.returns-in-Elem-clause-given
 returns-in-Elem-clause-given c =
     let after : Siblings = record { next = c.nodes.self.here.next + 1; nodes = c.in-Some.nodes } in
     let is = ap plain c.in-Elem.is ∙ rw c.deref.ensures.value (plain-Elem c.in-Elem.name c.in-Elem.attrs c.in-Elem.end c.in-Elem.kids c.in-Elem.mark) in
     sym c.nodes.invariant ∙ rw (c.in_ok-push.ensures.items, c.as_slice.ensures, c.deref-in-Elem.ensures.value, ← c.deref.ensures.value)
-    (left_below c.nodes.self.above.items c.nodes.self.here after (record { next = 0; nodes = c.deref.result }) c.in-Some.node.now c.in-Elem.name c.in-Elem.attrs (plain_end c.in-Elem.end) c.in-Elem.mark c.in-Some.ensures.cases.0 refl is refl)
+    (left_below c.nodes.self.above.items c.nodes.self.here after
+    (record { next = 0; nodes = c.deref.result }) c.in-Some.node.now c.in-Elem.name
+    c.in-Elem.attrs (plain_end c.in-Elem.end) c.in-Elem.mark c.in-Some.ensures.cases.0 refl is refl)
 
 pub returns-in-Elem-clause-few : goal.returns-in-Elem-clause-few
 returns-in-Elem-clause-few c =

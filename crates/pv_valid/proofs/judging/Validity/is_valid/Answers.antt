@@ -12,4 +12,6 @@ pub returns : goal.returns
 returns c = λ kids whole.
     let g = plain_dtd c.args.self.now.dtd.now in
     let list = c.args.list.now in
-    c.fits.ensures (number_of g list.name.now) (forest_of kids) (c.model_by-model.ensures list.name.now whole.is_token) (some_kids kids list.kids _ whole.is_count (Decides-ltb 0 list.kids)) whole.is_word
+    c.fits.ensures (number_of g list.name.now) (forest_of kids)
+    (c.model_by-model.ensures list.name.now whole.is_token)
+    (some_kids kids list.kids _ whole.is_count (Decides-ltb 0 list.kids)) whole.is_word

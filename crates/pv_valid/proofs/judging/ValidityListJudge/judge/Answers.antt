@@ -2,7 +2,7 @@ use Rattle.std.proofs.Common.{◌∙◌}
 use Rattle.pv_dtd.specs.PlainForms.{plain_dtd}
 use Rattle.pv_tree.specs.Lists.{IsValidList}
 use Rattle.pv_lists.specs.Judging.{ended_list}
-use Rattle.pv_lists.proofs.Judged.{not_both, put_so, put_not, put_behind}
+use Rattle.pv_lists.proofs.FirstJudged.{not_both, put_so, put_not, put_behind}
 use Rattle.pv_valid.proofs.judging.ValidityListJudge.judge.Goals as goal
 
 pub is_valid-requires : goal.is_valid-requires
@@ -15,7 +15,9 @@ returns-then-list c = λ root before after kids finds notes whole.
 
 pub returns-then-branch : goal.returns-then-branch
 returns-then-branch c = λ root before after kids finds notes whole.
-    put_so (IsValidList (plain_dtd c.args.self.now.dtd.now) root) before after (ended_list c.args.list.now c.args.outer.now kids) c.args.found.now (rw c.if-list.false at notes) ((c.in_ok-is_valid.ensures kids whole).0 c.if-branch.true) finds
+    put_so (IsValidList (plain_dtd c.args.self.now.dtd.now) root) before after
+    (ended_list c.args.list.now c.args.outer.now kids) c.args.found.now
+    (rw c.if-list.false at notes) ((c.in_ok-is_valid.ensures kids whole).0 c.if-branch.true) finds
 
 pub returns : goal.returns
 returns c = λ root before after kids finds notes whole.

@@ -5,7 +5,7 @@ use Rattle.pv_model.specs.PlainForms.{plain_token}
 use Rattle.pv_model.specs.declared.models.Token.{Token}
 use Rattle.pv_productive.specs.PlainForms.{dtd_of}
 use Rattle.pv_verdicts.specs.Judged.{IsJudged}
-use Rattle.pv_verdicts.proofs.Following.{followed_back}
+use Rattle.pv_verdicts.proofs.ReplacedParts.{followed_back}
 use Rattle.pv_verdicts.proofs.last.LastWord.follow.Goals as goal
 
 pub turned-requires : goal.turned-requires

@@ -9,5 +9,7 @@ returns-then-not-next_is_possible c = λ list kids.
 
 pub returns : goal.returns
 returns c = IfOk-weaker c.is_list_narrow.result _ _
-    (λ narrow is list kids. tells_possible (plain_dtd c.args.self.now.dtd.now) c.args.self.now.verdicts.now.verdicts list c.args.used.now c.next_is_possible.new.used narrow c.if-not-next_is_possible.ensures (rw kids is))
+    (λ narrow is list kids. tells_possible (plain_dtd c.args.self.now.dtd.now)
+    c.args.self.now.verdicts.now.verdicts list c.args.used.now c.next_is_possible.new.used
+    narrow c.if-not-next_is_possible.ensures (rw kids is))
     c.is_list_narrow.ensures
