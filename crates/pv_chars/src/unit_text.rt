@@ -264,10 +264,10 @@ impl Units {
     ///
     /// ```rust
     /// let (front, back) = (text_units(alloc, b"a")?, text_units(alloc, b"&lt;")?);
-    /// let both = front.join(alloc, &back)?;
+    /// let both = front.joined(alloc, &back)?;
     /// assert!(rt; both.len() == 2 && both.bytes() == b"a&lt;".as_slice());
     /// ```
-    pub fn join(&self, alloc: Global, other: &Units) -> Result<Units, NoMemory>
+    pub fn joined(&self, alloc: Global, other: &Units) -> Result<Units, NoMemory>
         ensures { IfOk result (λ u. u ≡ self.now ++ other.now) }
     {
         let mut bytes = Vec::with_capacity(alloc, self.bytes.len() + other.bytes.len())?;

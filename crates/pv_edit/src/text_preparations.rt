@@ -100,7 +100,7 @@ pub(crate) fn join_task(alloc: Global, doc: &Doc, path: &Path) -> Result<Task, N
     let Some(next) = next_text(doc, &parent, path) else {
         unreachable!()
     };
-    let filling = one_node(alloc, Node::Text(units.join(alloc, next)?))?;
+    let filling = one_node(alloc, Node::Text(units.joined(alloc, next)?))?;
     node_task(alloc, path, 2, filling)
 }
 

@@ -270,7 +270,7 @@ fn texts(rt: HostRuntime) -> Result<(), Fail> {
 
 // Both texts one after the other, and their copy, are of six units.
 fn are_joined(rt: &impl Abort, alloc: Global, part: &Units, units: &Units) -> Result<(), Fail> {
-    let both = part.join(alloc, units)?;
+    let both = part.joined(alloc, units)?;
     let copy = both.copy(alloc)?;
     assert!(rt; both.bytes() == " &#32;a &#32;é".as_bytes());
     assert!(rt; copy.len() == 6 && copy.bytes() == both.bytes());

@@ -1,6 +1,6 @@
 use Rattle.std.proofs.Common.{◌≡◌, ◌++◌, ◌∙◌, arith}
 use Rattle.pv_chars.proofs.MeansLemmas.{count_fits, cut_units-append, units_in-append}
-use Rattle.pv_chars.proofs.unit_text.Units.join.Goals as goal
+use Rattle.pv_chars.proofs.unit_text.Units.joined.Goals as goal
 
 both_items : (c : goal.In_ok-extend_from_slice-2) → c.extend_from_slice-2.new.self.items ≡ c.self.inside.bytes.items ++ c.other.inside.bytes.items
 both_items c =
