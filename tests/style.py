@@ -1,8 +1,8 @@
 """Checks what has no behaviour: Python files by pyflakes, shell scripts by shellcheck, the clients' types by mypy, where these are installed; that
 prose of the pages keeps to 120 columns, it and the messages of the clients to the words of the field, and that by cmark, where it is installed, no
 list, heading or table of a page comes about by accident; that each check has its file's name, and docs/PROVED.md their table; the file that each
-choice of docs/DECISIONS.md names; that each edit which the gate leaves out still has its place. Prints each finding, and how many files and pages
-passed; ends with 1 where one failed."""
+choice of docs/DECISIONS.md names; that each edit which the gate leaves out still has its place; that no line of a crate is longer than 200 columns,
+and that a file of proofs is named after its subject. Prints each finding, and how many files and pages passed; ends with 1 where one failed."""
 import re
 import shutil
 import subprocess
@@ -23,6 +23,10 @@ SHELLCHECK = ["shellcheck", "--format=gcc", "--exclude=SC2016"]
 CHOICE = re.compile(r"^- \*\*.*?(?=^- \*\*|^## |\Z)", re.MULTILINE | re.DOTALL)
 # So many edits of a crate are tried by the gate, at most.
 MOST_EDITS = 3
+# So many columns a line of a crate has, at most.
+MOST_COLUMNS = 200
+# A participle says what is done, but not to what.
+PARTICIPLE = re.compile(r"[A-Z][a-z]+(?:ing|ed)")
 # What parts the cells of a table, and its second row.
 BAR = re.compile(r"(?<!\\)\|")
 RULE = re.compile(r"[|: -]+$")
@@ -155,6 +159,18 @@ def edits() -> Iterator[tuple[str, str]]:
         yield edit.name, what if file.is_file() else f"{edit.relative_to(TOP)}: it names no file"
 
 
+def crate_files() -> Iterator[tuple[str, str]]:
+    """Each file of the crates, and which of its lines are too long, or that its name says no subject."""
+    for file in sorted(it for kind in ("*.rt", "*.antt") for it in TOP.glob(f"crates/*/*/**/{kind}")):
+        where = file.relative_to(TOP)
+        if "out" in where.parts:
+            continue
+        long = [number for number, line in enumerate(file.read_text(encoding="utf-8").splitlines(), 1) if len(line) > MOST_COLUMNS]
+        what = f"{where}:{long[0]}: a line of more than {MOST_COLUMNS} columns" if long else ""
+        is_bare = "proofs" in where.parts and PARTICIPLE.fullmatch(file.stem)
+        yield str(where), what or (f"{where}: a participle names no subject" if is_bare else "")
+
+
 def findings() -> Iterator[tuple[str, str]]:
     """Files, pages and choices, each with what is wrong with it."""
     yield from by_tool(PYFLAKES, sources("python"))
@@ -168,6 +184,7 @@ def findings() -> Iterator[tuple[str, str]]:
     yield from checks()
     yield from choices()
     yield from edits()
+    yield from crate_files()
 
 
 def main() -> int:
