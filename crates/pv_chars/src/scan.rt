@@ -23,7 +23,7 @@ pub fn is_space(b: u8) -> bool
 /// ```rust
 /// assert!(rt; space_length(b" \t\r\nx ") == 4); // test_layers: scans
 /// ```
-#[tactic(auto, using(crate::proofs::Scanning::space_ends))]
+#[tactic(auto, using(crate::proofs::TextScans::space_ends))]
 pub fn space_length(bytes: &[u8]) -> usize
     ensures front { IsOptionalSpace (take result bytes.now) }
     ensures ends { begins is_space (drop result bytes.now) ≡ false }
@@ -45,7 +45,7 @@ pub fn space_length(bytes: &[u8]) -> usize
 /// ```rust
 /// assert!(rt; after_space(b" \tx ") == b"x ".as_slice());
 /// ```
-#[tactic(auto, using(crate::proofs::Scanning::drop_space))]
+#[tactic(auto, using(crate::proofs::TextScans::drop_space))]
 pub fn after_space(bytes: &[u8]) -> &[u8]
     ensures taken { TakesSpace bytes.now result.now }
     ensures after { result.now ≡ after_space bytes.now }
