@@ -9,7 +9,7 @@ use Rattle.pv_productive.specs.PlainForms.{dtd_of}
 use Rattle.pv_span.proofs.KnownSites.{known_site}
 use Rattle.pv_span.specs.Weights.{weight_of}
 use Rattle.pv_complete.specs.declared.words.spot.Spot.{Spot}
-use Rattle.pv_complete.proofs.WordWeights.{long_word}
+use Rattle.pv_complete.proofs.WeightsOfWords.{long_word}
 
 module _ (v : Spot) where
   pub spot_has : HasSite (dtd_of v.weights.grammar.now) (plain_site v.site)

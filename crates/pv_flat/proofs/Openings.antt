@@ -11,7 +11,7 @@ use Rattle.pv_read.specs.Meaning.{DocumentMeansWithin, DocumentRestMeans, is_doc
 use Rattle.pv_read.specs.Prologs.{OpensRoot, behind_tag}
 use Rattle.pv_read.specs.declared.errors.DocError.{DocError}
 use Rattle.pv_read.specs.declared.prolog.RootTag.{RootTag}
-use Rattle.pv_read.proofs.DocumentParts.{refused_front}
+use Rattle.pv_read.proofs.PartsOfDocuments.{refused_front}
 use Rattle.pv_flat.specs.Plain.{PlainEvent, begin_element, end_element}
 use Rattle.pv_flat.specs.Coming.{TextEnd, IsIn, IsOpening, MAX_FLAT_BYTES, RestComes, TextComes, ends_with, flat_limits, refused_as}
 

@@ -9,7 +9,7 @@ use Rattle.pv_read.specs.Prologs.{OpensRoot, behind_tag}
 use Rattle.pv_read.specs.declared.prolog.RootTag.{RootTag}
 use Rattle.pv_read.proofs.OneItem.{one_item}
 use Rattle.pv_read.proofs.RefusedRests.{Refuses-weaker}
-use Rattle.pv_read.proofs.DocumentParts.{answers_error, refused_root}
+use Rattle.pv_read.proofs.PartsOfDocuments.{answers_error, refused_root}
 use Rattle.pv_lists.specs.Answers.{AnswersLists, RefusesLists}
 use Rattle.pv_lists.specs.declared.errors.ReadError.{ReadError}
 use Rattle.pv_lists.specs.declared.errors.ReadError.TheVariants.{Document, Judge}

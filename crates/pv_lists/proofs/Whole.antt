@@ -12,7 +12,7 @@ use Rattle.pv_read.specs.Prologs.{OpensRoot}
 use Rattle.pv_read.specs.declared.prolog.RootTag.{RootTag}
 use Rattle.pv_read.proofs.OneItem.{one_item}
 use Rattle.pv_read.proofs.OneMeaning.{same_document_meaning}
-use Rattle.pv_read.proofs.DocumentParts.{read_whole}
+use Rattle.pv_read.proofs.PartsOfDocuments.{read_whole}
 use Rattle.pv_lists.specs.Answers.{ReadsLists}
 use Rattle.pv_lists.specs.Contents.{ReadsRoot}
 use Rattle.pv_lists.specs.Judging.{Judgement, MAX_KIDS}

@@ -8,7 +8,7 @@ use Rattle.pv_reach.specs.Columns.{Has}
 use Rattle.pv_reach.specs.Cuts.{AreCutRules, AreCuts, AreRulesCut, AreRulesKept, HasCut, IsCutOf, by_rules}
 use Rattle.pv_reach.specs.declared.tables.cut.Cut.{Cut}
 use Rattle.pv_reach.specs.declared.tables.kept.Cuts.{Cuts}
-use Rattle.pv_reach.proofs.RuleRanges.{has_still, numbered_still}
+use Rattle.pv_reach.proofs.RangesOfRules.{has_still, numbered_still}
 
 front_grows : (front few : List ColumnRule) → RulesGrow front (front ++ few)
 front_grows front few = record {

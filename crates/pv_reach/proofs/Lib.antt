@@ -18,14 +18,14 @@ pub mod NameRules
 pub mod PlacedNumbers
 pub mod PushedRules
 pub mod RaisedCells
-pub mod RuleRanges
+pub mod RangesOfRules
 pub mod ColumnsInRange
 pub mod SiteReaches
 pub mod MemberRows
 pub mod StandInColumns
 pub mod SitesReach
 pub mod EdgeSweeps
-pub mod FreeContent
+pub mod FreeContents
 pub mod Within
 -- for other crates:
 pub mod OtherMarks

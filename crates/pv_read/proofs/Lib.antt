@@ -10,7 +10,7 @@ pub mod OneMeaning
 pub mod RefusedRests
 pub mod Prologs
 pub mod Epilogs
-pub mod DocumentParts
+pub mod PartsOfDocuments
 -- of this crate:
 pub mod AgreeInvariant
 pub mod AgreeSteps

@@ -3,7 +3,7 @@ use Rattle.std.proofs.lemmas.Result.{err_from_is_err_and}
 use Rattle.pv_read.specs.Meaning.{long}
 use Rattle.pv_read.specs.declared.errors.DocError.TheVariants.{Limit}
 use Rattle.pv_read.proofs.OneItem.{one_item}
-use Rattle.pv_read.proofs.DocumentParts.{answers_error, refused_front, refused_end}
+use Rattle.pv_read.proofs.PartsOfDocuments.{answers_error, refused_front, refused_end}
 use Rattle.pv_lists.specs.Answers.{limits_of}
 use Rattle.pv_lists.proofs.Refusals.{read_answered, root_refused}
 use Rattle.pv_lists.proofs.Whole.{the_doc, is_meant, of_any}

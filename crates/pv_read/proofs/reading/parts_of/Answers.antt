@@ -1,7 +1,7 @@
 use Rattle.std.proofs.lemmas.Result.{err_from_is_err_and}
 use Rattle.pv_tree.specs.PlainForms.{plain}
 use Rattle.pv_read.specs.Meaning.{document_limits}
-use Rattle.pv_read.proofs.DocumentParts.{refused_front, refused_root, refused_end, read_whole}
+use Rattle.pv_read.proofs.PartsOfDocuments.{refused_front, refused_root, refused_end, read_whole}
 use Rattle.pv_read.proofs.reading.parts_of.Goals as goal
 
 pub returns-in_err-opening-clause-refused : goal.returns-in_err-opening-clause-refused

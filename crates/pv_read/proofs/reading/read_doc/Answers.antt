@@ -7,7 +7,7 @@ use Rattle.pv_read.specs.Epilogs.{document}
 use Rattle.pv_read.proofs.Agreement.{spelled_where_meant}
 use Rattle.pv_read.proofs.DocumentFacts.{few_nodes, keeps}
 use Rattle.pv_read.proofs.OneItem.{one_item}
-use Rattle.pv_read.proofs.DocumentParts.{same_parts, answers_document, answers_error}
+use Rattle.pv_read.proofs.PartsOfDocuments.{same_parts, answers_document, answers_error}
 use Rattle.pv_read.proofs.reading.read_doc.Goals as goal
 
 pub returns-then-bytes-gt-MAX_DOC_BYTES-clause-refused : goal.returns-then-bytes-gt-MAX_DOC_BYTES-clause-refused

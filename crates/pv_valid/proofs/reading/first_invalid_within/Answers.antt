@@ -2,7 +2,7 @@ use Rattle.std.proofs.Common.{◌≡◌, true}
 use Rattle.pv_dtd.specs.PlainForms.{plain_dtd}
 use Rattle.pv_read.specs.declared.errors.DocError.TheVariants.{NoMemory}
 use Rattle.pv_read.proofs.OneItem.{one_item}
-use Rattle.pv_read.proofs.DocumentParts.{answers_error}
+use Rattle.pv_read.proofs.PartsOfDocuments.{answers_error}
 use Rattle.pv_lists.specs.Answers.{limits_of}
 use Rattle.pv_valid.proofs.Whole.{other_root, same_root}
 use Rattle.pv_valid.proofs.reading.first_invalid_within.Goals as goal

@@ -9,7 +9,7 @@ use Rattle.pv_complete.specs.Moves.{IsItem, IsNoItem}
 use Rattle.pv_complete.proofs.SiteMoves.{moves_any_none, moves_declared, moves_text}
 use Rattle.pv_complete.proofs.OptimalWeights.{content_any}
 use Rattle.pv_complete.proofs.Spots.{spot_few, spot_site, spot_span, spot_weighs}
-use Rattle.pv_complete.proofs.WordWeights.{weights_by}
+use Rattle.pv_complete.proofs.WeightsOfWords.{weights_by}
 use Rattle.pv_complete.proofs.words.contents.any_move.Goals as goal
 
 pub returns-then-spot : goal.returns-then-spot

@@ -8,7 +8,7 @@ use Rattle.pv_rules.proofs.FlatContents.{any_at, children_at, empty_at, mixed_at
 use Rattle.pv_complete.proofs.SiteMoves.{moves_children, moves_empty}
 use Rattle.pv_complete.proofs.OptimalWeights.{content_declared}
 use Rattle.pv_complete.proofs.Spots.{spot_few, spot_site, spot_span}
-use Rattle.pv_complete.proofs.WordWeights.{weights_by}
+use Rattle.pv_complete.proofs.WeightsOfWords.{weights_by}
 use Rattle.pv_complete.proofs.words.contents.content_move.Goals as goal
 
 pub unreachable-requires : goal.unreachable-requires

@@ -7,7 +7,7 @@ use Rattle.pv_span.specs.Weights.{weight_of}
 use Rattle.pv_complete.proofs.SiteMoves.{moves_listed, moves_mixed_none, moves_text}
 use Rattle.pv_complete.proofs.OptimalWeights.{content_mixed}
 use Rattle.pv_complete.proofs.Spots.{spot_few, spot_site, spot_span, spot_weighs}
-use Rattle.pv_complete.proofs.WordWeights.{weights_by}
+use Rattle.pv_complete.proofs.WeightsOfWords.{weights_by}
 use Rattle.pv_complete.proofs.words.contents.mixed_move.Goals as goal
 
 pub listed_move-requires-clause-listed : goal.listed_move-requires-clause-listed

@@ -6,7 +6,7 @@ use Rattle.pv_productive.specs.PlainForms.{dtd_of}
 use Rattle.pv_span.specs.Weights.{weight_of}
 use Rattle.pv_complete.proofs.SiteMoves.{moves_kept, moves_new}
 use Rattle.pv_complete.proofs.Spots.{spot_few, spot_site, spot_span}
-use Rattle.pv_complete.proofs.WordWeights.{weights_by}
+use Rattle.pv_complete.proofs.WeightsOfWords.{weights_by}
 use Rattle.pv_complete.proofs.words.contents.name_move.Goals as goal
 
 pub returns-then-is_element_over : goal.returns-then-is_element_over

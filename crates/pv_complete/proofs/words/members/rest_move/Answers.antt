@@ -9,7 +9,7 @@ use Rattle.pv_rules.proofs.FlatKinds.{followed_at, last_at, no_rest, outside_at}
 use Rattle.pv_complete.proofs.SiteMoves.{moves_last}
 use Rattle.pv_complete.proofs.OptimalWeights.{rest_stands}
 use Rattle.pv_complete.proofs.Spots.{spot_few, spot_site, spot_span}
-use Rattle.pv_complete.proofs.WordWeights.{weights_by}
+use Rattle.pv_complete.proofs.WeightsOfWords.{weights_by}
 use Rattle.pv_complete.proofs.words.members.rest_move.Goals as goal
 
 pub unreachable-requires : goal.unreachable-requires

@@ -7,7 +7,7 @@ use Rattle.pv_span.specs.Weights.{weight_of}
 use Rattle.pv_complete.proofs.SiteMoves.{moves_then}
 use Rattle.pv_complete.proofs.OptimalWeights.{rest_cut}
 use Rattle.pv_complete.proofs.Spots.{spot_few, spot_site, spot_span, spot_weighs}
-use Rattle.pv_complete.proofs.WordWeights.{weights_by}
+use Rattle.pv_complete.proofs.WeightsOfWords.{weights_by}
 use Rattle.pv_complete.proofs.words.members.then_move.Goals as goal
 
 pub returns : goal.returns

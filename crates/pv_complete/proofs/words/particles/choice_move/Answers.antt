@@ -8,7 +8,7 @@ use Rattle.pv_productive.specs.PlainForms.{dtd_of}
 use Rattle.pv_span.specs.Weights.{weight_of}
 use Rattle.pv_complete.proofs.SiteMoves.{moves_member, moves_no_member}
 use Rattle.pv_complete.proofs.Spots.{spot_few, spot_site, spot_span, spot_weighs}
-use Rattle.pv_complete.proofs.WordWeights.{weights_by}
+use Rattle.pv_complete.proofs.WeightsOfWords.{weights_by}
 use Rattle.pv_complete.proofs.words.particles.choice_move.Goals as goal
 
 pub loop-member-init : goal.loop-member-init

@@ -11,7 +11,7 @@ use Rattle.pv_rules.proofs.FormedParts.{parts_formed}
 use Rattle.pv_complete.proofs.SiteMoves.{moves_formed, moves_name, moves_opt, moves_opt_none}
 use Rattle.pv_complete.proofs.OptimalWeights.{part_stands}
 use Rattle.pv_complete.proofs.Spots.{spot_few, spot_site, spot_span}
-use Rattle.pv_complete.proofs.WordWeights.{weights_by}
+use Rattle.pv_complete.proofs.WeightsOfWords.{weights_by}
 use Rattle.pv_complete.proofs.words.particles.part_move.Goals as goal
 
 pub unreachable-requires : goal.unreachable-requires

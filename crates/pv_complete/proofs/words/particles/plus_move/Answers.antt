@@ -8,7 +8,7 @@ use Rattle.pv_complete.proofs.Ranks.{small}
 use Rattle.pv_complete.proofs.SiteMoves.{moves_plus, moves_plus_one}
 use Rattle.pv_complete.proofs.OptimalWeights.{part_plus_cut}
 use Rattle.pv_complete.proofs.Spots.{spot_few, spot_site, spot_span, spot_weighs}
-use Rattle.pv_complete.proofs.WordWeights.{weights_by}
+use Rattle.pv_complete.proofs.WeightsOfWords.{weights_by}
 use Rattle.pv_complete.proofs.words.particles.plus_move.Goals as goal
 
 pub overflow_add-one : goal.overflow_add-one

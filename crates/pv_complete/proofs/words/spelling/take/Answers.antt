@@ -8,7 +8,7 @@ use Rattle.pv_complete.specs.PieceForms.{plain_pieces}
 use Rattle.pv_complete.specs.declared.words.pieces.Piece.TheVariants as piece
 use Rattle.pv_complete.proofs.Powers.{nearer_end}
 use Rattle.pv_complete.proofs.Stacks.{goes_end, pushed}
-use Rattle.pv_complete.proofs.WordWeights.{long_word}
+use Rattle.pv_complete.proofs.WeightsOfWords.{long_word}
 use Rattle.pv_rules.specs.PlainForms.{plain_site}
 use Rattle.pv_complete.proofs.words.spelling.take.Goals as goal
 

@@ -3,7 +3,7 @@ use Rattle.std.proofs.lemmas.Grind.{common_steps}
 use Rattle.std.proofs.lemmas.List.{get_or_default}
 use Rattle.pv_columns.specs.declared.rules.ColumnRule.{ColumnRule}
 use Rattle.pv_reach.proofs.ClosedCells.{columns_in_range}
-use Rattle.pv_reach.proofs.RuleRanges.{end_more}
+use Rattle.pv_reach.proofs.RangesOfRules.{end_more}
 use Rattle.pv_reach.proofs.columns.ranges.ends_of.Goals as goal
 
 pub loop-number-init : goal.loop-number-init

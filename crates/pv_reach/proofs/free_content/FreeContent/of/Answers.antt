@@ -3,7 +3,7 @@ use Rattle.pv_dtd.specs.Plain.{IsDeclared, declared}
 use Rattle.pv_productive.specs.PlainForms.{dtd_of}
 use Rattle.pv_reach.specs.Merging.{column_head}
 use Rattle.pv_reach.proofs.FormedDtds.{formed_dtd}
-use Rattle.pv_reach.proofs.FreeContent.{content_set, free_content}
+use Rattle.pv_reach.proofs.FreeContents.{content_set, free_content}
 use Rattle.pv_reach.proofs.free_content.FreeContent.of.Goals as goal
 
 pub invariant_of-result : goal.invariant_of-result

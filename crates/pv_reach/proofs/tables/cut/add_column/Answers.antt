@@ -3,7 +3,7 @@ use Rattle.std.proofs.lemmas.List.{get_or_default}
 use Rattle.pv_columns.specs.declared.rules.ColumnRule.{ColumnRule}
 use Rattle.pv_reach.specs.Cuts.{AddsCut, HasAllNumbered}
 use Rattle.pv_reach.specs.Merging.{column_head}
-use Rattle.pv_reach.proofs.RuleRanges.{adds_none, by_range, on_ok_as, push_contains, push_keeps}
+use Rattle.pv_reach.proofs.RangesOfRules.{adds_none, by_range, on_ok_as, push_contains, push_keeps}
 use Rattle.pv_reach.proofs.tables.cut.add_column.Goals as goal
 
 pub returns-then-is_some-clause-adds : goal.returns-then-is_some-clause-adds

@@ -1,7 +1,7 @@
 use Rattle.std.proofs.Common.{Contains, arith, inl, inr, subst, ℕ, ◌-◌, ◌≡◌, ◌⊎◌}
 use Rattle.std.proofs.lemmas.Bool.{cases_lt}
 use Rattle.pv_reach.specs.Cuts.{HasAllNumbered}
-use Rattle.pv_reach.proofs.RuleRanges.{numbered_still}
+use Rattle.pv_reach.proofs.RangesOfRules.{numbered_still}
 use Rattle.pv_reach.proofs.tables.cut.add_columns.Goals as goal
 
 pub loop-left-init : goal.loop-left-init

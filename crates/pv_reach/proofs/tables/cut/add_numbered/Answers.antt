@@ -3,7 +3,7 @@ use Rattle.std.proofs.lemmas.List.{get_or_default}
 use Rattle.pv_columns.specs.declared.rules.ColumnRule.{ColumnRule}
 use Rattle.pv_reach.specs.Cuts.{AreColumnNumbers, HasNumbered, of_rule}
 use Rattle.pv_reach.specs.Merging.{column_head, column_heads}
-use Rattle.pv_reach.proofs.RuleRanges.{adds_rule}
+use Rattle.pv_reach.proofs.RangesOfRules.{adds_rule}
 use Rattle.pv_reach.proofs.tables.cut.add_numbered.Goals as goal
 
 pub returns-clause-adds : goal.returns-clause-adds

@@ -1,6 +1,6 @@
 use Rattle.std.proofs.Common.{arith, get_or, inl, inr, length, subst, ℕ, ◌<◌, ◌≡◌}
 use Rattle.std.proofs.lemmas.Bool.{cases_lt}
-use Rattle.pv_reach.proofs.RuleRanges.{adds_none, adds_twice, numbered_still}
+use Rattle.pv_reach.proofs.RangesOfRules.{adds_none, adds_twice, numbered_still}
 use Rattle.pv_reach.proofs.tables.cut.add_rules.Goals as goal
 
 pub loop-number-init : goal.loop-number-init

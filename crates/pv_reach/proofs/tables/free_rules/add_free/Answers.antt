@@ -4,7 +4,7 @@ use Rattle.pv_model.specs.declared.models.Token.{Token}
 use Rattle.pv_columns.specs.Tokens.{IsInRow}
 use Rattle.pv_reach.specs.Columns.{Has, token_of}
 use Rattle.pv_reach.specs.Cuts.{by_set, of_none}
-use Rattle.pv_reach.proofs.RuleRanges.{adds_rule, adds_twice, either_token, no_numbers}
+use Rattle.pv_reach.proofs.RangesOfRules.{adds_rule, adds_twice, either_token, no_numbers}
 use Rattle.pv_reach.proofs.tables.free_rules.add_free.Goals as goal
 
 pub loop-token-init : goal.loop-token-init

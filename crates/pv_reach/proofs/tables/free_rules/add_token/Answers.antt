@@ -1,6 +1,6 @@
 use Rattle.std.proofs.Common.{Some, [], refl, ◌∷◌}
 use Rattle.pv_reach.specs.Cuts.{of_token}
-use Rattle.pv_reach.proofs.RuleRanges.{adds_rule, one_number}
+use Rattle.pv_reach.proofs.RangesOfRules.{adds_rule, one_number}
 use Rattle.pv_reach.proofs.tables.free_rules.add_token.Goals as goal
 
 pub returns-clause-adds : goal.returns-clause-adds

@@ -2,7 +2,7 @@ use Rattle.std.proofs.Common.{Contains, List, arith, get_or, inl, inr, length, s
 use Rattle.std.proofs.lemmas.List.{take_all}
 use Rattle.pv_reach.specs.Cuts.{AddsCut, HasCut}
 use Rattle.pv_reach.proofs.NameRules.{either_name}
-use Rattle.pv_reach.proofs.RuleRanges.{has_still, no_rules}
+use Rattle.pv_reach.proofs.RangesOfRules.{has_still, no_rules}
 use Rattle.pv_reach.proofs.tables.free_rules.free_rules.Goals as goal
 
 pub loop-left-init : goal.loop-left-init

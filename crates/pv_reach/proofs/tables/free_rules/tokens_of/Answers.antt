@@ -2,7 +2,7 @@ use Rattle.std.proofs.Common.{Contains, List, Some, arith, get_or, slice_get, su
 use Rattle.std.proofs.lemmas.Option.{get_or_from_slice_get, slice_get_within}
 use Rattle.pv_model.specs.declared.models.Token.{Token}
 use Rattle.pv_reach.specs.Columns.{token_of}
-use Rattle.pv_reach.proofs.RuleRanges.{push_contains, push_keeps, token_more}
+use Rattle.pv_reach.proofs.RangesOfRules.{push_contains, push_keeps, token_more}
 use Rattle.pv_reach.proofs.tables.free_rules.tokens_of.Goals.{then-not-is_among+in_ok-push, else-not-is_among}
 use Rattle.pv_reach.proofs.tables.free_rules.tokens_of.Goals as goal
 

@@ -1,5 +1,5 @@
 use Rattle.pv_reach.proofs.FreeRules.{one_more_cut}
-use Rattle.pv_reach.proofs.RuleRanges.{on_ok_as}
+use Rattle.pv_reach.proofs.RangesOfRules.{on_ok_as}
 use Rattle.pv_reach.proofs.tables.kept.keep_cut.Goals as goal
 
 pub returns-in-Ok : goal.returns-in-Ok
