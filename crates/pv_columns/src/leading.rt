@@ -2,7 +2,7 @@
 
 ghost use Rattle.std.specs.Prelude.{◌≡◌, ◌<◌, ◌^◌, ◌⊎◌, ℕ, IfOk, IfSome, Contains, false, length};
 ghost use Rattle.std.specs.Prelude.{true};
-ghost use Rattle.pv_columns.specs.Marks.{IsAmong, IsMarked};
+ghost use Rattle.pv_columns.specs.Marks.{IsAmong, IsMarked, unmarked};
 ghost use Rattle.pv_columns.specs.Takes.{IsFree};
 ghost use Rattle.pv_columns.specs.Frees.{AreFree};
 ghost use Rattle.pv_columns.specs.ColumnRules.{InRange};
@@ -66,10 +66,12 @@ fn leads_to_free(
     }
 }
 
-/// Marks the column of a rule, if there is a mark for it.
+/// Marks the column of a rule, if there is a mark for it, and tells whether it wasn't marked.
 fn mark(column: usize, frees: &mut Vec<bool>) -> bool
     ensures marks { (c : ℕ) → IsMarked frees.new.items c → (c ≡ column) ⊎
         IsMarked frees.old.items c }
+    ensures same { result ≡ false → frees.new.items ≡ frees.old.items }
+    ensures fewer { result ≡ true → unmarked frees.new.items < unmarked frees.old.items }
 {
     if column < frees.len() && !frees[column] {
         frees[column] = true;
@@ -84,7 +86,8 @@ fn lead(rules: &[ColumnRule], live: &[bool], layers: &[Layer], frees: &mut Vec<b
     requires layers { AreLayers rules.now live.now layers.now }
     requires tokens { AreTokensBelow (length layers.now) rules.now }
     requires frees { AreFree rules.now live.now frees.old.items }
-    ensures { AreFree rules.now live.now frees.new.items }
+    ensures frees { AreFree rules.now live.now frees.new.items }
+    ensures fewer { result ≡ true → unmarked frees.new.items < unmarked frees.old.items }
 {
     let mut changed = false;
     for rule in rules {
@@ -110,10 +113,6 @@ pub fn free_columns(
     ensures { IfOk result (λ frees. AreFree rules.now live.now frees.items) }
 {
     let mut frees = repeating_columns(alloc, rules, live, layers, width)?;
-    for _ in 0..u64::MAX {
-        if !lead(rules, live, layers, &mut frees) {
-            break;
-        }
-    }
+    while lead(rules, live, layers, &mut frees) {}
     Ok(frees)
 }
