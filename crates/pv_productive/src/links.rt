@@ -1,5 +1,7 @@
 //! Which sizes are made from which.
 
+ghost use Rattle.std.specs.Prelude.{◌<◌, IfSome};
+
 use crate::layout::Layout;
 use pv_chars::NoMemory;
 use pv_model::NameId;
@@ -45,9 +47,16 @@ impl Links {
         self.first_mentions.get(name as usize).copied()?
     }
 
-    /// The part that mentions the same name as this one, and follows it.
-    pub fn mention_after(&self, number: u32) -> Option<u32> {
-        self.next_mentions.get(number as usize).copied()?
+    /// The part that mentions the same name as this one, and follows it: the last one before it.
+    pub fn mention_after(&self, number: u32) -> Option<u32>
+        ensures { IfSome result (λ mention. mention < number) }
+    {
+        let mention = self.next_mentions.get(number as usize).copied()??;
+        if mention < number {
+            Some(mention)
+        } else {
+            None
+        }
     }
 
     fn add_contents(&mut self, layout: &Layout) {

@@ -48,10 +48,7 @@ impl Waiting {
     /// Puts in all mentions of a name.
     pub fn push_mentions(&mut self, links: &Links, name: u32) -> Result<(), NoMemory> {
         let mut mention = links.first_mention(name);
-        for _ in 0..u64::MAX {
-            let Some(number) = mention else {
-                break;
-            };
+        while let Some(number) = mention {
             self.ready.push(number)?;
             mention = links.mention_after(number);
         }
