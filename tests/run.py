@@ -150,7 +150,7 @@ CHECKS = [
         "schemas that `trang` refuses, for the reasons that `docs/PUBLISHED.md` lists"),
     row("taggers", "what clients make of taggers' output", "", 3600, "python3 tests/taggers.py PVTAG 100 1",
         "`clients/standoff` and `clients/mark` on random ranges, in lines, columns and JSON, with offsets of each kind, against a model "
-        "that knows spans alone; what is said of files that they can't use"),
+        "that knows spans alone; what is said of files that they can't use, deep JSON and numbers of thousands of digits among them"),
     row("client_places", "the places that clients report", "", 3600, "python3 tests/client_places.py PVTAG 100 1",
         "where `clients/pvtag` says that items and nodes of files stand, against the program's numbers, expat and Python's codecs"),
     row("client_files", "what clients say of files in fault", "", 3600, "python3 tests/client_files.py PVTAG 100 1",

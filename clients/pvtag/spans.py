@@ -2,6 +2,7 @@
 kinds as numbers of characters.
 """
 import bisect
+import contextlib
 import itertools
 import json
 import re
@@ -12,7 +13,9 @@ from .program import Trouble
 
 OFFSETS = ("characters", "utf-16", "bytes")
 FIELDS = ("start", "end", "label")
-LINE = re.compile(r"(\d+) (\d+) (\d+) (\S+)\Z")
+LINE = re.compile(r"([0-9]+) ([0-9]+) ([0-9]+) (\S+)\Z")
+# What no offset and no level is above: the program takes none of more bits.
+MOST = (1 << 32) - 1
 
 
 class Range(NamedTuple):
@@ -57,12 +60,13 @@ Row = tuple[str, int, int, str, int | None]
 def of_lines(text: str, file: str, fields: Sequence[str]) -> Iterator[Row]:
     """Lines `FROM TO LEVEL NAME`, or with tabs the fields; a first line of names tells which column has which."""
     columns: list[int] = [0, 1, 2]
-    for number, line in enumerate(text.splitlines(), 1):
+    for number, line in enumerate(lines_of(text), 1):
         where = f"{file}:{number}"
         if not line.strip():
             continue
         if found := LINE.match(line):
-            yield where, int(found[1]), int(found[2]), found[4], int(found[3])
+            start, end, level = (number_of(where, field, found[at]) for at, field in enumerate((*fields[:2], "the level"), 1))
+            yield where, start, end, found[4], level
             continue
         cells = line.split("\t")
         if number == 1 and set(fields) <= set(cells):
@@ -75,18 +79,7 @@ def of_lines(text: str, file: str, fields: Sequence[str]) -> Iterator[Row]:
 
 def of_json(text: str, file: str, fields: Sequence[str]) -> Iterator[Row]:
     """A list of objects or of lists, an object with such a list in it, or an object a line."""
-    try:
-        told = json.loads(text)
-    except json.JSONDecodeError as fault:
-        lines = [line for line in text.splitlines() if line.strip()]
-        try:
-            told = [json.loads(line) for line in lines] if len(lines) > 1 else None
-        except json.JSONDecodeError:
-            told = None
-        if told is None:
-            raise Trouble(f"{file}:{fault.lineno}:{fault.colno}: this is no JSON: {fault.msg}") from None
-    except RecursionError:
-        raise Trouble(f"{file}: this JSON is nested too deep") from None
+    told = json_of(text, file)
     if isinstance(told, dict) and not set(fields) <= set(told):
         lists = [value for value in told.values() if isinstance(value, list) and value and is_row(value[0], fields)]
         if len(lists) > 1 or not lists and not any(value == [] for value in told.values()):
@@ -99,21 +92,54 @@ def of_json(text: str, file: str, fields: Sequence[str]) -> Iterator[Row]:
         yield (where, *row_of(where, [row[field] for field in fields] if isinstance(row, dict) else row[:3], fields), None)
 
 
+def json_of(text: str, file: str) -> Any:
+    """The value that a text is, or the list of those on its lines."""
+    try:
+        try:
+            return json.loads(text)
+        except json.JSONDecodeError as fault:
+            lines = [line for line in lines_of(text) if line.strip()]
+            with contextlib.suppress(json.JSONDecodeError):
+                if len(lines) > 1:
+                    return [json.loads(line) for line in lines]
+            raise Trouble(f"{file}:{fault.lineno}:{fault.colno}: this is no JSON: {fault.msg}") from None
+    except RecursionError:
+        raise Trouble(f"{file}: this JSON is nested too deep") from None
+    except ValueError:
+        # Python reads no number of more than some thousand digits.
+        raise Trouble(f"{file}: this JSON has a number with too many digits") from None
+
+
+def lines_of(text: str) -> list[str]:
+    """The lines as editors count them: other characters that separate lines stand in texts."""
+    return text.replace("\r\n", "\n").split("\n")
+
+
 def is_row(row: Any, fields: Sequence[str]) -> bool:
     return set(fields) <= set(row) if isinstance(row, dict) else isinstance(row, list) and len(row) >= 3
 
 
 def row_of(where: str, cells: Sequence[Any], fields: Sequence[str]) -> tuple[int, int, str]:
     """Two offsets and a name."""
-    start, end, name = cells
-    for field, value in zip(fields, (start, end)):
-        if isinstance(value, bool) or not isinstance(value, int) and not (isinstance(value, str) and value.isascii() and value.isdigit()):
-            raise Trouble(f"{where}: {field} is no offset: {value!r}")
-        if int(value) < 0:
-            raise Trouble(f"{where}: {field} is below 0")
+    start, end = (number_of(where, field, value) for field, value in zip(fields, cells[:2]))
+    name = cells[2]
     if not isinstance(name, str) or not name:
         raise Trouble(f"{where}: {fields[2]} is no name: {name!r}")
-    return int(start), int(end), name
+    return start, end, name
+
+
+def number_of(where: str, field: str, value: Any) -> int:
+    """An offset or a level, which JSON may have as a text."""
+    is_number = isinstance(value, int) and not isinstance(value, bool) or isinstance(value, str) and value.isascii() and value.isdigit()
+    if not is_number:
+        raise Trouble(f"{where}: {field} is no offset: {value!r}")
+    is_short = isinstance(value, int) or len(value.lstrip("0")) <= len(str(MOST))
+    number = int(value) if is_short else MOST + 1
+    if number < 0:
+        raise Trouble(f"{where}: {field} is below 0")
+    if number > MOST:
+        raise Trouble(f"{where}: {field} is above {MOST:,}")
+    return number
 
 
 class Offsets:
