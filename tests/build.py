@@ -14,7 +14,7 @@ from pathlib import Path
 from typing import IO, NamedTuple
 
 from lib.counting import Expecting
-from lib.waiting import PATIENCE, until
+from lib.waiting import PATIENCE, runs_still, until
 
 sys.path.append(str(Path(__file__).resolve().parent.parent / "tools"))
 sys.dont_write_bytecode = True
@@ -134,12 +134,6 @@ class Trial(Expecting):
     def runs(self) -> list[str]:
         """The crates that had a run of their own which proved something."""
         return [note.crate for note in self.notes() if note.what == "begins" and note.run == note.crate]
-
-
-def runs_still(number: int) -> bool:
-    with contextlib.suppress(OSError):
-        return b") Z " not in Path(f"/proc/{number}/stat").read_bytes()
-    return False
 
 
 def try_failures(trial: Trial) -> None:

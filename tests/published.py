@@ -15,13 +15,16 @@ import random
 import re
 import resource
 import shutil
+import signal
 import subprocess
 import sys
 import tempfile
 import time
+from pathlib import Path
 
 from lib.grammar import NEVER, SIGNS, cost, has_word, least_of, read_model, spelled
-from lib.waiting import PATIENCE
+from lib.waiting import PATIENCE, hanging_lxml, runs_still
+from lib.waiting import until as until_told
 
 TOP = os.path.dirname(os.path.dirname(os.path.abspath(__file__)))
 TOOL = os.path.join(TOP, "tools", "flatten")
@@ -236,6 +239,23 @@ def small(python):
         ran = run("env", "PYTHONPATH=without", "PYTHONDONTWRITEBYTECODE=1", python, TOOL, "plain.dtd")
         is_told = re.fullmatch("flatten: .*\n", ran.stderr) and said in ran.stderr
         case(ran.returncode == status and ran.stdout == "" and is_told, "lxml", text, ran)
+
+
+def killed_ones(python):
+    """Whatever ends `flatten`, the process that it began ends too, and nothing is said."""
+    os.makedirs("hanging", exist_ok=True)
+    note = Path("hanging/note").absolute()
+    hanging_lxml(Path("hanging"), note)
+    for number in (signal.SIGKILL, signal.SIGTERM, signal.SIGINT):
+        note.unlink(missing_ok=True)
+        begun = subprocess.Popen([python, "-B", TOOL, "plain.dtd"], env={**os.environ, "PYTHONPATH": "hanging"}, stdout=subprocess.PIPE, stderr=subprocess.PIPE)
+        until_told(note.exists)
+        child = int(note.read_text()) if note.exists() else 0
+        is_begun = runs_still(child)
+        begun.send_signal(number)
+        said = begun.communicate(timeout=PATIENCE)
+        is_over = until_told(lambda: not runs_still(child))
+        case(is_begun and is_over and begun.returncode == -number and said == (b"", b""), "ended by", number, is_begun, is_over, begun.returncode, said)
 
 
 # ---- content models, and what a DTD declares ----
@@ -597,6 +617,7 @@ def main():
             os.mkdir(os.path.join(folder, "here"))
             os.chdir(os.path.join(folder, "here"))
             small(python)
+            killed_ones(python)
             random_models(python, 300)
             published(python, program)
             os.chdir("/")

@@ -19,7 +19,7 @@ from pathlib import Path
 from typing import Any
 
 from lib.counting import Expecting
-from lib.waiting import PATIENCE, until
+from lib.waiting import PATIENCE, hanging_lxml, runs_still, until
 
 TOP = Path(__file__).resolve().parent.parent
 sys.path.insert(0, str(TOP / "clients"))
@@ -361,6 +361,29 @@ def try_interrupted(trial: Trial) -> None:
         trial.expect("nothing is left running", until(lambda: not left_running(trial)), left_running(trial))
 
 
+def try_interrupted_dtds(trial: Trial) -> None:
+    """Ctrl-C while a DTD is made plain ends what makes it."""
+    folder = trial.folder / "hanging"
+    folder.mkdir()
+    note = folder / "note"
+    hanging_lxml(folder, note)
+    dtd, one = folder / "modules.dtd", folder / "one.xml"
+    dtd.write_text(MODULE)
+    one.write_text('<!DOCTYPE poem SYSTEM "modules.dtd"><poem/>')
+    trial.variables["PYTHONPATH"] = str(folder)
+    for words in ((str(dtd), "poem", str(one)), ("--by-doctype", "--format", "csv", "--no-attributes", str(one))):
+        note.unlink(missing_ok=True)
+        run = trial.start(*words)
+        until(lambda: run.poll() is not None or note.exists())
+        begun = int(note.read_text()) if note.exists() else 0
+        is_begun = runs_still(begun)
+        run.send_signal(signal.SIGINT)
+        said, errors = run.communicate(timeout=PATIENCE)
+        trial.expect("it ends while a DTD is made plain", is_begun and (run.returncode, errors) == (130, b"") and said.count(b"\n") < 2, (is_begun, run.returncode, said, errors))
+        trial.expect("and what makes it", until(lambda: not runs_still(begun)), begun)
+    del trial.variables["PYTHONPATH"]
+
+
 def left_running(trial: Trial) -> list[Path]:
     """The runs of the program."""
     return [file for file in Path("/proc").glob("[0-9]*/cmdline") if str(trial.program).encode() in contents(file)]
@@ -554,6 +577,7 @@ def main() -> int:
         try_by_doctype(trial)
         try_killed(trial, report, 6)
         try_interrupted(trial)
+        try_interrupted_dtds(trial)
         try_changing(trial)
         try_outputs(trial, report)
         try_batches(trial, report)

@@ -57,7 +57,8 @@ CHECKS = [
         "the built program on files, pipes and devices of the machine; the commands that README, `docs/COMMANDS.md`, `docs/HOWTO.md` "
         "and the manual show, with what they print"),
     row("published", "published DTDs against xmllint", "xmllint +lxml +dtds", 3600, "python3 tests/published.py PVTAG 1 300",
-        "published DTDs made plain by `tools/flatten`, and real documents against `xmllint` with the original DTDs"),
+        "published DTDs made plain by `tools/flatten`, and real documents against `xmllint` with the original DTDs; that nothing is left of a "
+        "`flatten` that was ended"),
     row("annotate", "the page in a browser", "chromium chromedriver +selenium", 3600, "python3 tests/annotate.py PVTAG",
         "the page, by mouse and keyboard: keys at 0 to 300 ms after the mouse while the program is busy, a letter finished from a "
         "plain text, offers by their costs, refusals with their reasons, typing, attributes, finding, undo, two windows, contrasts, a "

@@ -5,7 +5,6 @@
 """
 import os
 import re
-import subprocess
 import sys
 import threading
 import urllib.parse
@@ -16,7 +15,7 @@ from xml.sax.saxutils import quoteattr
 from .faults import Refusal, fault_of
 from .memory import MemoryFile
 from .places import BOM, Source
-from .program import TOP, Stopped, Trouble, is_utf_8, read_file, run, shown_name
+from .program import TOP, Stopped, Trouble, is_utf_8, read_file, run, run_tool, shown_name
 
 FLATTEN = os.path.join(TOP, "tools", "flatten")
 NAME = rb"[:A-Z_a-z\x80-\xff][-.0-9:A-Z_a-z\x80-\xff]*"
@@ -108,8 +107,13 @@ class Finder:
         if is_new:
             try:
                 future.set_result(self.read(file) if file is not None and is_there else self.by_catalog(named))
-            except BaseException as fault:  # pylint: disable=broad-except
-                future.set_exception(fault if isinstance(fault, (Trouble, Stopped)) else Trouble(f"{named.system}: {fault}"))
+            except (Trouble, Stopped) as fault:
+                future.set_exception(fault)
+            except Exception as fault:  # pylint: disable=broad-except
+                future.set_exception(Trouble(f"{named.system}: {fault}"))
+            except BaseException:
+                future.set_exception(Stopped())
+                raise
         told = future.exception()
         if told is not None:
             raise told.with_traceback(None)
@@ -146,13 +150,12 @@ class Finder:
         said = ""
         for python in dict.fromkeys((sys.executable, "/usr/bin/python3")):
             try:
-                ran = subprocess.run([python, FLATTEN, path], capture_output=True, stdin=subprocess.DEVNULL, check=False,
-                                     start_new_session=True)
+                ran = run_tool(python, FLATTEN, path)
             except OSError:
                 continue
-            if ran.returncode == 0:
-                held = MemoryFile(ran.stdout)
+            if ran.status == 0:
+                held = MemoryFile(ran.output)
                 return Plain(held.path, name, held)
-            said = said if ran.returncode == 2 and said else ran.stderr.decode(errors="replace")
+            said = said if ran.status == 2 and said else ran.errors.decode(errors="replace")
         lines = [line.removeprefix("flatten: ").replace(shown_name(path), name) for line in said.splitlines()]
         raise Trouble(f"{name}: the DTD can't be made plain: " + "; ".join(lines[:3]))

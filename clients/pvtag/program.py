@@ -9,7 +9,7 @@ import sys
 import tempfile
 import threading
 from collections.abc import Callable, Iterator, Sequence
-from typing import NamedTuple
+from typing import Any, NamedTuple
 
 HERE = os.path.dirname(os.path.realpath(__file__))
 TOP = os.path.dirname(os.path.dirname(HERE))
@@ -36,10 +36,11 @@ class Stopped(Exception):
 
 
 class Answer(NamedTuple):
-    """How a run ended: its status, and what it wrote."""
+    """How a run ended: its status, and what it wrote; of a tool on the error output, too."""
 
     status: int
     output: bytes
+    errors: bytes = b""
 
     @property
     def line(self) -> str:
@@ -131,14 +132,18 @@ class Running:
 
     def begin(self, words: list[str], files: Sequence[int]) -> subprocess.Popen[bytes]:
         """Begins one, unless all have been ended."""
+        try:
+            with handed_over(words) as (given, more):
+                return self.start(given, pass_fds=[*files, *more])
+        except OSError as fault:
+            raise Trouble(f"{words[0]} can't be run: {fault.strerror}") from None
+
+    def start(self, words: list[str], **how: Any) -> subprocess.Popen[bytes]:
+        """Begins it by these words as they are."""
         with self.lock:
             if self.stopped:
                 raise Stopped
-            try:
-                with handed_over(words) as (given, more):
-                    begun = popen(given, stdin=subprocess.PIPE, stdout=subprocess.PIPE, pass_fds=[*files, *more], start_new_session=True)
-            except OSError as fault:
-                raise Trouble(f"{words[0]} can't be run: {fault.strerror}") from None
+            begun = popen(words, stdin=subprocess.PIPE, stdout=subprocess.PIPE, start_new_session=True, **how)
             self.runs.add(begun)
             return begun
 
@@ -157,9 +162,18 @@ def run(program: list[str], *words: str, given: bytes = b"", files: Sequence[int
         runs: Running = RUNNING) -> Answer:
     """Runs one command to its end, or for at most so many seconds: past them the status is -1. `given` is its input,
     `files` are handed over open; it ends with these `runs`. A run that takes longer than these allow is a trouble."""
-    begun = runs.begin([*program, *words], files)
+    return ended(runs.begin([*program, *words], files), words, given, most, runs)
+
+
+def run_tool(*words: str, runs: Running = RUNNING) -> Answer:
+    """The same for a command that isn't the program, and takes names of all bytes. It raises `OSError` where there is none."""
+    return ended(runs.start(list(words), stderr=subprocess.PIPE), words, b"", None, runs)
+
+
+def ended(begun: subprocess.Popen[bytes], words: Sequence[str], given: bytes, most: float | None, runs: Running) -> Answer:
+    """What a run comes to, which ends with these runs."""
     try:
-        output, _ = begun.communicate(given, timeout=runs.most if most is None else most)
+        output, errors = begun.communicate(given, timeout=runs.most if most is None else most)
     except BaseException as fault:
         begun.kill()
         begun.communicate()
@@ -173,7 +187,7 @@ def run(program: list[str], *words: str, given: bytes = b"", files: Sequence[int
             runs.runs.discard(begun)
     if runs.stopped:
         raise Stopped
-    return Answer(begun.returncode, output)
+    return Answer(begun.returncode, output, errors or b"")
 
 
 def took_too_long(words: Sequence[str], most: float | None) -> str:
