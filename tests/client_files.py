@@ -8,6 +8,8 @@ Prints each difference, and how many cases passed; ends with 1 where one failed.
 import functools
 import os
 import random
+import re
+import shutil
 import subprocess
 import sys
 import tempfile
@@ -17,6 +19,7 @@ sys.dont_write_bytecode = True
 from lib.annotate.fixture import EXAMPLES, need, run_cases, same  # noqa: E402
 from lib.random_files import ANY, CLIENTS, NAMES, document, dtd, text, write  # noqa: E402
 
+from pvtag.attributes import python_with_lxml  # noqa: E402
 from pvtag.faults import fault_of  # noqa: E402
 from pvtag.places import Source  # noqa: E402
 from pvtag.program import file_of, run  # noqa: E402
@@ -173,6 +176,73 @@ def tells_lines(program):
         )
 
 
+# Files in other encodings than UTF-8: their text, the encoding, and words of what is said.
+ENCODED = [
+    ("<doc>é</doc>", "utf-16", "is in UTF-16"),
+    ("<doc>é</doc>", "utf-16-le", "is in UTF-16"),
+    ("<doc>é</doc>", "utf-16-be", "is in UTF-16"),
+    ("<doc>é</doc>", "utf-32", "is in UTF-32"),
+    ("<doc>é</doc>", "utf-32-be", "is in UTF-32"),
+    ("<?xml version='1.0' encoding='UTF-16'?><doc>é</doc>", "utf-16", "is in UTF-16"),
+    ("<?xml version='1.0' encoding='UTF-16LE'?><doc>é</doc>", "utf-16-le", "is in UTF-16"),
+    ("<?xml version='1.0' encoding='utf-16'?><doc>é</doc>", "utf-8", "names UTF-16"),
+    ("<?xml version='1.0' encoding='ISO-8859-1'?><doc>é</doc>", "latin-1", "is in ISO-8859-1"),
+    ("<?xml version='1.0' encoding='windows-1252'?><doc>é “</doc>", "cp1252", "is in WINDOWS-1252"),
+    ("<?xml version='1.0' encoding='UTF-8'?><doc>é</doc>", "latin-1", "looks like Latin-1"),
+    ("<doc>\na é</doc>", "latin-1", "looks like Latin-1"),
+    ("<doc><!-- é --></doc>", "latin-1", "looks like Latin-1"),
+    ("<doc><?p é?></doc>", "latin-1", "looks like Latin-1"),
+    ("<doc><![CDATA[é]]></doc>", "latin-1", "looks like Latin-1"),
+    ("<doc><p a='é'/></doc>", "latin-1", "looks like Latin-1"),
+    ("<doc><p é=''/></doc>", "latin-1", "looks like Latin-1"),
+    ("<doc>“é”</doc>", "cp1252", "looks like Windows-1252"),
+]
+ENCODED_DTDS = [
+    ("<!-- é --><!ELEMENT doc ANY>", "latin-1", "looks like Latin-1"),
+    ("<!ELEMENT doc ANY><!ELEMENT é ANY>", "cp1252", "looks like Latin-1"),
+    ("<!ELEMENT doc ANY><!ATTLIST doc é CDATA '“'>", "cp1252", "looks like Windows-1252"),
+    ("<!ELEMENT doc ANY><!-- é -->", "utf-16", "is in UTF-16"),
+    ("<?xml version='1.0' encoding='ISO-8859-1'?><!-- é --><!ELEMENT doc ANY>", "latin-1", "is in ISO-8859-1"),
+]
+
+
+def tells_encodings(program):
+    """A file in another encoding is told as what it is, at its first byte that isn't UTF-8, with the line that converts it: the
+    converted file is read, and has the same text."""
+    with file_of(b"<!ELEMENT doc ANY><!ELEMENT p ANY>", ".dtd") as flat:
+        for made, encoding, words in ENCODED:
+            converted = convert(made, encoding, words, "document", lambda path: run([program], "valid", flat, "doc", path))
+            need(converted is None or "é" in converted and "<doc" in converted, f"{made} in {encoding}, converted: {converted}")
+    for made, encoding, words in ENCODED_DTDS:
+        convert(made, encoding, words, "dtd", lambda path: run([program], "dtd", path))
+    mixed = "<doc>é <!-- é ".encode() + b"\xe9 --></doc>"
+    with file_of(b"<!ELEMENT doc ANY>", ".dtd") as flat, file_of(mixed) as path:
+        ran = run([program], "valid", flat, "doc", path)
+    same(str(fault_of(ran.status, ran.line, {"document": Source("f", mixed)})), "f:1:15: this is no character of XML, or isn't UTF-8", "a byte in UTF-8")
+
+
+def convert(made, encoding, words, word, judged):
+    """What the line makes of a file that the program refuses, once it is read."""
+    data = made.encode(encoding)
+    with file_of(data) as path:
+        ran = judged(path)
+        fault = fault_of(ran.status, ran.line, {word: Source("f", data)})
+        need(words in fault.sentence, f"{made} in {encoding}: {fault}")
+        byte = data[fault.span.start] if encoding in ("latin-1", "cp1252") and "looks" in words else 0xFF
+        need(fault.span.start == 0 or byte >= 0x80, f"the place in {made}: {fault}")
+        line = re.search("`((?:iconv|xmllint|sed|tools/flatten)[^`]*) FILE`", fault.sentence)
+        need(line, f"the line for {made} in {encoding}: {fault}")
+        tool = line[1].split()[0]
+        if not shutil.which(tool) and (tool != "tools/flatten" or python_with_lxml() is None):
+            print(f"skipped: {line[1]} (no {tool})")
+            return None
+        done = subprocess.run(f"{line[1]} {path}", shell=True, capture_output=True, cwd=os.path.dirname(EXAMPLES))
+    with file_of(done.stdout) as path:
+        again = judged(path)
+    need(again.status in (0, 1), f"{line[1]} of {made} in {encoding}: {done}, {again}")
+    return done.stdout.decode()
+
+
 # ---- commands ----
 
 
@@ -317,6 +387,7 @@ def main():
         functools.partial(tells_faults, program, 4 * rounds),
         functools.partial(tells_known_faults, program),
         functools.partial(tells_lines, program),
+        functools.partial(tells_encodings, program),
         functools.partial(refuses_bad_files, program),
         functools.partial(takes_all_names, program),
         functools.partial(reads_and_writes_pipes, program),

@@ -207,7 +207,7 @@ BY_DOCTYPE = {
     "bad": (b'<!DOCTYPE a SYSTEM "bad.dtd">', b"<a/>", "no-dtd", "", "bad.dtd:1:"),
     "unknown": (b'<!DOCTYPE a PUBLIC "-//none" "http://example.org/none.dtd">', b"<a/>", "no-dtd", "", "can't be made plain"),
     "broken": (b"<!DOCTYPE letter SYSTEM 'letter.dtd'>", b"<letter>", "refused", "letter.dtd", "ends before"),
-    "utf-16": (b"", "<!DOCTYPE letter SYSTEM 'letter.dtd'><letter/>".encode("utf-16"), "refused", "", "xmllint --encode UTF-8"),
+    "utf-16": (b"", "<!DOCTYPE letter SYSTEM 'letter.dtd'><letter/>".encode("utf-16"), "refused", "", "iconv -f UTF-16 -t UTF-8"),
     "latin-1": (b"<!DOCTYPE letter SYSTEM 'letter.dtd'>", b"<letter>\xe9t\xe9</letter>", "refused", "letter.dtd", "iconv -f ISO-8859-1"),
 }
 CATALOG = '<catalog xmlns="urn:oasis:names:tc:entity:xmlns:xml:catalog"><public publicId="-//test//DTD Poem//EN" uri="poem.dtd"/></catalog>'

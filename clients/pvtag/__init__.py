@@ -18,7 +18,7 @@
     reasons   why a list can't be mended: which kids stand in each other's way, in a sentence; it stands on
               `tries`, which asks the program of lists, `search`, `needs` and `sentences`
     faults    what the program says of a file that it refuses: where, and in a sentence; it stands on
-              `document_fault` and `dtd_fault`
+              `document_fault`, `dtd_fault` and `encodings`
     costs     what each name that is offered costs: how many more elements are missing with it
     filling   the attributes of a completion's new elements
     command   what the commands beside this folder share

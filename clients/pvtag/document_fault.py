@@ -1,6 +1,7 @@
 """What the program says of a document's faults: where in the file, and in a sentence."""
 import re
 
+from .encodings import DECLARED, WIDE, encoding_fault, not_utf_8
 from .places import Item, Remark, Source, Span, document_items, front_mark
 
 # A Char in UTF-8.
@@ -11,32 +12,6 @@ REFERENCE = rb"""&(?:#[0-9]+|#x[0-9a-fA-F]+|[^\s&;<#"'0-9][^\s&;<"']*);"""
 RUN = re.compile(rb"(?:(?![<&])(?!\]\]>)(?:" + CHAR + rb")|" + REFERENCE + rb")*")
 ENTITY = re.compile(rb"&(?!#|(?:lt|gt|amp|apos|quot);)[^\s&;<]*;")
 NAME = re.compile(rb"</?([^\s/<>]*)")
-# A character of several bytes in UTF-8, which other encodings write by chance alone; and bytes that Latin-1 has no letter for.
-MULTIBYTE = re.compile(rb"[\xc2-\xdf][\x80-\xbf]|[\xe0-\xef][\x80-\xbf]{2}|[\xf0-\xf4][\x80-\xbf]{3}")
-WINDOWS = re.compile(rb"[\x80-\x9f]")
-
-
-# How texts that aren't UTF-8 begin: with a byte order mark, or with `<` in two bytes.
-UTF_16 = (b"\xff\xfe", b"\xfe\xff", b"<\0", b"\0<")
-ENCODING = re.compile(rb"""<\?xml\s[^>]*?encoding\s*=\s*["']([-A-Za-z0-9._]+)["']""")
-
-
-def encoding_fault(data: bytes) -> str | None:
-    """What a document's encoding is, where it isn't UTF-8, with the line that converts it."""
-    if data.startswith(UTF_16):
-        return "the file is in UTF-16, and UTF-8 alone is read; `xmllint --encode UTF-8 FILE` converts it"
-    declared = ENCODING.match(data, front_mark(data))
-    name = declared[1].decode().upper() if declared is not None else ""
-    if name and name not in ("UTF-8", "US-ASCII"):
-        return f"the file is in {name}, and UTF-8 alone is read; `xmllint --encode UTF-8 FILE` converts it"
-    try:
-        data.decode()
-    except UnicodeDecodeError:
-        if MULTIBYTE.search(data) is None and b"\0" not in data:
-            name = "WINDOWS-1252" if WINDOWS.search(data) is not None else "ISO-8859-1"
-            word = "Windows-1252" if name == "WINDOWS-1252" else "Latin-1"
-            return f"the file isn't UTF-8 and looks like {word}; `iconv -f {name} -t UTF-8 FILE` converts it"
-    return None
 
 
 class Front:
@@ -127,10 +102,11 @@ BEGINS: tuple[tuple[bytes, str], ...] = (
 def syntax(front: Front, source: Source) -> Remark:
     data, at = source.data, front.at
     here = Span(at, front.item.end if front.item is not None else min(at + 1, len(data)))
-    if data.startswith(UTF_16) or ENCODING.match(data, at) is not None:
-        what = encoding_fault(data)
-        if what is not None:
-            return here, what
+    is_wide = data.startswith(tuple(front for front, _ in WIDE))
+    if (is_wide or DECLARED.match(data, at) is not None) and (what := encoding_fault(data)) is not None:
+        return here, what
+    if front.item is not None and (byte := not_utf_8(data, here)) is not None:
+        return byte, character(data, byte.start)
     if at == len(data):
         ended = f"the file ends before {opened(front, source)} has ended" if front.open else "there is no root element"
         return Span(at, at), ended

@@ -2,7 +2,8 @@
 import re
 
 from . import entities
-from .places import Remark, Source, Span
+from .encodings import encoding_fault, not_utf_8
+from .places import BOM, Remark, Source, Span
 
 PARAMS = {
     "conditional": "a conditional section isn't read; tools/flatten makes a plain DTD of one in modules",
@@ -27,11 +28,22 @@ def dtd_fault(kind: str, rest: list[str], source: Source | None) -> Remark:
     number = int(rest[0])
     span = dtd_span(number, source)
     found = ELEMENT.match(source.data, span.start) if source is not None and span is not None else None
+    if kind == "syntax" and source is not None and (what := encoded(source.data, span)) is not None:
+        return what
     if kind == "twice" and found is not None:
         return span, f"`{found[1].decode(errors='replace')}` is declared a second time"
     if kind == "syntax" and found is not None:
         return span, "this element declaration isn't of its form"
     return span, DTD_KINDS.get(kind, kind)
+
+
+def encoded(data: bytes, span: Span | None) -> Remark | None:
+    """What is said where a declaration can't be read for its encoding: a byte within it, or how the file begins."""
+    byte = not_utf_8(data, span) if span is not None else None
+    what = encoding_fault(data, is_dtd=True)
+    if byte is not None:
+        return byte, what or "this is no character of XML, or isn't UTF-8"
+    return (span, what) if what is not None and span is not None and span.start <= len(BOM) else None
 
 
 def dtd_stop(source: Source | None) -> entities.Stop | None:

@@ -12,8 +12,8 @@ from pathlib import Path
 from typing import NamedTuple
 
 from pvtag.attributes import MISSING, Attributes, python_with_lxml
-from pvtag.document_fault import encoding_fault
 from pvtag.dtd import Dtd
+from pvtag.encodings import encoding_fault
 from pvtag.faults import fault_of
 from pvtag.finder import Finder, Named, Plain, names_in
 from pvtag.layout import Layout
