@@ -245,6 +245,28 @@ def try_forms(trial: Trial) -> None:
             trial.expect("read again", again == rows and trial.checked() == 0, (again, trial.checked()))
 
 
+def try_summary(trial: Trial) -> None:
+    """Names and numbers are taken out of sentences, and what is the same for all stays: encodings, marks, and the line that converts."""
+    texts = trial.folder / "summed"
+    texts.mkdir()
+    letter = document(0, 1).decode()
+    for name, data in (("a1", letter.replace("</salute>", "\xe9</salute>").encode("latin-1")), ("a2", letter.replace("<body>", "<body><!-- \xe9 -->").encode("latin-1")),
+                       ("b", letter.encode("utf-16")), ("c1", b"<letter><p>"), ("c2", b"<letter>\n<body>"), ("d", letter.replace("<body>", "<body><!-- -- -->").encode()),
+                       ("e1", letter.replace("<body>", "<body><lb>1</lb>").encode()), ("e2", letter.replace("<body>", "<body><p><lb>2</lb></p>").encode())):
+        (texts / f"{name}.xml").write_bytes(data)
+    status, said, errors = trial.over("--summary", "--no-attributes", str(texts))
+    wanted = ["8 documents: 6 refused, 2 impossible",
+              f"2\timpossible\tThe text (line N) stands in `…`, which holds nothing. `…` is declared `…`.\t{texts}/e1.xml",
+              f"2\trefused\tthe file ends before `…` (line N) has ended\t{texts}/c1.xml",
+              f"2\trefused\tthe file isn't UTF-8 and looks like Latin-1; `iconv -f ISO-8859-1 -t UTF-8 FILE` converts it\t{texts}/a1.xml",
+              f"1\trefused\ta comment ends with `-->`, and holds no `--` before\t{texts}/d.xml",
+              f"1\trefused\tthe file is in UTF-16, and UTF-8 alone is read; `iconv -f UTF-16 -t UTF-8 FILE` converts it\t{texts}/b.xml"]
+    told = [line.rpartition(".xml:")[0] + ".xml" if ".xml:" in line else line for line in said.decode().splitlines()]
+    trial.expect("a summary without names and numbers", (status, errors, told) == (0, "", wanted), (status, errors, told))
+    status, said, errors = trial.over("--summary", "--no-attributes", str(texts / "b.xml"))
+    trial.expect("a summary of one", said.startswith(b"1 document: 1 refused\n"), said)
+
+
 def try_by_doctype(trial: Trial) -> None:
     """Each document by the DTD that it names; the others by the given pair; a DTD in modules; against xmllint; again what changed."""
     if python_with_lxml() is None:
@@ -574,6 +596,7 @@ def main() -> int:
         try_strange_files(trial)
         try_attributes(trial)
         try_forms(trial)
+        try_summary(trial)
         try_by_doctype(trial)
         try_killed(trial, report, 6)
         try_interrupted(trial)

@@ -124,7 +124,8 @@ CHECKS = [
         "texts cut at every place, and cut and joined at random, against a model that keeps a text as the list of its units"),
     row("report", "reports on documents", "+lxml +xmllint +parallel", 3600, "python3 tests/report.py PVTAG 1 40",
         "`clients/report` on documents of all kinds against `check`: again for what changed, killed, interrupted, in batches; by the "
-        "DTDs that documents name, against `xmllint`; kinds for which a run fails; names with control characters in each form, read again"),
+        "DTDs that documents name, against `xmllint`; kinds for which a run fails; names with control characters in each form, read again; "
+        "summaries without names and numbers"),
     row("mixed", "one report over a mixed folder, against xmllint", "xmllint +lxml +dtds", 3600, "python3 tests/mixed.py PVTAG 300 1",
         "one report over a folder of letters, DocBook, XHTML, documents of this machine and broken ones: each row against `xmllint`"),
     row("package", "the package, in a bare root", "", 3600, "python3 tests/package.py PVTAG PVLONG",

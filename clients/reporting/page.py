@@ -7,6 +7,7 @@ from collections import Counter
 from collections.abc import Callable, Iterable, Iterator
 
 from .rows import Head, Row, shown
+from .summary import documents
 
 TITLES = (("Document", "text"), ("DTD", "text"), ("Bytes", "number"), ("Verdict", "text"), ("Open", "number"), ("Missing", "number"), ("Place", "place"),
           ("What stands there", "text"), ("Seconds", "number"), ("Attributes", "text"), ("Faults", "number"))
@@ -60,7 +61,7 @@ def parts(head: Head, rows: Callable[[], Iterable[Row]], folder: str = ".") -> I
         is_exact = is_exact and (row.verdict != "possible" or row.missing is not None and RANGE.match(row.sentence or "") is None)
     told = ", ".join(f"{count} {verdict}" for verdict, count in counts.most_common()) or "no documents"
     yield "<!DOCTYPE html>\n<html lang=en><meta charset=utf-8><meta name=viewport content='width=device-width'><title>Report</title>"
-    yield f"<style>{STYLE}</style>\n<h1>{sum(counts.values())} documents</h1>\n<p>{told}"
+    yield f"<style>{STYLE}</style>\n<h1>{documents(sum(counts.values()))}</h1>\n<p>{told}"
     yield f"; elements that are missing: {'' if is_exact else 'at least '}{missing}" if head.need else ""
     yield f"; {attributes_in_words(head, attributes, faults)}. Elements are the proved program's part, attributes libxml2's"
     yield f". {'By the DTDs that the documents name' if head.by_doctype else f'Root: <code>{html.escape(head.root)}</code>'}.</p>\n<table><thead><tr>"
@@ -76,8 +77,7 @@ def attributes_in_words(head: Head, attributes: Counter[str | None], faults: int
     if not head.attributes:
         return "attributes weren't looked at"
     invalid, valid = attributes["invalid"], attributes["valid"]
-    noun = "document" if invalid == 1 else "documents"
-    return f"attributes: {valid} valid, {invalid} {noun} with {faults} missing or wrong" if invalid else f"attributes: {valid} valid"
+    return f"attributes: {valid} valid, {documents(invalid)} with {faults} missing or wrong" if invalid else f"attributes: {valid} valid"
 
 
 def link_to(path: str, folder: str) -> str:

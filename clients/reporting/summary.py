@@ -4,10 +4,11 @@ from collections.abc import Iterable, Iterator
 
 from .rows import Row, escaped
 
-QUOTED = re.compile(r"`[^`]*`")
+QUOTED = re.compile(r"(`[^`]*`)")
 # Several names in a row, as a sentence lists them.
 NAMES = re.compile(r"`…`(?:(?:, (?:and |or )?| and | or )`…`)+")
-NUMBER = re.compile(r"\d+(?:,\d{3})*")
+# A number by itself: that of UTF-8 is part of a name.
+NUMBER = re.compile(r"(?<![\w,.-])\d+(?:,\d{3})*(?![\w-])")
 
 
 def pattern_of(row: Row) -> str:
@@ -15,7 +16,19 @@ def pattern_of(row: Row) -> str:
     sentence = row.sentence or ""
     if row.verdict == "no-dtd" and ": " in sentence:
         sentence = "… " + sentence.partition(": ")[2]
-    return NUMBER.sub("N", NAMES.sub("`…`, ..", QUOTED.sub("`…`", sentence)))
+    return NAMES.sub("`…`, ..", "".join(without_name(part) for part in QUOTED.split(sentence)))
+
+
+def without_name(part: str) -> str:
+    """A part of a sentence: what is quoted, or what stands between. Quoted marks, as `-->`, and commands aren't names."""
+    if not QUOTED.fullmatch(part):
+        return NUMBER.sub("N", part)
+    is_kept = part.endswith(" FILE`") or not any(char.isalnum() for char in part)
+    return part if is_kept else "`…`"
+
+
+def documents(count: int) -> str:
+    return f"{count} document{'s' * (count != 1)}"
 
 
 class Summary:
@@ -37,7 +50,7 @@ class Summary:
     def lines(self) -> Iterator[str]:
         """The lines: the counts of verdicts, those of attributes, and for each sentence its count, verdict and example, the most frequent first,
         with a tab between each two."""
-        yield f"{sum(self.verdicts.values())} documents: {counted(self.verdicts)}"
+        yield f"{documents(sum(self.verdicts.values()))}: {counted(self.verdicts)}"
         if self.attributes:
             yield f"attributes: {counted(self.attributes)}"
         for (verdict, sentence), (count, example) in sorted(self.kinds.items(), key=lambda it: (-it[1][0], it[0])):
