@@ -10,9 +10,11 @@ import os
 import random
 import re
 import shutil
+import signal
 import subprocess
 import sys
 import tempfile
+import time
 
 sys.dont_write_bytecode = True
 
@@ -327,6 +329,56 @@ def reads_and_writes_pipes(program):
         same((ran.returncode, ran.stderr), (4, b""), f"{name} on a closed pipe")
 
 
+def commands_on(program, folder):
+    """A command line of each command on files in a folder that it can use, by its name."""
+    ranges, text = os.path.join(folder, "ranges"), os.path.join(folder, "text")
+    write(ranges, b"0 5 0 date\n")
+    write(text, b"3 May")
+    letter, draft = os.path.join(EXAMPLES, "letter.dtd"), os.path.join(EXAMPLES, "letter-draft.xml")
+    files = {"why": (letter, "letter", draft), "complete": (letter, "letter", draft), "ranges": (draft,),
+             "standoff": (letter, "p", text, ranges), "mark": (letter, "letter", draft, ranges), "report": (letter, "letter", draft)}
+    return {name: [sys.executable, "-B", os.path.join(CLIENTS, name), *words, "--program", program] for name, words in files.items()}
+
+
+def says_what_is_closed(program):
+    """Without a standard output a command says so; without a standard error, or a standard input, it answers as with them."""
+    with tempfile.TemporaryDirectory() as folder:
+        for name, words in commands_on(program, folder).items():
+            def ran(closed, *more):
+                return subprocess.run(["sh", "-c", f'exec "$@" {closed}', "sh", *words, *more], capture_output=True, stdin=subprocess.DEVNULL)
+
+            whole = ran("")
+            status, sentence = (3 if name == "report" else 4), f"{name}: the standard output is closed\n".encode()
+            told = ran("1>&-")
+            need(told.returncode == status and told.stderr.endswith(sentence) and told.stderr.count(b"closed") == 1 and b"Traceback" not in told.stderr, f"{name}: {told}")
+            same(ran("1>&- 2>&-").returncode, status, f"{name} without outputs")
+            for closed in ("2>&-", "0<&-"):
+                told = ran(closed)
+                same((told.returncode, without_times(told.stdout)), (whole.returncode, without_times(whole.stdout)), f"{name} {closed}: {told}")
+            to = os.path.join(folder, "none", "file")
+            if name in ("standoff", "mark"):
+                told = ran("", "--output", to)
+                same((told.returncode, told.stderr.splitlines()[-1:]), (4, [f"{name}: {to}: No such file or directory".encode()]), f"{name} into no folder")
+
+
+def without_times(told):
+    return re.sub(rb'"seconds": [0-9.e-]+', b"", told)
+
+
+def is_quiet_while_it_starts(program):
+    """Ctrl-C ends a command without a word of its own, whenever it comes."""
+    with tempfile.TemporaryDirectory() as folder:
+        for number, words in enumerate(commands_on(program, folder).values()):
+            for delay in (0.04 + 0.01 * number, 0.12, 0.25):
+                begun = subprocess.Popen(words, stdout=subprocess.DEVNULL, stderr=subprocess.PIPE, start_new_session=True)
+                time.sleep(delay)
+                begun.send_signal(signal.SIGINT)
+                said = begun.communicate()[1].decode()
+                # Until the first line that is ours is run Python itself may end so, or say so.
+                is_early = "KeyboardInterrupt" in said and ("clients/" not in said or "/pvtag/start.py" in said or "from pvtag" in said.split("clients/")[-1][:200])
+                need(is_early or begun.returncode in (0, 1, 130, -signal.SIGINT) and "Traceback" not in said, f"{words[2]}: {begun.returncode} {said}")
+
+
 def completes(program):
     letter, draft = os.path.join(EXAMPLES, "letter.dtd"), os.path.join(EXAMPLES, "letter-draft.xml")
     got, out, said = command("complete", letter, "letter", draft, "--program", program)
@@ -391,6 +443,8 @@ def main():
         functools.partial(refuses_bad_files, program),
         functools.partial(takes_all_names, program),
         functools.partial(reads_and_writes_pipes, program),
+        functools.partial(says_what_is_closed, program),
+        functools.partial(is_quiet_while_it_starts, program),
         functools.partial(completes, program),
         functools.partial(goes_and_comes_back, program, max(10, rounds // 5)),
     ]

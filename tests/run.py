@@ -382,8 +382,8 @@ def main(words: list[str]) -> int:
     for stream in (sys.stdout, sys.stderr):
         if isinstance(stream, io.TextIOWrapper):
             stream.reconfigure(errors="backslashreplace")
-    # No test takes a program that isn't proved.
-    os.environ["PVTAG_PROVED"] = "1"
+    # No test takes a program that isn't proved, and none leaves compiled files beside the sources.
+    os.environ |= {"PVTAG_PROVED": "1", "PYTHONDONTWRITEBYTECODE": "1"}
     results = run(chosen(words))
     for one in results:
         if one.is_second and not one.failed:

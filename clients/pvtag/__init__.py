@@ -21,7 +21,7 @@
               `document_fault`, `dtd_fault` and `encodings`
     costs     what each name that is offered costs: how many more elements are missing with it
     filling   the attributes of a completion's new elements
-    command   what the commands beside this folder share
+    start     how a command begins and ends; `command` is what those beside this folder share
 
-Each client puts the folder above this one on its path.
+A client beside this folder finds it there.
 """

@@ -1,14 +1,10 @@
-"""What the commands of `clients/` share: their words, how they end, and what they say then.
-
-Statuses are those of the program: 0 and 1 with an answer, and otherwise a sentence on the error output, with the
-program's status where it refused a file, and 3 where it wasn't asked.
-"""
+"""What the commands of `clients/` share: their words, and what they say of files. How they begin and end is in `start`."""
 import argparse
 import contextlib
 import os
 import sys
 from collections.abc import Callable, Iterator, Mapping
-from typing import NamedTuple, NoReturn
+from typing import NamedTuple
 
 from .attributes import Attributes, Checked
 from .dtd import Dtd
@@ -19,6 +15,7 @@ from .places import Source
 from .program import Answer, Trouble, add_option, file_of, find, is_utf_8, read_file, shown_name
 from .reasons import Reason, Reasons
 from .session import Ended, Session
+from .start import said
 
 DTD = ("DTD", "the file of the DTD")
 ROOT = ("ROOT", "the name of the root element")
@@ -162,27 +159,3 @@ def placed(source: Source, layout: Layout, reason: Reason) -> str:
     at = node.kids[reason.first] if reason.first is not None else node
     sentences = reason.sentences(where_in(source, node, reason.kids))
     return f"{source.name}:{source.place(at.span.start)}: " + BELOW.join(sentences)
-
-
-def run_command(work: Callable[[], int]) -> NoReturn:
-    """Does a command's work, which gives its status, and ends."""
-    try:
-        status = work()
-        sys.stdout.flush()
-    except Refusal as refusal:
-        status = said(str(refusal), refusal.fault.status)
-    except Trouble as trouble:
-        status = said(str(trouble), 3)
-    except OSError as fault:
-        # What is left to be written is dropped, so that the end of the process doesn't try again.
-        os.dup2(os.open(os.devnull, os.O_WRONLY), sys.stdout.fileno())
-        status = 4 if isinstance(fault, BrokenPipeError) else said(str(fault.strerror), 4)
-    except KeyboardInterrupt:
-        status = 130
-    sys.exit(status)
-
-
-def said(sentence: str, status: int) -> int:
-    """Says it on the error output; the status."""
-    print(f"{os.path.basename(sys.argv[0])}: {sentence}", file=sys.stderr)
-    return status
