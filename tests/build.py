@@ -331,6 +331,11 @@ def try_telling(trial: Trial) -> None:
     (trial.top / "build/pvtag").mkdir()
     told = trial.run("pvtag", "a")
     trial.expect("a folder in its place", told[0] == 10 and told[1] == "" and told[2].endswith("/build/pvtag is a folder, where the program is to be\n"), told)
+    before = len(trial.notes())
+    for words in ((), ("all",), ("--put", str(other))):
+        told = trial.run("tools/build", *words)
+        is_told = told[2].startswith("pvtag: ") and told[2].endswith("/build/pvtag is a folder, where the program is to be\n") and told[2].count("\n") == 1
+        trial.expect("no build for a folder in its place", told[:2] == (1, "") and is_told and len(trial.notes()) == before, (words, told))
     trial.forget()
 
 
