@@ -19,6 +19,7 @@ import time
 sys.dont_write_bytecode = True
 
 from lib.annotate.fixture import EXAMPLES, need, run_cases, same  # noqa: E402
+from lib.waiting import PATIENCE, runs_still, until  # noqa: E402
 from lib.random_files import ANY, CLIENTS, NAMES, document, dtd, text, write  # noqa: E402
 
 from pvtag.attributes import python_with_lxml  # noqa: E402
@@ -267,6 +268,7 @@ def refuses_bad_files(program):
                 (odd, draft, 3, "none"),
                 (letter, bad, 7, "bad.xml:2:4: "),
                 (bad, draft, 6, "bad.xml:1:1: "),
+                (letter, os.path.join(folder, "none\x1b[31m\u202e"), 3, "none\\u001b[31m\\u202e: "),
             ):
                 got, out, said = command(name, dtd_path, "letter", doc, "--program", program)
                 same((got, out), (status, b""), f"{name} {doc!r}: {said}")
@@ -365,6 +367,38 @@ def without_times(told):
     return re.sub(rb'"seconds": [0-9.e-]+', b"", told)
 
 
+HANGING = """#!/bin/sh
+case $1 in
+dtd) exec "$PROGRAM" "$@" ;;
+esac
+echo $$ >"$NOTE.new"
+mv "$NOTE.new" "$NOTE"
+exec sleep 600
+"""
+
+
+def leaves_nothing(program):
+    """A command that is ended while the program works ends that too, and leaves no file of its own."""
+    with tempfile.TemporaryDirectory() as folder:
+        hanging, note, own = (os.path.join(folder, name) for name in ("hanging", "note", "own"))
+        write(hanging, HANGING.encode())
+        os.chmod(hanging, 0o755)
+        os.mkdir(own)
+        environment = {**os.environ, "PROGRAM": program, "NOTE": note, "TMPDIR": own}
+        for number in (signal.SIGINT, signal.SIGTERM, signal.SIGHUP):
+            for name, words in commands_on(hanging, folder).items():
+                begun = subprocess.Popen(words, env=environment, stdout=subprocess.PIPE, stderr=subprocess.PIPE, start_new_session=True)
+                until(lambda: os.path.exists(note) or begun.poll() is not None)
+                with open(note, encoding="ascii") as file:
+                    child = int(file.read())
+                os.unlink(note)
+                begun.send_signal(number)
+                told = begun.communicate(timeout=PATIENCE)
+                status = 130 if name == "report" else 128 + number
+                same((begun.returncode, told[1]), (status, b""), f"{name} ended by {number}")
+                need(until(lambda: not runs_still(child)) and os.listdir(own) == [], f"{name} ended by {number} leaves {os.listdir(own)}")
+
+
 def is_quiet_while_it_starts(program):
     """Ctrl-C ends a command without a word of its own, whenever it comes."""
     with tempfile.TemporaryDirectory() as folder:
@@ -375,7 +409,7 @@ def is_quiet_while_it_starts(program):
                 begun.send_signal(signal.SIGINT)
                 said = begun.communicate()[1].decode()
                 # Until the first line that is ours is run Python itself may end so, or say so.
-                is_early = "KeyboardInterrupt" in said and ("clients/" not in said or "/pvtag/start.py" in said or "from pvtag" in said.split("clients/")[-1][:200])
+                is_early = "KeyboardInterrupt" in said and ("clients/" not in said or "line 0, in <module>" in said or "/pvtag/start.py" in said or "from pvtag" in said.split("clients/")[-1][:200])
                 need(is_early or begun.returncode in (0, 1, 130, -signal.SIGINT) and "Traceback" not in said, f"{words[2]}: {begun.returncode} {said}")
 
 
@@ -444,6 +478,7 @@ def main():
         functools.partial(takes_all_names, program),
         functools.partial(reads_and_writes_pipes, program),
         functools.partial(says_what_is_closed, program),
+        functools.partial(leaves_nothing, program),
         functools.partial(is_quiet_while_it_starts, program),
         functools.partial(completes, program),
         functools.partial(goes_and_comes_back, program, max(10, rounds // 5)),

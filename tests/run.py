@@ -157,7 +157,8 @@ CHECKS = [
         "where `clients/pvtag` says that items and nodes of files stand, against the program's numbers, expat and Python's codecs"),
     row("client_files", "what clients say of files in fault", "+xmllint +lxml", 3600, "python3 tests/client_files.py PVTAG 100 1",
         "what clients say of files that the program refuses, and of files that they can't use; other encodings than UTF-8, each converted by "
-        "the line that is printed; closed outputs, and Ctrl-C while a command starts; `clients/ranges` there and back"),
+        "the line that is printed; closed outputs; what is left of a command that was ended, and Ctrl-C while it starts; "
+        "`clients/ranges` there and back"),
     row("attributes", "attributes and entities of documents, against xmllint", "xmllint +lxml", 3600, "python3 tests/attributes.py PVTAG 1 120",
         "what clients say of attributes under random DTDs and on changed documents of the machine: valid where `xmllint --valid` says "
         "so, with as many faults; letters that are called valid pass `xmllint --dtdvalid`; documents with internal subsets and "

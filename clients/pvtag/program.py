@@ -2,6 +2,7 @@
 import argparse
 import contextlib
 import os
+import re
 import resource
 import shutil
 import subprocess
@@ -22,6 +23,10 @@ PACKAGED = os.path.join(os.path.dirname(os.path.dirname(TOP)), "bin", "pvtag")
 # The same of the second program.
 LONG_SCRIPT, LONG_BUILT = os.path.join(TOP, "pvlong"), os.path.join(TOP, "build", "pvlong")
 
+
+# Control characters, and those that order a line anew or end it: they would act on a terminal or a page.
+CONTROLS = "\x00-\x1f\x7f-\x9f\u061c\u200e\u200f\u2028-\u202e\u2066-\u2069"
+CONTROL = re.compile(f"[{CONTROLS}]")
 
 # How a process is begun. A client whose processes end with it, also when it is killed, puts another here.
 popen: "Callable[..., subprocess.Popen[bytes]]" = subprocess.Popen
@@ -204,8 +209,8 @@ def read_file(path: str) -> bytes:
 
 
 def shown_name(path: str) -> str:
-    """A file's name as it may be printed, also where it isn't UTF-8."""
-    return os.fsencode(path).decode(errors="replace")
+    """A file's name as it may be printed, also where it isn't UTF-8, or has characters that would act on a terminal."""
+    return CONTROL.sub(lambda found: f"\\u{ord(found[0]):04x}", os.fsencode(path).decode(errors="replace"))
 
 
 @contextlib.contextmanager

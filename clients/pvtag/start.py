@@ -11,6 +11,7 @@ import sys
 from collections.abc import Callable
 from typing import NoReturn
 
+ENDING = (signal.SIGTERM, signal.SIGHUP)
 # An ignored one stays so.
 IS_HEARD = signal.getsignal(signal.SIGINT) is signal.default_int_handler
 if IS_HEARD:
@@ -18,10 +19,14 @@ if IS_HEARD:
 
 
 def begin() -> bool:
-    """Has Ctrl-C raise `KeyboardInterrupt` from now on, and puts a device in the place of each standard stream that is
-    closed, so that no file takes its number. Whether the standard output is closed: then writing to it fails."""
+    """Has Ctrl-C raise `KeyboardInterrupt` from now on, and what else ends a command raise too, so that runs end and
+    files go; and puts a device in the place of each standard stream that is closed, so that no file takes its number.
+    Whether the standard output is closed: then writing to it fails."""
     if IS_HEARD:
         signal.signal(signal.SIGINT, signal.default_int_handler)
+    for ending in ENDING:
+        if signal.getsignal(ending) is signal.SIG_DFL:
+            signal.signal(ending, ended)
     closed = [number for number in range(3) if not is_open(number)]
     for number in closed:
         device = os.open(os.devnull, os.O_WRONLY if number == 2 else os.O_RDONLY)
@@ -34,6 +39,13 @@ def begin() -> bool:
     if 2 in closed:
         sys.stderr = open(2, "w", encoding="utf-8", closefd=False)
     return 1 in closed
+
+
+def ended(number: int, _: object) -> NoReturn:
+    """Ends a command by a signal, once: what ends then isn't disturbed."""
+    for other in ENDING:
+        signal.signal(other, signal.SIG_IGN)
+    sys.exit(128 + number)
 
 
 def is_open(number: int) -> bool:

@@ -7,6 +7,8 @@ from collections.abc import Iterable
 from dataclasses import asdict, dataclass, fields
 from typing import ClassVar
 
+from pvtag.program import CONTROLS
+
 # How a report is written.
 FORMATS = ("json", "tsv", "csv")
 # The verdicts, and what stands in their place.
@@ -14,8 +16,6 @@ JUDGED = ("valid", "possible", "impossible", "refused")
 UNJUDGED = ("unreadable", "failed", "no-dtd")
 # The kinds of documents for which a run may fail.
 FAILING = ("impossible", "refused", "invalid", "attributes")
-# Control characters, and those that order a line anew or end it, would act on a terminal or a page.
-CONTROLS = "\x00-\x1f\x7f-\x9f\u061c\u200e\u200f\u2028-\u202e\u2066-\u2069"
 CONTROL = re.compile(f"[{CONTROLS}]|[\udc80-\udcff]")
 ESCAPED = re.compile(rf"[\\{CONTROLS}]|[\udc80-\udcff]")
 UNESCAPED = re.compile(r"\\(?:([\\tnr])|x([0-9a-f]{2})|u([0-9a-f]{4}))")
