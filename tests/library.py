@@ -3,6 +3,10 @@ tree has the paths of the session, threads share one, and wrong words raise what
 
 Words: the program, and how many letters have their dates tagged. The last line tells how many passed.
 """
+import doctest
+import importlib
+import inspect
+import io
 import os
 import random
 import re
@@ -19,6 +23,7 @@ from lib.waiting import PATIENCE  # noqa: E402
 
 TOP = Path(__file__).resolve().parent.parent
 sys.path.insert(0, str(TOP / "clients"))
+from pvtag.attributes import python_with_lxml  # noqa: E402
 from pvtag.layout import Layout  # noqa: E402
 from pvtag.session import Ended, Made, Refused, Session  # noqa: E402
 
@@ -266,6 +271,39 @@ def dates(trial: Expecting, pvtag: str, folder: Path, count: int) -> None:
     trial.expect("each letter", len(done) == count, len(done))
 
 
+# Methods of a session that clients use among themselves.
+WITHIN = {"lines_of_run", "follow", "track", "ask", "whole", "line", "body", "verdict_lines", "ended"}
+
+
+def examples(trial: Expecting, pvtag: str, folder: Path) -> None:
+    """Each name that a module has for other tools, and each method of a session, has an example, which prints what it says."""
+    (folder / "pvtag").symlink_to(pvtag)
+    (folder / "examples").symlink_to(TOP / "examples")
+    before, called = os.getcwd(), sys.argv[0]
+    os.chdir(folder)
+    # The program is found beside whoever is called.
+    sys.argv[0] = str(folder / "tool")
+    count, finder, runner = 0, doctest.DocTestFinder(recurse=False), doctest.DocTestRunner(verbose=False)
+    for file in sorted((TOP / "clients" / "pvtag").glob("*.py")):
+        module = importlib.import_module(f"pvtag.{file.stem}") if file.stem not in ("__init__", "libxml") else None
+        if file.stem == "attributes" and python_with_lxml() is None:
+            print("skipped: the examples of attributes (no lxml, package python3-lxml)")
+            continue
+        items = {name: getattr(module, name) for name in getattr(module, "__all__", ())}
+        items |= {f"Session.{name}": it for name, it in vars(items.get("Session", object)).items() if inspect.isfunction(it) and name[0] != "_" and name not in WITHIN}
+        for name, item in items.items():
+            with Session([pvtag], LETTER, "letter", DRAFT) as session:
+                found = finder.find(item, f"{file.stem}.{name}", module, globs={**vars(module), "session": session})
+                said = io.StringIO()
+                failed = sum(runner.run(it, out=said.write, clear_globs=False).failed for it in found)
+                asked = sum(len(it.examples) for it in found)
+            count += asked
+            trial.expect("an example", asked > 0 and failed == 0, (file.stem, name, said.getvalue()))
+    trial.expect("examples", count > 100, count)
+    os.chdir(before)
+    sys.argv[0] = called
+
+
 def main() -> int:
     trial, pvtag = Expecting(), os.path.abspath(sys.argv[1])
     wrapped(trial, pvtag)
@@ -273,7 +311,7 @@ def main() -> int:
     trees(trial, pvtag)
     threads(trial, pvtag)
     with tempfile.TemporaryDirectory(prefix="pvtag-trial-") as folder:
-        for number, part in enumerate((faults, installs, lambda *its: dates(*its, int(sys.argv[2]) if sys.argv[2:] else 8))):
+        for number, part in enumerate((faults, examples, installs, lambda *its: dates(*its, int(sys.argv[2]) if sys.argv[2:] else 8))):
             (Path(folder) / str(number)).mkdir()
             part(trial, pvtag, Path(folder) / str(number))
     return trial.ended()

@@ -203,8 +203,8 @@ CHECKS = [
         "and servers: what would be saved is what the program shows, and the page's text is that"),
     row("library", "the Python library, as a tool uses it", "+perl", 3600, "python3 tests/library.py PVTAG 100",
         "the Python library as a tool uses it: installed without a network; parts of texts that are wrapped whole or not at all, with "
-        "their history; paths of nodes after random edits; threads that share a session; wrong words; dates tagged by the examples in "
-        "Python and Perl"),
+        "their history; paths of nodes after random edits; threads that share a session; wrong words; the examples in its docstrings; dates "
+        "tagged by the examples in Python and Perl"),
     row("wide_clients", "what clients say of wide lists", "", 3600, "python3 tests/wide_clients.py PVTAG PVLONG",
         "what the page, the language server and reports say of a list that is too wide to count, by `pvlong` and by a stand-in for it: "
         "numbers, ranges, nothing; that a move ends what is asked"),

@@ -28,6 +28,9 @@ from .masks import BLANK, Masked, mask
 from .places import Source, Span, document_items
 from .program import RUNNING, Running, Stopped, Trouble
 
+# What other tools may use; each has an example.
+__all__ = ("Attributes", "Attribute", "AttributeFault", "Checked")
+
 WORKER = os.path.join(os.path.dirname(os.path.abspath(__file__)), "libxml.py")
 PYTHONS = (sys.executable, "/usr/bin/python3")
 MISSING = "lxml is missing for Python (Debian: the package python3-lxml)"
@@ -39,7 +42,12 @@ SECONDS = 65.0
 
 class Attribute(NamedTuple):
     """A declared attribute. `type` is as the DTD writes it, "CDATA", "ID", "NMTOKEN" and so on, "NOTATION", or "" where
-    its `values` are listed; `need` is "required", "implied", "fixed" or "default"; `value` is the default or fixed one."""
+    its `values` are listed; `need` is "required", "implied", "fixed" or "default"; `value` is the default or fixed one.
+
+    >>> one = Attribute("rend", "", ("it", "bf"), "required", None)
+    >>> one.is_required, one.declared, one.meaning
+    (True, '(it | bf) #REQUIRED', '`it` or `bf`')
+    """
 
     name: str
     type: str
@@ -102,7 +110,12 @@ class AttributeFault(NamedTuple):
     known, so that its value isn't).
 
     `number` is the element's, in document order from 0; `span` the attribute in the document as it is written, or the name
-    of the tag that lacks it."""
+    of the tag that lacks it.
+
+    >>> with Attributes(b"<!ELEMENT p ANY><!ATTLIST p n (a|b) #REQUIRED>") as attributes:
+    ...     attributes.check(b"<p n='c'/>").faults[0].sentence
+    '`n` of `p` is `c`; it must be `a` or `b`'
+    """
 
     kind: str
     number: int | None
@@ -115,7 +128,12 @@ class AttributeFault(NamedTuple):
 
 class Checked(NamedTuple):
     """What was found of a document's attributes: faults in the order of their places, and whether there are more; or why
-    they weren't looked at, a sentence, which is "" where they were."""
+    they weren't looked at, a sentence, which is "" where they were.
+
+    >>> with Attributes(b"<!ELEMENT p ANY><!ATTLIST p n ID #REQUIRED>") as attributes:
+    ...     attributes.check(b"<p/>").sentence
+    '1 attribute missing'
+    """
 
     faults: list[AttributeFault]
     has_more: bool = False
@@ -198,7 +216,14 @@ class Asking:
 
 
 class Attributes:
-    """The attributes of a DTD. Processes begin at the first need, and end with `close`."""
+    """The attributes of a DTD. Processes begin at the first need, and end with `close`.
+
+    >>> with Attributes(b"<!ELEMENT p ANY><!ATTLIST p n ID #REQUIRED>") as attributes:
+    ...     attributes.check(b"<p n='a'/>").are_valid
+    ...     [one.name for one in attributes.of("p")]
+    True
+    ['n']
+    """
 
     def __init__(self, dtd: bytes, runs: Running = RUNNING) -> None:
         self.dtd, self.runs = dtd, runs

@@ -4,9 +4,18 @@ from typing import NamedTuple
 
 from .program import Trouble
 
+# What other tools may use; each has an example.
+__all__ = ("Denial", "read")
+
 
 class Denial(NamedTuple):
-    """A denial: its list's path, the cause ("undeclared", "unproductive", "empty" or "word"), and its rows' bytes."""
+    """A denial: its list's path, the cause ("undeclared", "unproductive", "empty" or "word"), and its rows' bytes.
+
+    >>> from pvtag.program import find, run
+    >>> denial = read(run(find(), "why", "examples/letter.dtd", "letter", "examples/letter-swapped.xml").output)
+    >>> denial.path, denial.cause, denial.row("c", 0)[0]
+    ('0', 'word', 2)
+    """
 
     path: str
     cause: str
@@ -22,7 +31,13 @@ DENIAL = re.compile(rb"pvdeny 1\nlist ([0-9.]+)\ncause ([a-z]+)\n((?:[cnps] [0-9
 
 
 def read(output: bytes) -> Denial:
-    """The denial that `why` printed."""
+    r"""The denial that `why` printed.
+
+    >>> read(b"possible\n")
+    Traceback (most recent call last):
+        ...
+    pvtag.program.Trouble: what was read is no denial
+    """
     found = DENIAL.fullmatch(output)
     if found is None:
         raise Trouble("what was read is no denial")

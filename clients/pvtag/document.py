@@ -9,6 +9,9 @@ import re
 from collections.abc import Callable, Iterable, Iterator, Mapping, Sequence
 from typing import Any
 
+# What other tools may use; each has an example.
+__all__ = ("Document", "Node")
+
 ELEMENT, TEXT, CDATA, MISC = "element", "text", "cdata", "misc"
 ITEM = re.compile(
     r"""<!--.*?-->|<\?.*?\?>|<!\[CDATA\[.*?\]\]>|<!DOCTYPE(?:[^>"']|"[^"]*"|'[^']*')*>"""
@@ -33,7 +36,11 @@ NO_KIDS: "list[Node]" = []
 
 
 class Node:
-    """A node: its kind; of an element its name, tags and kids, of a text its units, of another its source."""
+    """A node: its kind; of an element its name, tags and kids, of a text its units, of another its source.
+
+    >>> Document(b"<p>On <date>1 May</date></p>").node_at("0.1").name
+    'date'
+    """
 
     __slots__ = ("id", "kind", "owner", "kids", "name", "attrs", "short", "gap", "units", "source", "verdict", "new")
 
@@ -83,6 +90,16 @@ def dotted(path: Iterable[int]) -> str:
 
 
 class Document:
+    """The tree of a document, and what edits make of it.
+
+    >>> document = Document(b"<p>On 1 May</p>")
+    >>> told, back = document.edit("split 0.0 3")
+    >>> document.written()
+    '<p>On 1 May</p>'
+    >>> _ = document.edit("wrap 0 1 2 date")
+    >>> document.written()
+    '<p>On <date>1 May</date></p>'
+    """
     def __init__(self, source: bytes, first: int = 1) -> None:
         """Reads bytes that the session has read; its nodes are numbered from there on."""
         self.numbers = itertools.count(first)

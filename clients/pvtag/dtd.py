@@ -11,10 +11,18 @@ from .faults import Refusal, fault_of
 from .places import Source
 from .program import Answer, read_file, run, shown_name
 
+# What other tools may use; each has an example.
+__all__ = ("Type", "Declaration", "Dtd")
+
 
 class Type(NamedTuple):
     """A declared name as `dtd` tells it: its content model is "empty", "any", "mixed" or "children", and some finite
-    element of it is valid or none."""
+    element of it is valid or none.
+
+    >>> from pvtag.program import find
+    >>> Dtd(find(), "examples/letter.dtd").types["opener"]
+    Type(name='opener', kind='children', is_productive=True)
+    """
 
     name: str
     kind: str
@@ -22,7 +30,12 @@ class Type(NamedTuple):
 
 
 class Declaration(NamedTuple):
-    """An element declaration: its text from `<!ELEMENT` to `>`, the model alone, and its offset in the file."""
+    """An element declaration: its text from `<!ELEMENT` to `>`, the model alone, and its offset in the file.
+
+    >>> from pvtag.program import find
+    >>> Dtd(find(), "examples/letter.dtd").declaration("opener").text
+    '<!ELEMENT opener (dateline?, salute)>'
+    """
 
     name: str
     text: str
@@ -40,7 +53,15 @@ DECLARED = re.compile(
 
 class Dtd:
     """A DTD's file, and the name that it is told by. What `dtd` says is asked at the first need; a file that it refuses
-    raises `faults.Refusal`."""
+    raises `faults.Refusal`.
+
+    >>> from pvtag.program import find
+    >>> dtd = Dtd(find(), "examples/letter.dtd")
+    >>> list(dtd.types)[:3], dtd.model("letter")
+    (['letter', 'opener', 'dateline'], '(opener, body, closer?)')
+    >>> dtd.nearest("persons"), dtd.is_productive("letter")
+    (['person'], True)
+    """
 
     def __init__(self, program: list[str], path: str, name: str | None = None) -> None:
         self.program, self.path, self.name = program, path, name if name is not None else shown_name(path)

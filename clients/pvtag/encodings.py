@@ -3,6 +3,9 @@ import re
 
 from .places import Span, front_mark
 
+# What other tools may use; each has an example.
+__all__ = ("encoding_fault", "not_utf_8")
+
 # A character of several bytes in UTF-8, which other encodings write by chance alone; and bytes that Latin-1 has no letter
 # for.
 MULTIBYTE = re.compile(rb"[\xc2-\xdf][\x80-\xbf]|[\xe0-\xef][\x80-\xbf]{2}|[\xf0-\xf4][\x80-\xbf]{3}")
@@ -18,8 +21,14 @@ ONLY = "and UTF-8 alone is read"
 
 
 def encoding_fault(data: bytes, is_dtd: bool = False) -> str | None:
-    """What a file's encoding is, where it isn't UTF-8, with the line that converts it. `xmllint` writes a document's
-    declaration anew, and `tools/flatten` that of a DTD; `iconv` is for files that have none."""
+    r"""What a file's encoding is, where it isn't UTF-8, with the line that converts it. `xmllint` writes a document's
+    declaration anew, and `tools/flatten` that of a DTD; `iconv` is for files that have none.
+
+    >>> print(encoding_fault("<p>caf\u00e9</p>".encode("latin-1")))
+    the file isn't UTF-8 and looks like Latin-1; `iconv -f ISO-8859-1 -t UTF-8 FILE` converts it
+    >>> encoding_fault(b"<p>cafe</p>") is None
+    True
+    """
     by_declaration = "tools/flatten FILE" if is_dtd else "xmllint --encode UTF-8 FILE"
     wide = next((name for front, name in WIDE if data.startswith(front)), None)
     if wide is not None:
@@ -43,7 +52,11 @@ def encoding_fault(data: bytes, is_dtd: bool = False) -> str | None:
 
 
 def not_utf_8(data: bytes, span: Span) -> Span | None:
-    """The first byte of these that isn't UTF-8, if there is one."""
+    r"""The first byte of these that isn't UTF-8, if there is one.
+
+    >>> not_utf_8(b"caf\xe9", Span(0, 4))
+    Span(start=3, end=4)
+    """
     try:
         data[span.start:span.end].decode()
     except UnicodeDecodeError as fault:

@@ -9,6 +9,9 @@ from typing import NamedTuple
 
 from .places import DECLARATION, Item, Span, front_mark
 
+# What other tools may use; each has an example.
+__all__ = ("dtd_items", "general_entities")
+
 LITERAL = rb"""(?:"[^"]*"|'[^']*')"""
 ITEM = re.compile(
     rb"""\s+|(?P<comment><!--.*?-->)|(?P<instruction><\?.*?\?>)|%(?P<reference>[^\s;%&<>"']+);"""
@@ -150,7 +153,11 @@ def character_of(digits: bytes, base: int) -> bytes:
 
 
 def dtd_items(data: bytes) -> Iterator[Item]:
-    """The items of a DTD from its start, up to the first place where none stands; then it raises `Stop`."""
+    """The items of a DTD from its start, up to the first place where none stands; then it raises `Stop`.
+
+    >>> [item.kind for item in dtd_items(b"<!ENTITY % x 'ANY'><!ELEMENT a %x;>")]
+    ['element']
+    """
     at = front_mark(data)
     if found := DECLARATION.match(data, at):
         yield Item("declaration", at, found.end())
@@ -175,7 +182,11 @@ def general(declaration: bytes, parameters: dict[bytes, bytes]) -> Entity | None
 
 
 def general_entities(data: bytes, is_partial: bool = False) -> dict[bytes, Entity]:
-    """The entities that a DTD declares for documents. Where its reading stops it raises `Stop`, or tells those before."""
+    """The entities that a DTD declares for documents. Where its reading stops it raises `Stop`, or tells those before.
+
+    >>> general_entities(b"<!ENTITY me 'Anna'>")[b"me"].text
+    b'Anna'
+    """
     at = front_mark(data)
     if found := DECLARATION.match(data, at):
         at = found.end()

@@ -13,10 +13,18 @@ from .layout import Layout
 from .places import Place, Remark, Source, Span
 from .program import Trouble
 
+# What other tools may use; each has an example.
+__all__ = ("Fault", "Refusal", "fault_of")
+
 
 class Fault(NamedTuple):
-    """A fault of a file: the file's name, the bytes in fault where they are known, and a sentence. `line` is what the
-    program printed, and `status` what it ended with."""
+    r"""A fault of a file: the file's name, the bytes in fault where they are known, and a sentence. `line` is what the
+    program printed, and `status` what it ended with.
+
+    >>> source = Source("letter.xml", b"<p>\n<lb></p>")
+    >>> print(fault_of(7, "document mismatch 3", {"document": source}))
+    letter.xml:2:5: `</p>` stands where `lb` (line 2) is still open
+    """
 
     file: str
     span: Span | None
@@ -32,7 +40,13 @@ class Fault(NamedTuple):
 
 
 class Refusal(Trouble):
-    """A file was refused; `fault` tells which and why."""
+    """A file was refused; `fault` tells which and why.
+
+    >>> raise Refusal(fault_of(8, "limit script", {}))
+    Traceback (most recent call last):
+        ...
+    pvtag.faults.Refusal: a script has at most 268,435,456 bytes
+    """
 
     def __init__(self, fault: Fault) -> None:
         super().__init__(str(fault))
@@ -67,7 +81,13 @@ FILES = {"dtd": "dtd", "document": "document", "text": "text", "pack": "pack", "
 
 def fault_of(status: int, line: str, files: Mapping[str, Source]) -> Fault:
     """What a status of 2 or more and the line with it mean. `files` are the command's, by their word: "dtd",
-    "document", "pack", "table", "text", "ranges"; one that isn't given is told without a place."""
+    "document", "pack", "table", "text", "ranges"; one that isn't given is told without a place.
+
+    >>> fault_of(7, "document syntax 1", {"document": Source("a.xml", b"<p>")}).place
+    Place(line=1, column=4)
+    >>> fault_of(3, "", {}).sentence
+    "a file or the input couldn't be read"
+    """
     words = line.split(" ")
     if status in STATUSES or len(words) < 2:
         sentence = STATUSES.get(status, f"the program ended with status {status}: {line or 'it wrote nothing'}")

@@ -17,6 +17,9 @@ from .memory import MemoryFile
 from .places import BOM, Source
 from .program import TOP, Stopped, Trouble, is_utf_8, read_file, run, run_tool, shown_name
 
+# What other tools may use; each has an example.
+__all__ = ("Named", "Plain", "names_in", "Finder")
+
 FLATTEN = os.path.join(TOP, "tools", "flatten")
 NAME = rb"[:A-Z_a-z\x80-\xff][-.0-9:A-Z_a-z\x80-\xff]*"
 LITERAL = rb"\"[^\"]*\"|'[^']*'"
@@ -34,7 +37,13 @@ MODULES = re.compile(r"dtd param (conditional|external)|dtd parameter \d")
 @dataclass(frozen=True)
 class Named:
     """What names a DTD: a path or an address, with the public identifier where there is one, and the folder that it
-    counts from."""
+    counts from.
+
+    >>> Named("letter.dtd", "", "examples").file
+    'examples/letter.dtd'
+    >>> Named("http://example.org/a.dtd", "-//a", ".").file is None
+    True
+    """
 
     system: str
     public: str
@@ -55,7 +64,12 @@ class Named:
 @dataclass(frozen=True)
 class Plain:
     """A plain DTD: the path by which the program reads it, and the name by which people know it. What is held is there
-    for as long as this is."""
+    for as long as this is.
+
+    >>> from pvtag.program import find
+    >>> Finder(find()).plain(Named("letter.dtd", "", "examples"))
+    Plain(path='examples/letter.dtd', name='examples/letter.dtd', held=None)
+    """
 
     path: str
     name: str
@@ -67,7 +81,13 @@ def unquoted(literal: bytes | None) -> str:
 
 
 def names_in(data: bytes, folder: str) -> tuple[Named | None, str]:
-    """The DTD that a document in a folder names, none where it names none, and its root."""
+    """The DTD that a document in a folder names, none where it names none, and its root.
+
+    >>> names_in(b'<!DOCTYPE letter SYSTEM "letter.dtd"><letter/>', "examples")
+    (Named(system='letter.dtd', public='', folder='examples'), 'letter')
+    >>> names_in(b"<letter/>", "examples")
+    (None, 'letter')
+    """
     told, doctype, first = dict[str, str](), None, ""
     at = len(BOM) if data.startswith(BOM) else 0
     while (item := FRONT.match(data, at)) is not None:
@@ -88,7 +108,16 @@ def names_in(data: bytes, folder: str) -> tuple[Named | None, str]:
 
 
 class Finder:
-    """Finds DTDs, each once: one in modules is made plain, and kept in memory. Several threads may ask at once."""
+    """Finds DTDs, each once: one in modules is made plain, and kept in memory. Several threads may ask at once.
+
+    >>> from pvtag.program import find
+    >>> Finder(find()).plain(Named("letter.dtd", "", "examples")).name
+    'examples/letter.dtd'
+    >>> Finder(find()).plain(Named("none.dtd", "", "examples"))
+    Traceback (most recent call last):
+        ...
+    pvtag.program.Trouble: examples/none.dtd: there is no such DTD
+    """
 
     def __init__(self, program: list[str]) -> None:
         self.program, self.lock = program, threading.Lock()

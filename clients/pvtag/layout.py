@@ -12,6 +12,9 @@ from collections.abc import Iterator
 from .document import CDATA, ELEMENT, MISC, TEXT
 from .places import Span, front_mark
 
+# What other tools may use; each has an example.
+__all__ = ("Layout", "Node")
+
 # An end tag, a start tag with its name and its `/`, anything else in pointed brackets, or a text.
 ITEM = re.compile(
     rb"""<(?:(/)[^>]*|([^\s/>!?]+)(?:[^>"']*(?:"[^"]*"|'[^']*'))*[^>"']*?(/)?"""
@@ -25,7 +28,14 @@ UNIT = re.compile(rb"&[^;]*;|[\x00-\x7f\xc0-\xff][\x80-\xbf]*")
 
 
 class Node:
-    """A node of a document; the document node is number 0. Two of one number are equal."""
+    """A node of a document; the document node is number 0. Two of one number are equal.
+
+    >>> node = Layout(b"<p>On <date>1 May</date></p>").node("0.1")
+    >>> node.name, node.path, node.source
+    ('date', '0.1', b'<date>1 May</date>')
+    >>> node.inside, node.owner.name, [kid.kind for kid in node.kids]
+    (Span(start=12, end=17), 'p', ['text'])
+    """
 
     __slots__ = ("layout", "number")
 
@@ -122,7 +132,14 @@ class Node:
 
 
 class Layout:
-    """The nodes of a document. The document is one that the program reads; else what is told is of no use."""
+    """The nodes of a document. The document is one that the program reads; else what is told is of no use.
+
+    >>> layout = Layout(b"<p>On <date>1 May</date></p>")
+    >>> [node.path for node in layout.elements()], [node.source for node in layout.texts()]
+    (['.', '0', '0.1'], [b'On ', b'1 May'])
+    >>> layout.at(14).path, layout.gap(4)[1:]
+    ('0.1.0', (0, 1))
+    """
 
     def __init__(self, data: bytes) -> None:
         self.data = data

@@ -8,6 +8,9 @@ from typing import NamedTuple
 
 from .program import Answer, Running, Stopped, Trouble, find_long, run
 
+# What other tools may use; each has an example.
+__all__ = ("Counted", "Inserted")
+
 # The most that a run may take, in seconds.
 MOST = 60.0
 # One run at a time.
@@ -15,7 +18,11 @@ TURN = threading.Lock()
 
 
 class Counted(NamedTuple):
-    """How many elements are missing: at least so many, and so many are enough. Mostly both are the same."""
+    """How many elements are missing: at least so many, and so many are enough. Mostly both are the same.
+
+    >>> print(Counted(2, 2).sentence, Counted(15, 17))
+    2 elements are missing 15 to 17
+    """
 
     least: int
     most: int
@@ -29,7 +36,11 @@ class Counted(NamedTuple):
 
 
 class Inserted(NamedTuple):
-    """A document with elements inserted that make it valid, and whether no fewer could."""
+    """A document with elements inserted that make it valid, and whether no fewer could.
+
+    >>> Inserted(b"<p/>", True).is_least
+    True
+    """
 
     document: bytes
     is_least: bool

@@ -28,6 +28,9 @@ from .entities import LITERAL, MOST_BYTES, MOST_DEPTH, Entity, Stop, character_o
 from .places import Place, Source, Span, Unit, front_mark
 from .references import ENTITY, PER_REFERENCE, Texts, fault_of_subset, references_in
 
+# What other tools may use; each has an example.
+__all__ = ("Masked", "mask")
+
 # The line that writes a document plain, with all that its entities bring.
 PLAIN = "xmllint --nonet --noent --loaddtd --dropdtd FILE"
 # A document type declaration with declarations in it, up to its `[`.
@@ -64,7 +67,14 @@ class Part(NamedTuple):
 
 
 class Masked:
-    """A document as the program reads it."""
+    """A document as the program reads it.
+
+    >>> masked = mask(b"<!DOCTYPE p [<!ENTITY me 'Anna'>]><p>&me;</p>", b"")
+    >>> masked.is_plain, masked.fault is None
+    (False, True)
+    >>> masked.restored(masked.data) == masked.source
+    True
+    """
 
     def __init__(self, source: bytes, data: bytes, parts: list[Part], stands: Mapping[bytes, bytes], subset: Span | None,
                  remarks: list[Remark], texts: "Mapping[bytes, Text]") -> None:
@@ -187,7 +197,11 @@ def moved(at: int, parts: list[Part], starts: list[int], is_masked: bool, ends: 
 
 def mask(data: bytes, dtd: bytes = b"") -> Masked:
     """The document as the program reads it; `dtd` is the DTD in force, whose entities it may refer to. What isn't of the
-    form of XML is left as it is: the program tells it."""
+    form of XML is left as it is: the program tells it.
+
+    >>> mask(b"<p>Anna</p>", b"").is_plain
+    True
+    """
     subset = subset_of(data)
     if subset is None and b"&" not in data:
         return Masked(data, data, [], {}, None, [], {})

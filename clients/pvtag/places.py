@@ -9,12 +9,19 @@ import re
 from collections.abc import Iterator
 from typing import NamedTuple
 
+# What other tools may use; each has an example.
+__all__ = ("Unit", "Place", "Span", "Source", "Item", "document_items")
+
 BOM = b"\xef\xbb\xbf"
 LINE_END = re.compile(rb"\r\n|\n|\r")
 
 
 class Unit(enum.Enum):
-    """What a column counts."""
+    r"""What a column counts.
+
+    >>> Source("", "\U0001f600a".encode()).position(4, Unit.UTF16)
+    (0, 2)
+    """
 
     BYTES = "utf-8"
     CHARS = "utf-32"
@@ -22,7 +29,11 @@ class Unit(enum.Enum):
 
 
 class Place(NamedTuple):
-    """A place for a person: line and column, both from 1, the column in characters."""
+    """A place for a person: line and column, both from 1, the column in characters.
+
+    >>> print(Place(2, 5))
+    2:5
+    """
 
     line: int
     column: int
@@ -32,7 +43,11 @@ class Place(NamedTuple):
 
 
 class Span(NamedTuple):
-    """From an offset up to, but not including, another."""
+    """From an offset up to, but not including, another.
+
+    >>> Span(0, 3).end
+    3
+    """
 
     start: int
     end: int
@@ -43,7 +58,14 @@ Remark = tuple[Span | None, str]
 
 
 class Source:
-    """A file's name and bytes. Of bytes that aren't UTF-8 each counts as a character."""
+    r"""A file's name and bytes. Of bytes that aren't UTF-8 each counts as a character.
+
+    >>> source = Source("letter.xml", b"<letter>\n<p>")
+    >>> print(source.place(9))
+    2:1
+    >>> source.offset(1, 0, Unit.CHARS), source.line(1)
+    (9, b'<p>')
+    """
 
     def __init__(self, name: str, data: bytes) -> None:
         self.name, self.data = name, data
@@ -97,7 +119,11 @@ def front(data: bytes, column: int, unit: Unit) -> int:
 
 class Item(NamedTuple):
     """An item of a document or a DTD: "declaration" (`<?xml ..?>`), "comment", "instruction"; in a document "doctype",
-    "cdata", "start", "empty", "end" and "text"; in a DTD, by `entities`, "element" and "skipped"."""
+    "cdata", "start", "empty", "end" and "text"; in a DTD, by `entities`, "element" and "skipped".
+
+    >>> next(document_items(b"<!-- a --><p/>"))
+    Item(kind='comment', start=0, end=10)
+    """
 
     kind: str
     start: int
@@ -121,7 +147,11 @@ def front_mark(data: bytes) -> int:
 
 
 def document_items(data: bytes) -> Iterator[Item]:
-    """The items of a document from its start, up to the first place where none stands."""
+    """The items of a document from its start, up to the first place where none stands.
+
+    >>> [item.kind for item in document_items(b"<p>a<lb/></p>")]
+    ['start', 'text', 'empty', 'end']
+    """
     at = front_mark(data)
     if found := DECLARATION.match(data, at):
         yield Item("declaration", at, found.end())

@@ -12,6 +12,9 @@ import threading
 from collections.abc import Callable, Iterator, Sequence
 from typing import Any, NamedTuple
 
+# What other tools may use; each has an example.
+__all__ = ("Trouble", "Answer", "find", "run", "read_file", "shown_name", "file_of")
+
 HERE = os.path.dirname(os.path.realpath(__file__))
 TOP = os.path.dirname(os.path.dirname(HERE))
 # The repository's script, where the program is once it is proved and built, and what is added to that until then: the
@@ -33,7 +36,13 @@ popen: "Callable[..., subprocess.Popen[bytes]]" = subprocess.Popen
 
 
 class Trouble(Exception):
-    """What a user has to be told, in a sentence."""
+    """What a user has to be told, in a sentence.
+
+    >>> read_file("none.xml")
+    Traceback (most recent call last):
+        ...
+    pvtag.program.Trouble: none.xml: No such file or directory
+    """
 
 
 class Stopped(Exception):
@@ -41,7 +50,12 @@ class Stopped(Exception):
 
 
 class Answer(NamedTuple):
-    """How a run ended: its status, and what it wrote; of a tool on the error output, too."""
+    """How a run ended: its status, and what it wrote; of a tool on the error output, too.
+
+    >>> answer = run(find(), "check", "examples/letter.dtd", "letter", "examples/letter-swapped.xml")
+    >>> answer.status, answer.line
+    (1, 'impossible 0')
+    """
 
     status: int
     output: bytes
@@ -56,7 +70,11 @@ class Answer(NamedTuple):
 def find(told: str | None = None, builds: bool = True) -> list[str]:
     """The words that begin the program: the file that is told; else `pvtag` beside the client or the link by which it
     was called, in the repository, or on the path. Where the repository has none yet, its script makes it here, unless the
-    caller can't wait for that."""
+    caller can't wait for that.
+
+    >>> run(find(), "valid", "examples/letter.dtd", "letter", "examples/letter.xml").line
+    'valid'
+    """
     if resource.getrlimit(resource.RLIMIT_AS)[0] != resource.RLIM_INFINITY:
         # As the repository's script does: threads then share what the C library would set aside for each.
         os.environ.setdefault("MALLOC_ARENA_MAX", "1")
@@ -165,8 +183,14 @@ RUNNING = Running()
 
 def run(program: list[str], *words: str, given: bytes = b"", files: Sequence[int] = (), most: float | None = None,
         runs: Running = RUNNING) -> Answer:
-    """Runs one command to its end, or for at most so many seconds: past them the status is -1. `given` is its input,
-    `files` are handed over open; it ends with these `runs`. A run that takes longer than these allow is a trouble."""
+    r"""Runs one command to its end, or for at most so many seconds: past them the status is -1. `given` is its input,
+    `files` are handed over open; it ends with these `runs`. A run that takes longer than these allow is a trouble.
+
+    >>> run(find(), "check", "examples/letter.dtd", "letter", "examples/letter-draft.xml").output
+    b'possible 1\n'
+    >>> run(find(), "session", "examples/letter.dtd", "letter", "examples/letter-draft.xml", given=b"need\n").line
+    'need 1'
+    """
     return ended(runs.begin([*program, *words], files), words, given, most, runs)
 
 
@@ -200,7 +224,11 @@ def took_too_long(words: Sequence[str], most: float | None) -> str:
 
 
 def read_file(path: str) -> bytes:
-    """A file's bytes, or a trouble that names it."""
+    """A file's bytes, or a trouble that names it.
+
+    >>> read_file("examples/markup.txt")[:11]
+    b'split 0.0 1'
+    """
     try:
         with open(path, "rb") as file:
             return file.read()
@@ -209,13 +237,22 @@ def read_file(path: str) -> bytes:
 
 
 def shown_name(path: str) -> str:
-    """A file's name as it may be printed, also where it isn't UTF-8, or has characters that would act on a terminal."""
+    r"""A file's name as it may be printed, also where it isn't UTF-8, or has characters that would act on a terminal.
+
+    >>> print(shown_name("red\x1b[31m.xml"))
+    red\u001b[31m.xml
+    """
     return CONTROL.sub(lambda found: f"\\u{ord(found[0]):04x}", os.fsencode(path).decode(errors="replace"))
 
 
 @contextlib.contextmanager
 def file_of(data: bytes, suffix: str = ".xml") -> Iterator[str]:
-    """A file with these bytes, for as long as it is wanted; its path."""
+    """A file with these bytes, for as long as it is wanted; its path.
+
+    >>> with file_of(b"<p>Anna</p>") as path:
+    ...     run(find(), "valid", "examples/letter.dtd", "p", path).line
+    'valid'
+    """
     number, path = tempfile.mkstemp(prefix="pvtag.", suffix=suffix)
     try:
         with os.fdopen(number, "wb") as file:

@@ -21,6 +21,9 @@ from .search import Asking, Found, search
 from .sentences import Pieces
 from .tries import Judge, Kid, Try, stub
 
+# What other tools may use; each has an example.
+__all__ = ("Reason", "RefusedEdit", "Reasons")
+
 # "root": the root can't stand in an element ROOT; "undeclared": a kid, the list's owner or ROOT has a name that the DTD
 # doesn't declare; "unproductive": one of which no element is ever valid; "empty": the owner is declared EMPTY; "text":
 # a text that has no place here; "kid": an element that has none; "together": kids of which each would have a place
@@ -45,7 +48,17 @@ class Reason(NamedTuple):
     """Why a list is impossible. `owner` is the name of its element, "" for the document node; `kids` the numbers of
     the kids that stand in each other's way, ascending, none where the owner itself can't be; `first` the first kid
     that no insertion makes room for, the last of those. `so` says what is so and `declared` what the DTD says, nothing
-    where nothing is sure; a number in them stands for where that kid is."""
+    where nothing is sure; a number in them stands for where that kid is.
+
+    >>> from pvtag.program import find
+    >>> reasons = Reasons(find(), Dtd(find(), "examples/letter.dtd"), "letter")
+    >>> data = open("examples/letter-swapped.xml", "rb").read()
+    >>> reason = reasons.of_document(data, ["0"])[0]
+    >>> reason.owner, reason.kids, reason.first
+    ('letter', (2, 4), 4)
+    >>> print(reason.sentences()[0])
+    `closer` stands before `body`; in `letter` they come in the other order.
+    """
 
     path: str
     owner: str
@@ -69,7 +82,15 @@ class Reason(NamedTuple):
 class RefusedEdit(NamedTuple):
     """Why an edit was refused: the reason, by the document as it would be behind the edit; and of that list the number
     of its element and those of its kids in the tree as it is, a cut text's for each of its parts, none of what is
-    new."""
+    new.
+
+    >>> from pvtag.program import find
+    >>> reasons = Reasons(find(), Dtd(find(), "examples/letter.dtd"), "letter")
+    >>> tree = Document(b"<letter><body>a</body></letter>")
+    >>> refused = reasons.of_edit(tree, ["rename 0.0 closing"], "0")
+    >>> refused.owner == tree.node_at("0").id, refused.ids
+    (True, [2])
+    """
 
     reason: Reason
     owner: int | None
@@ -83,7 +104,13 @@ def kids_of(nodes: Iterable[Listed]) -> list[Kid]:
 
 class Reasons:
     """Reasons under one DTD and ROOT. It keeps what it was answered, and no process; a DTD that has changed needs
-    another one. Its runs of the program end with `runs`."""
+    another one. Its runs of the program end with `runs`.
+
+    >>> from pvtag.program import find
+    >>> reasons = Reasons(find(), Dtd(find(), "examples/letter.dtd"), "letter")
+    >>> print(reasons.of_list("0.0", "opener", [Kid("element", "p")]).sentences()[0])
+    `opener` can't hold `p`, and no element between them could.
+    """
 
     def __init__(self, program: list[str], dtd: Dtd, root: str, runs: Running = RUNNING) -> None:
         self.program, self.dtd, self.root, self.runs = program, dtd, root, runs

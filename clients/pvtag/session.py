@@ -27,6 +27,9 @@ from typing import Literal, NamedTuple, NoReturn
 from . import program as programs
 from .tracking import Node, Tracked
 
+# What other tools may use; each has an example.
+__all__ = ("Session", "Made", "Refused", "Verdict", "Completed", "Ended")
+
 Path = str | os.PathLike[str]
 # Edits after which two texts may stand side by side, which the document that is shown doesn't tell from one.
 CUTTING = ("split", "unwrap", "addtext", "deltext")
@@ -34,7 +37,11 @@ CUTTING = ("split", "unwrap", "addtext", "deltext")
 
 class Made(NamedTuple):
     """A move that was made: so many lists changed; so many aren't valid by themselves now but can be mended, and so
-    many can't."""
+    many can't.
+
+    >>> session.wrap("0.0", 0, 1, "salute")
+    Made(lists=2, open=0, bad=0)
+    """
 
     lists: int
     open: int
@@ -43,7 +50,14 @@ class Made(NamedTuple):
 
 class Refused(NamedTuple):
     """A line that nothing came of, false in a condition. `why` is "shape", "impossible", "limit", "history", "command",
-    "memory", "wide" or "heavy"; `what` the reason of a shape, or the path of a list."""
+    "memory", "wide" or "heavy"; `what` the reason of a shape, or the path of a list.
+
+    >>> refused = session.wrap("0.0", 0, 1, "closer")
+    >>> refused
+    Refused(why='impossible', what='0.0')
+    >>> bool(refused)
+    False
+    """
 
     why: str
     what: str = ""
@@ -53,7 +67,11 @@ class Refused(NamedTuple):
 
 
 class Verdict(NamedTuple):
-    """A list, its verdict ("valid", "possible" or "impossible"), and the number of the move that changed it last."""
+    """A list, its verdict ("valid", "possible" or "impossible"), and the number of the move that changed it last.
+
+    >>> session.verdicts()[1]
+    Verdict(path='0', verdict='valid', stamp=0)
+    """
 
     path: str
     verdict: str
@@ -61,14 +79,25 @@ class Verdict(NamedTuple):
 
 
 class Completed(NamedTuple):
-    """A completed document, and how many elements are new in it."""
+    """A completed document, and how many elements are new in it.
+
+    >>> session.complete().new
+    1
+    """
 
     new: int
     document: bytes
 
 
 class Ended(Exception):
-    """The program has ended: its status, and its last line."""
+    """The program has ended: its status, and its last line.
+
+    >>> from pvtag.program import find
+    >>> Session(find(), "examples/letter.dtd", "letter", "examples/letter.txt").show()
+    Traceback (most recent call last):
+        ...
+    pvtag.session.Ended: the session has ended with status 7: document syntax 0
+    """
 
     def __init__(self, status: int | None, line: str) -> None:
         super().__init__(f"the session has ended with status {status}: {line or 'it wrote nothing'}")
@@ -76,6 +105,15 @@ class Ended(Exception):
 
 
 class Session:
+    """A session on a document; `wrap` and the other edits change it, and `show` prints it.
+
+    >>> from pvtag.program import find
+    >>> with Session(find(), "examples/letter.dtd", "letter", "examples/letter-draft.xml") as draft:
+    ...     draft.wrap("0.0", 0, 1, "salute")
+    ...     draft.need()
+    Made(lists=2, open=0, bad=0)
+    0
+    """
     def __init__(self, program: Sequence[str], dtd: Path, root: str, document: Path) -> None:
         """Begins; `program` is a list of words, as `program.find` gives it. A session of its own keeps the terminal's
         Ctrl-C from it. Raises `OSError` where the program can't be run, or a file isn't there, is a folder or may not be
@@ -100,47 +138,131 @@ class Session:
 
     # Edits.
     def wrap(self, path: str, start: int, end: int, name: str) -> Made | Refused:
+        """Puts a new element round the kids of a node from `start` up to `end`.
+
+        >>> session.wrap("0.0", 0, 1, "salute")
+        Made(lists=2, open=0, bad=0)
+        >>> session.wrap("0.0", 0, 1, "p")
+        Refused(why='impossible', what='0.0')
+        """
         return self.edit(named(line_of("wrap", path, start, end), name))
 
     def insert(self, path: str, at: int, name: str) -> Made | Refused:
+        """Puts a new element, which holds nothing, before a kid of a node, or after the last one.
+
+        >>> session.insert("0.0", 0, "dateline")
+        Made(lists=2, open=1, bad=0)
+        """
         return self.edit(named(line_of("insert", path, at), name))
 
     def unwrap(self, path: str) -> Made | Refused:
+        """Takes the tags of an element away.
+
+        >>> session.unwrap("0.2.0")
+        Made(lists=1, open=2, bad=0)
+        >>> session.show().splitlines()[1]
+        b'<body>I have met Mr Adams in Delft.</body></letter>'
+        """
         return self.edit(line_of("unwrap", path))
 
     def rename(self, path: str, name: str) -> Made | Refused:
+        """Gives an element another name.
+
+        >>> session.rename("0.2.0", "closer")
+        Refused(why='impossible', what='0.2')
+        >>> session.rename("0.2", "body")
+        Made(lists=2, open=1, bad=0)
+        """
         return self.edit(named(line_of("rename", path), name))
 
     def split(self, path: str, at: int) -> Made | Refused:
+        """Cuts a text in two, at a unit.
+
+        >>> session.split("0.2.0.0", 11)
+        Made(lists=1, open=1, bad=0)
+        >>> [text for _, text in session.texts()][-2:]
+        ['I have met ', 'Mr Adams in Delft.']
+        """
         return self.edit(line_of("split", path, at))
 
     def join(self, path: str) -> Made | Refused:
+        """Makes one text of a text and the next.
+
+        >>> session.split("0.2.0.0", 11) and session.join("0.2.0.0")
+        Made(lists=1, open=1, bad=0)
+        >>> session.texts()[-1]
+        ('0.2.0.0', 'I have met Mr Adams in Delft.')
+        """
         return self.edit(line_of("join", path))
 
     def text(self, path: str, text: str) -> Made | Refused:
+        """Gives a text other units, which are written as between tags.
+
+        >>> session.text("0.2.0.0", "I &amp; Mr Adams")
+        Made(lists=1, open=1, bad=0)
+        >>> session.texts()[-1]
+        ('0.2.0.0', 'I & Mr Adams')
+        """
         return self.edit(named(line_of("text", path), text))
 
     def addtext(self, path: str, at: int, text: str) -> Made | Refused:
+        """Puts a new text before a kid of a node, or after the last one.
+
+        >>> session.addtext("0.2.0", 1, " Soon more.")
+        Made(lists=1, open=1, bad=0)
+        """
         return self.edit(named(line_of("addtext", path, at), text))
 
     def deltext(self, path: str) -> Made | Refused:
+        """Takes a text away.
+
+        >>> session.deltext("0.2.0.0")
+        Made(lists=1, open=1, bad=0)
+        >>> session.show().splitlines()[1]
+        b'<body><p></p></body></letter>'
+        """
         return self.edit(line_of("deltext", path))
 
     def undo(self) -> Made | Refused:
+        """Undoes the last edit that isn't undone.
+
+        >>> session.undo()
+        Refused(why='history', what='')
+        >>> session.unwrap("0.2.0") and session.undo()
+        Made(lists=2, open=1, bad=0)
+        """
         return self.edit("undo")
 
     def redo(self) -> Made | Refused:
+        """Makes the edit again that was undone last.
+
+        >>> session.unwrap("0.2.0") and session.undo() and session.redo()
+        Made(lists=1, open=2, bad=0)
+        """
         return self.edit("redo")
 
     def wrap_text(self, path: str, start: int, end: int, name: str) -> Made | Refused:
         """Wraps these units of a text, which is cut for that. All is done, and is three moves of the history at most, or
         nothing: where the element is refused the cuts are undone, and what could be redone before is lost. What is raised
-        meanwhile ends the program."""
+        meanwhile ends the program.
+
+        >>> session.wrap_text("0.2.0.0", 11, 19, "person")
+        Made(lists=2, open=1, bad=0)
+        >>> session.show().splitlines()[1]
+        b'<body><p>I have met <person>Mr Adams</person> in Delft.</p></body></letter>'
+        """
         return self.wrap_run(path, start, path, end, name)
 
     def wrap_run(self, first: str, start: int, last: str, end: int, name: str) -> Made | Refused:
         """The same from a unit of one text up to a unit of another: of two kids of one element, with all between. A kid that
-        is no text is taken whole, from 0 up to 1."""
+        is no text is taken whole, from 0 up to 1.
+
+        >>> from pvtag.program import run
+        >>> session.split("0.0.0", 5)
+        Made(lists=1, open=1, bad=0)
+        >>> session.wrap_run("0.0.0", 0, "0.0.1", 8, "salute")
+        Made(lists=2, open=0, bad=0)
+        """
         for path, at in ((first, start), (last, end)):
             named(line_of("split", path, at), name)
         with self.whole():
@@ -175,7 +297,13 @@ class Session:
         return [*cuts, named(line_of("wrap", owner, at, int(two) + (start > 0) + 1), name)]
 
     def edit(self, line: str) -> Made | Refused:
-        """The same by a line of a script."""
+        """The same by a line of a script.
+
+        >>> session.edit("wrap 0.0 0 1 salute")
+        Made(lists=2, open=0, bad=0)
+        >>> session.edit("wrap 0.0")
+        Refused(why='command', what='')
+        """
         with self.lock:
             words = self.ask(line)
             if words[0] == "no":
@@ -217,14 +345,22 @@ class Session:
         return self.tracked or Refused("memory")
 
     def tree(self) -> list[Node] | Refused:
-        """The nodes of the document as it is now, in document order from the root on, each with its path."""
+        """The nodes of the document as it is now, in document order from the root on, each with its path.
+
+        >>> [(node.path, node.kind, node.name or node.text) for node in session.tree()][:3]
+        [('0', 'element', 'letter'), ('0.0', 'element', 'opener'), ('0.0.0', 'text', 'Dear brother,')]
+        """
         with self.whole():
             tracked = self.track()
             return tracked if isinstance(tracked, Refused) else tracked.nodes()
 
     def texts(self) -> list[tuple[str, str]] | Refused:
         """The texts in document order, each with its path and with one character for each of its units, as `wrap_text`
-        counts them."""
+        counts them.
+
+        >>> session.texts()[0]
+        ('0.0.0', 'Dear brother,')
+        """
         nodes = self.tree()
         if isinstance(nodes, Refused):
             return nodes
@@ -232,22 +368,39 @@ class Session:
 
     # What changes nothing.
     def history(self) -> list[str]:
-        """The edits that were made and aren't undone, as lines."""
+        """The edits that were made and aren't undone, as lines.
+
+        >>> session.wrap("0.0", 0, 1, "salute") and session.history()
+        ['wrap 0.0 0 1 salute']
+        """
         with self.whole():
             return [self.line() for _ in range(int(self.ask("history")[1]))]
 
     def show(self) -> bytes | Refused:
+        """The document's bytes.
+
+        >>> session.show()[:29]
+        b'<letter><opener>Dear brother,'
+        """
         with self.whole():
             words = self.ask("show")
             return refused(words) if words[0] == "no" else self.body(int(words[1]))
 
     def verdicts(self) -> list[Verdict] | Refused:
-        """All lists, in document order."""
+        """All lists, in document order.
+
+        >>> [(row.path, row.verdict) for row in session.verdicts()][:3]
+        [('.', 'valid'), ('0', 'valid'), ('0.0', 'possible')]
+        """
         rows = self.verdict_lines()
         return rows if isinstance(rows, Refused) else [verdict_of(row) for row in rows.splitlines()]
 
     def changed(self, after: int) -> list[Verdict] | Refused:
-        """The lists that moves behind number `after` have changed, moves being counted from 1."""
+        """The lists that moves behind number `after` have changed, moves being counted from 1.
+
+        >>> session.wrap("0.0", 0, 1, "salute") and session.changed(0)
+        [Verdict(path='0.0', verdict='valid', stamp=1), Verdict(path='0.0.0', verdict='valid', stamp=1)]
+        """
         with self.lock:
             rows, moves = self.verdict_lines(), self.moves
         if isinstance(rows, Refused):
@@ -256,17 +409,32 @@ class Session:
         return [verdict_of(row) for row in re.findall(rb"^.* (?:%s)$" % late, rows, re.M)] if late else []
 
     def need(self) -> int | Refused:
-        """The least number of missing elements."""
+        """The least number of missing elements.
+
+        >>> session.need()
+        1
+        """
         words = self.ask("need")
         return refused(words) if words[0] == "no" else int(words[1])
 
     def complete(self) -> Completed | Refused:
+        """A document with as few elements inserted as make it valid.
+
+        >>> session.complete().document[:46]
+        b'<letter><opener><salute>Dear brother,</salute>'
+        """
         with self.whole():
             words = self.ask("complete")
             return refused(words) if words[0] == "no" else Completed(int(words[1]), self.body(int(words[2])))
 
     def offer(self, path: str, start: int | None = None, end: int | None = None) -> list[str] | Refused:
-        """The names that this run of kids may be wrapped in; without a run, those that the element may have."""
+        """The names that this run of kids may be wrapped in; without a run, those that the element may have.
+
+        >>> session.offer("0.2.0", 0, 1)
+        ['place', 'date', 'person']
+        >>> session.offer("0.2")
+        ['body']
+        """
         if (start is None) != (end is None):
             raise TypeError("a run of kids has a start and an end")
         with self.whole():
@@ -333,7 +501,15 @@ class Session:
         raise Ended(self.close(), line)
 
     def close(self) -> int:
-        """Ends the program, which a closed input asks for, and gives its status."""
+        """Ends the program, which a closed input asks for, and gives its status.
+
+        >>> session.close()
+        0
+        >>> session.need()
+        Traceback (most recent call last):
+            ...
+        pvtag.session.Ended: the session has ended with status 0: it wrote nothing
+        """
         try:
             self.input.close()
         except BrokenPipeError:

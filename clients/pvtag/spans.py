@@ -11,6 +11,9 @@ from typing import Any, NamedTuple
 
 from .program import Trouble
 
+# What other tools may use; each has an example.
+__all__ = ("Range", "read_ranges", "Offsets")
+
 OFFSETS = ("characters", "utf-16", "bytes")
 FIELDS = ("start", "end", "label")
 LINE = re.compile(r"([0-9]+) ([0-9]+) ([0-9]+) (\S+)\Z")
@@ -20,7 +23,12 @@ MOST = (1 << 32) - 1
 
 class Range(NamedTuple):
     """A range: its place in the file, its offsets as they stand there, its name, and which of those with the same offsets
-    it is from outside."""
+    it is from outside.
+
+    >>> one = Range("found.tsv:1", 25, 33, "person", 0)
+    >>> print(one)
+    found.tsv:1: `person` from 25 to 33
+    """
 
     where: str
     start: int
@@ -37,8 +45,14 @@ class Range(NamedTuple):
 
 
 def read_ranges(data: bytes, file: str, fields: Sequence[str] = FIELDS) -> list[Range]:
-    """The ranges of a file, whose form is told by how it begins. Of several with the same offsets the first is outside,
-    but for lines that tell levels."""
+    r"""The ranges of a file, whose form is told by how it begins. Of several with the same offsets the first is outside,
+    but for lines that tell levels.
+
+    >>> [str(one) for one in read_ranges(b"25\t33\tperson\n37\t42\tplace\n", "found.tsv")]
+    ['found.tsv:1: `person` from 25 to 33', 'found.tsv:2: `place` from 37 to 42']
+    >>> read_ranges(b'[{"from": 3, "to": 5, "is": "date"}]', "found.json", ("from", "to", "is"))[0].words
+    '`date` from 3 to 5'
+    """
     try:
         text = data.decode("utf-8-sig")
     except UnicodeDecodeError as fault:
@@ -143,7 +157,14 @@ def number_of(where: str, field: str, value: Any) -> int:
 
 
 class Offsets:
-    """Offsets of a text as numbers of its characters, and back."""
+    r"""Offsets of a text as numbers of its characters, and back.
+
+    >>> offsets = Offsets("caf\u00e9s", "bytes")
+    >>> offsets.character(5), offsets.offset(4)
+    (4, 5)
+    >>> offsets.character(4) is None
+    True
+    """
 
     def __init__(self, text: str, kind: str) -> None:
         sizes = None if kind == "characters" else [2 if kind == "utf-16" and char > "\uffff" else 1 for char in text]
