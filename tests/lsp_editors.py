@@ -8,6 +8,7 @@ cases passed; ends with 1 where one failed.
 import glob
 import json
 import os
+import re
 import shutil
 import subprocess
 import sys
@@ -15,6 +16,8 @@ import tempfile
 
 sys.dont_write_bytecode = True
 
+import lsp  # noqa: E402
+import lsp_protocol  # noqa: E402
 from lib.lsp_client import EXAMPLES, SERVER, TOP, Fault, need, same  # noqa: E402
 
 STRICT = "/usr/share/xml/w3c-sgml-lib/schema/dtd/REC-xhtml1-20020801/xhtml1-strict.dtd"
@@ -207,34 +210,101 @@ NXML = {
     "indented": "<a>\n  <p>Some\n  <b>bold</b>\n  words</p>\n</a>",
     "associated": "letter.rnc",
     "formed": ['2 Missing end-tag "b"'],
+    "required": "<letter ",
+    "model": "",
+    "entity": [],
+    "dtd": [],
 }
+NO_OPENER = "Element opener content does not follow the DTD, expecting (dateline? , salute), got (CDATA)"
+CATALOG = """<catalog xmlns="urn:oasis:names:tc:entity:xmlns:xml:catalog">
+<rewriteSystem systemIdStartString="http://example.org/dtds/" rewritePrefix="file://{folder}/"/></catalog>"""
 SCHEMAS = """<locatingRules xmlns="http://thaiopensource.com/ns/locating-rules/1.0">
 <uri pattern="*.letter.xml" uri="letter.rnc"/></locatingRules>"""
 
 
-def nxml(seconds):
-    """The column of nXML in the table of docs/EDITORS.md."""
+# The same of Neovim's own files for XML, with xmllint.
+OWN = {
+    "draft": [f"2 {NO_OPENER}"],
+    "swapped": ["4 Element letter content does not follow the DTD, expecting (opener , body , closer?), got (opener closer body)"],
+    "half": [f"2 {NO_OPENER}", "3 Specification mandates value for attribute Mr", "3 attributes construct error",
+             "3 Couldn't find end of Start Tag met line 3"],
+    "formed": ["1 Validation failed: no DTD found !", "2 Opening and ending tag mismatch: b line 2 and a", "3 Premature end of data in tag a line 1"],
+    "entity": ["2 Entity 'e' failed to parse"],
+    "model": ["2 Validation failed: no DTD found !"],
+    "catalog": ["2 Element letter content does not follow the DTD, expecting (opener , body , closer?), got ",
+                "2 Element letter does not carry attribute id", "2 Element letter does not carry attribute kind"],
+    # Those that stand there already are offered again.
+    "names": ["opener", "body", "closer"],
+    "mixed": ["person", "place", "date", "lb"],
+    "attributes": ['id="', 'kind="'],
+    "values": ['private" ', 'business" '],
+    "ends": ["opener>"],
+    "required": "<letter",
+    "folds": [1, 2, 2, 1],
+    "other": [4, 2],
+    "pair": "<a><pq>x</p></a>",
+    "formatted": "<a>\n  <p>\n    Some\n    <b>bold</b>\n      words\n    </p>\n  </a>",
+    # No command but those that name data files, and nothing that looks up a word or a tag.
+    "commands": ["XMLent", "XMLns"],
+    "settings": ["", "", "", ""],
+    "maps": [],
+    "stalled": 1,
+}
+
+
+def peer(rows, what, version, words, more, seconds, made=lambda folder: None):
+    """A column of another editor in the table of docs/EDITORS.md: rows by the words that begin the editor, in a folder with the letter's DTD."""
     folder = tempfile.mkdtemp()
     try:
         with open(os.path.join(EXAMPLES, "letter.dtd"), encoding="utf-8") as dtd, open(f"{folder}/l.dtd", "w", encoding="utf-8") as out:
             out.write(dtd.read() + "<!ATTLIST letter id ID #REQUIRED kind (private|business) #REQUIRED>")
+        made(folder)
+        environment = os.environ | {"HOME": folder} | {name: value.format(folder=folder) for name, value in more.items()}
+        subprocess.run(words, env=environment, cwd=folder, stdin=subprocess.DEVNULL, capture_output=True, timeout=20 * seconds)
+        with open(f"{folder}/told", encoding="utf-8") as told:
+            found = json.load(told)
+        found_version = found.pop("version", "")
+        if not found_version.startswith(version):
+            print(f"skipped: the column of {what} (version {found_version}, not {version})")
+            return
+        for row, wanted in rows.items():
+            same(found.get(row, found), wanted, row)
+    finally:
+        shutil.rmtree(folder)
+
+
+def nxml(seconds):
+    def made(folder):
         with open(f"{folder}/schemas.xml", "w", encoding="utf-8") as out:
             out.write(SCHEMAS)
         shutil.copy(os.path.join(EXAMPLES, "letter-swapped.xml"), f"{folder}/swapped.xml")
         subprocess.run(["trang", "l.dtd", "letter.rnc"], cwd=folder, check=True, capture_output=True, timeout=20 * seconds)
-        words = ["emacs", "-Q", "--batch", "-l", os.path.join(TOP, "tests", "lib", "nxml.el")]
-        environment = os.environ | {"HOME": folder, "NXML_TOLD": f"{folder}/told"}
-        subprocess.run(words, env=environment, cwd=folder, stdin=subprocess.DEVNULL, capture_output=True, timeout=20 * seconds)
-        with open(f"{folder}/told", encoding="utf-8") as told:
-            found = json.load(told)
-        version = found.pop("version", "")
-        if not version.startswith("28."):
-            print(f"skipped: nXML's column (Emacs {version}, not 28)")
-            return
-        for row, wanted in NXML.items():
-            same(found.get(row, found), wanted, row)
-    finally:
-        shutil.rmtree(folder)
+
+    words = ["emacs", "-Q", "--batch", "-l", os.path.join(TOP, "tests", "lib", "nxml.el")]
+    peer(NXML, "nXML", "28.", words, {"NXML_TOLD": "{folder}/told"}, seconds, made)
+
+
+def own(seconds):
+    def made(folder):
+        with open(f"{folder}/catalog.xml", "w", encoding="utf-8") as out:
+            out.write(CATALOG.format(folder=folder))
+        os.mkfifo(f"{folder}/stalled.dtd")
+
+    words = ["nvim", "--clean", "--headless", "-n", "-S", os.path.join(TOP, "tests", "lib", "nvim_own.vim")]
+    more = {"OWN_TOLD": "{folder}/told", "OWN_FOLDER": "{folder}", "XML_CATALOG_FILES": "{folder}/catalog.xml"}
+    peer(OWN, "Neovim", "0.7.", words, more, seconds, made)
+
+
+def names_its_tests():
+    """Each row of the table names cases that are there."""
+    with open(os.path.join(TOP, "docs", "EDITORS.md"), encoding="utf-8") as page:
+        table = page.read().partition("| Feature |")[2].partition("\n\n")[0]
+    rows = [line.rstrip("| ").rpartition("|")[2] for line in table.splitlines()[2:]]
+    need(len(rows) > 20, table)
+    known = {is_wire: {case.__name__ for case in module.CASES} for is_wire, module in ((False, lsp), (True, lsp_protocol))}
+    for row in rows:
+        named = re.findall(r"`(\w+)`", row)
+        need(named and known["*" in row].issuperset(named), f"no such test: {row}")
 
 
 def has_eglot():
@@ -248,24 +318,27 @@ def has_eglot():
 def main():
     program, seconds = os.path.abspath(sys.argv[1]), int(sys.argv[2]) if len(sys.argv) > 2 else 30
     passed = failed = 0
-    for editor, is_there in ((neovim, shutil.which("nvim")), (emacs, shutil.which("emacs") and has_eglot())):
+    has_nvim, has_emacs = bool(shutil.which("nvim")), bool(shutil.which("emacs"))
+    alone = (
+        ("the table's tests", True, names_its_tests),
+        ("neovim, its servers", has_nvim, lambda: one_server_a_folder(program, seconds)),
+        ("Neovim with xmllint", has_nvim and shutil.which("xmllint"), lambda: own(seconds)),
+        ("nXML", has_emacs and shutil.which("trang"), lambda: nxml(seconds)),
+    )
+    for what, is_there, act in () if sys.argv[3:] else alone:
+        if not is_there:
+            print(f"skipped: {what} (it isn't installed)")
+            continue
+        try:
+            act()
+            passed += 1
+        except Exception as fault:
+            failed += 1
+            print(f"differs: {what}: {type(fault).__name__}: {fault}", flush=True)
+    for editor, is_there in ((neovim, has_nvim), (emacs, has_emacs and has_eglot())):
         if not is_there:
             print(f"skipped: the language server in {editor.__name__} (it isn't installed)")
             continue
-        if editor is neovim and not sys.argv[3:]:
-            try:
-                one_server_a_folder(program, seconds)
-                passed += 1
-            except Exception as fault:
-                failed += 1
-                print(f"differs: neovim, its servers: {type(fault).__name__}: {fault}", flush=True)
-        if editor is emacs and not sys.argv[3:] and shutil.which("trang"):
-            try:
-                nxml(seconds)
-                passed += 1
-            except Exception as fault:
-                failed += 1
-                print(f"differs: nXML: {type(fault).__name__}: {fault}", flush=True)
         for case in CASES:
             if sys.argv[3:] and f"{editor.__name__}-{case.name}" not in sys.argv[3:]:
                 continue

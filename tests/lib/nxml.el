@@ -58,6 +58,12 @@
      (cons 'associated (file-name-nondirectory (or (progn (open "<letter/>") (setq buffer-file-name (expand-file-name "my.letter.xml"))
                                                           (let ((rng-schema-locating-files '("schemas.xml"))) (rng-locate-schema-file))) "")))
      (cons 'formed (open "<a>\n<b></a>"))
+     (cons 'required (progn (open "<let|" "letter.rnc")
+                            (after (lambda () (let ((completion-at-point-functions '(rng-completion-at-point))) (completion-at-point))))))
+     (cons 'model (or (progn (open "<?xml-model href=\"letter.rnc\"?>\n<letter/>") (setq buffer-file-name (expand-file-name "other.xml"))
+                             (let ((rng-schema-locating-files '("schemas.xml"))) (rng-locate-schema-file))) ""))
+     (cons 'entity (open "<!DOCTYPE a [<!ENTITY e \"]]>\">]>\n<a>&e;</a>"))
+     (cons 'dtd (open "<!DOCTYPE a SYSTEM \"nothing.dtd\">\n<a><b/></a>"))
      (cons 'version emacs-version))))
 
 (let ((told (condition-case fault (rows) (error (list (cons 'fault (format "%S" fault)))))))
