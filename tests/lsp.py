@@ -18,6 +18,7 @@ from lib.lsp_client import CAPABILITIES, DRAFT, EXAMPLES, LETTER, TOP, URI, Clie
 from lib.lsp_client import at, codes, edited, edits_of, finished, need, run_cases, same, uri_of  # noqa: E402
 from lib.waiting import until  # noqa: E402
 from pvtag.attributes import python_with_lxml  # noqa: E402
+from pvtag.session import Session  # noqa: E402
 
 
 # Diagnostics.
@@ -613,6 +614,22 @@ def tells_what_is_no_xml(program):
         same([each for each in client.aside if each.get("method") == "window/showMessage"], [], "no message")
 
 
+def reads_rows_as_they_come(program):
+    """The lists that aren't valid are those of the verdicts, however many rows come."""
+    with tempfile.NamedTemporaryFile("w", suffix=".xml") as file:
+        file.write(f"<letter><opener/><body>{'<p/><p><zz/></p><p><body/></p><p>One</p>' * 1500}</body></letter>")
+        file.flush()
+        with Session([program], os.path.join(EXAMPLES, "letter.dtd"), "letter", file.name) as session:
+            rows = [row for row in session.verdicts() if row.verdict != "valid"]
+            bad, others = ([row.path for row in rows if (row.verdict == "impossible") == is_bad] for is_bad in (True, False))
+            found = session.unsettled(50, 500)
+            same((found.count, found.bad), (len(rows), len(bad)), "how many")
+            same((found.first_bad, found.first), (bad[:50], others[:500]), "the first")
+            need(len(bad) > 1000, "many are impossible")
+            same(session.unsettled(10**6, 10**6), (len(rows), len(bad), bad, others), "all")
+            same(session.need().why, "impossible", "what comes after it")
+
+
 # What random documents are made of, beside elements.
 BESIDE = ["text ", "<!-- <a> </a> -->", "<![CDATA[<a>]]>", "<?p <b?>", "\u00e9"]
 TAGGED = ["<{0}>{1}</{0}>", "<{0} x='1'>{1}</{0} >", '<{0} y="a>b" >{1}</{0}>']
@@ -732,6 +749,7 @@ CASES = [
     defines,
     refers,
     tells_what_is_no_xml,
+    reads_rows_as_they_come,
     finds_tags,
     renames,
     counts_positions,

@@ -1,6 +1,5 @@
 """Diagnostics: what is wrong with a text, and what is missing in it, judged anew once typing has paused."""
 import contextlib
-import re
 import threading
 import time
 from collections.abc import Callable
@@ -26,7 +25,6 @@ from work import Cancelled, Work
 PAUSE, FIRST = 0.04, 0.12
 # At most so many lists are told of, and so many that nothing can mend.
 MOST, MOST_BAD = 500, 50
-ROW = re.compile(rb"^(\S+) (possible|impossible) ", re.M)
 ERROR, INFORMATION, HINT = 1, 3, 4
 
 
@@ -152,19 +150,17 @@ class Judging:
 
     def listed(self, session: Session, grammar: Grammar) -> None:
         """The text is a document: what is to be told of its lists."""
-        rows = session.verdict_lines()
-        if isinstance(rows, Refused):
-            raise Trouble(f"the verdicts can't be read: {rows.why}")
-        found = [(path.decode(), verdict == b"impossible") for path, verdict in ROW.findall(rows)]
-        self.document.judged = judged = Judged(len(found), sum(is_bad for _, is_bad in found))
-        tree = self.document.accept()
-        if not found:
+        found = session.unsettled(MOST_BAD, MOST)
+        if isinstance(found, Refused):
+            raise Trouble(f"the verdicts can't be read: {found.why}")
+        self.document.judged = judged = Judged(found.count, found.bad)
+        tree, bad = self.document.accept(), found.first_bad
+        if not found.count:
             return self.publish([])
-        bad = [path for path, is_bad in found if is_bad][:MOST_BAD]
         lists = [(path, tree.node(path)) for path in bad]
-        self.rows = [*[(path, True) for path in bad], *[row for row in found if not row[1]][:MOST]]
+        self.rows = [*[(path, True) for path in bad], *[(path, False) for path in found.first]]
         left = self.watch.since + FIRST - time.monotonic()
-        timer = threading.Timer(max(0.0, left), lambda: self.tell(tree, grammar, len(found), None, is_last=False))
+        timer = threading.Timer(max(0.0, left), lambda: self.tell(tree, grammar, found.count, None, is_last=False))
         timer.start()
         try:
             wanted = [(path, node.label, kids_of(node, tree.data)) for path, node in lists if isinstance(node, Element)]
@@ -174,7 +170,7 @@ class Judging:
         finally:
             timer.cancel()
         judged.missing = missing if isinstance(missing, Counted) else None
-        self.tell(tree, grammar, len(found), missing)
+        self.tell(tree, grammar, found.count, missing)
         return None
 
     def missing(self, session: Session, grammar: Grammar) -> Counted | Refused:

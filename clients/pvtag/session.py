@@ -16,6 +16,7 @@ was asked. Threads may share a session: a call waits until that of another threa
 """
 import contextlib
 import errno
+import io
 import os
 import re
 import stat
@@ -78,6 +79,32 @@ class Verdict(NamedTuple):
     stamp: int
 
 
+# A row of a list that isn't valid.
+UNSETTLED = re.compile(rb"^(\S+) ((?:im)?)possible ", re.M)
+
+
+class Unsettled(NamedTuple):
+    """How many lists aren't valid, and how many of these can't be mended; the paths of the first that can't, and of the
+    first that can."""
+
+    count: int
+    bad: int
+    first_bad: list[str]
+    first: list[str]
+
+    def more(self, rows: bytes, most_bad: int, most: int) -> "Unsettled":
+        """The same with these rows of further lists; so many paths are kept at most."""
+        if b"possible " not in rows:
+            return self
+        found = UNSETTLED.findall(rows)
+        bad = sum(bool(word) for _, word in found)
+        if len(self.first_bad) < most_bad and bad:
+            self.first_bad.extend([path.decode() for path, word in found if word][: most_bad - len(self.first_bad)])
+        if len(self.first) < most and bad < len(found):
+            self.first.extend([path.decode() for path, word in found if not word][: most - len(self.first)])
+        return Unsettled(self.count + len(found), self.bad + bad, self.first_bad, self.first)
+
+
 class Completed(NamedTuple):
     """A completed document, and how many elements are new in it.
 
@@ -128,7 +155,7 @@ class Session:
             can_be_read(path)
         with programs.handed_over(words) as (given, open_):
             self.process = programs.popen(given, stdin=subprocess.PIPE, stdout=subprocess.PIPE, pass_fds=open_, start_new_session=True)
-        assert self.process.stdin is not None and self.process.stdout is not None
+        assert self.process.stdin is not None and isinstance(self.process.stdout, io.BufferedReader)
         self.input, self.output = self.process.stdin, self.process.stdout
         self.lock, self.moves = threading.RLock(), 0
         # The edits that are made and those that are undone, as lines, and the tree beside the session, once it is wanted.
@@ -479,6 +506,18 @@ class Session:
             self.ended(line.decode(errors="replace"))
         return line[:-1].decode()
 
+    def lines(self, count: int) -> Iterator[bytes]:
+        """So many lines, in pieces that may end anywhere but at the end."""
+        while count > 0:
+            piece = self.output.peek()
+            if not piece:
+                self.ended("")
+            ends = piece.count(b"\n")
+            if ends > count:
+                piece, ends = b"".join(piece.splitlines(keepends=True)[:count]), count
+            count -= ends
+            yield self.output.read(len(piece))
+
     def body(self, size: int) -> bytes:
         """So many bytes, and the LF behind them."""
         text = self.output.read(size + 1)
@@ -490,12 +529,19 @@ class Session:
         """The rows of all lists, as they come."""
         with self.whole():
             words = self.ask("verdicts")
+            return refused(words) if words[0] == "no" else b"".join(self.lines(int(words[1])))
+
+    def unsettled(self, most_bad: int, most: int) -> Unsettled | Refused:
+        """The lists that aren't valid. The rows of all lists are looked through as they come, and not kept."""
+        with self.whole():
+            words = self.ask("verdicts")
             if words[0] == "no":
                 return refused(words)
-            rows = [self.output.readline() for _ in range(int(words[1]))]
-        if rows and not rows[-1].endswith(b"\n"):
-            self.ended("")
-        return b"".join(rows)
+            found, rest = Unsettled(0, 0, [], []), b""
+            for piece in self.lines(int(words[1])):
+                rows, _, rest = (rest + piece).rpartition(b"\n")
+                found = found.more(rows, most_bad, most)
+            return found
 
     def ended(self, line: str) -> NoReturn:
         raise Ended(self.close(), line)
