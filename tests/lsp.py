@@ -623,7 +623,7 @@ def reads_rows_as_they_come(program):
             rows = [row for row in session.verdicts() if row.verdict != "valid"]
             bad, others = ([row.path for row in rows if (row.verdict == "impossible") == is_bad] for is_bad in (True, False))
             found = session.unsettled(50, 500)
-            same((found.count, found.bad), (len(rows), len(bad)), "how many")
+            same((found.lists, found.bad), (len(rows), len(bad)), "how many")
             same((found.first_bad, found.first), (bad[:50], others[:500]), "the first")
             need(len(bad) > 1000, "many are impossible")
             same(session.unsettled(10**6, 10**6), (len(rows), len(bad), bad, others), "all")

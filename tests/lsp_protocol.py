@@ -11,8 +11,12 @@ import re
 import shutil
 import sys
 import tempfile
+import time
+import types
+from concurrent.futures import Future
 
 sys.dont_write_bytecode = True
+sys.path.insert(0, os.path.join(os.path.dirname(os.path.dirname(os.path.abspath(__file__))), "clients"))
 
 from lib.lsp_client import (  # noqa: E402
     CAPABILITIES,
@@ -55,6 +59,8 @@ def finds_dtds(program):
             file.write("<!ELEMENT a (b)>")
         with open(os.path.join(folder, "all.dtd"), "w", encoding="utf-8") as file:
             file.write(ALL)
+        with open(os.path.join(folder, "alike.dtd"), "w", encoding="utf-8") as file:
+            file.write(f"<!-- {ALL.splitlines()[0]} <![IGNORE[ -->\n<!ELEMENT a (b)><!ELEMENT b EMPTY>")
         body = "<letter><opener/></letter>"
         for text, options in (
             ("<!DOCTYPE letter SYSTEM 'my%20letter.dtd'>" + body, None),
@@ -71,6 +77,8 @@ def finds_dtds(program):
             ("<!DOCTYPE letter SYSTEM 'my letter.dtd'>" + body, {"associations": [{"pattern": "*", "dtd": "none.dtd"}]}),
             ("<letter/>", {"associations": [{"pattern": "**/d.xml", "dtd": "my letter.dtd", "root": "letter"}, 5]}),
             *([("<!DOCTYPE a SYSTEM 'all.dtd'><a/>", None)] if has_lxml() else []),
+            # It has no modules.
+            ("<!DOCTYPE a SYSTEM 'alike.dtd'><a/>", None),
         ):
             with Client(program, options=options) as client:
                 uri = uri_of("d.xml", folder)
@@ -215,6 +223,18 @@ def waits_for_no_other_document(program):
             client.tell("$/cancelRequest", {"id": number})
         same({client.answer(number)["error"]["code"] for number in numbers}, {-32800}, "what waits is cancelled")
         same(len(pids_of(script)), 1, "runs for one DTD")
+
+
+def waits_once_for_attributes(_):
+    """Where libxml2 doesn't tell what a DTD declares of attributes, all names of a completion together wait a second."""
+    sys.path.insert(0, os.path.join(TOP, "clients", "lsp"))
+    from grammar import NOTHING, SOON, Grammar
+
+    declared = types.SimpleNamespace(program=[], plain=types.SimpleNamespace(path=""), dtd=None, asking=None, read_attributes=Future)
+    declared.attributes = types.SimpleNamespace(declares_any=True)
+    grammar, begun = Grammar(declared, "a"), time.monotonic()
+    same([grammar.new_element(f"n{number}") for number in range(300)], [NOTHING] * 300, "nothing is known")
+    need(time.monotonic() < begun + 10 * SOON, "each name has waited")
 
 
 def ends_all_runs(program):
@@ -560,6 +580,7 @@ CASES = [
     tells_once_what_is_not_found,
     finds_dtds_by_catalogs,
     waits_for_no_other_document,
+    waits_once_for_attributes,
     ends_all_runs,
     keeps_no_names_of_roots,
     keeps_to_its_life,

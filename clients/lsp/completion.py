@@ -93,6 +93,9 @@ def renames(work: Work, grammar: Grammar, element: Element, data: bytes) -> list
 def opening(asked: Asked, work: Work, start: int, offset: int) -> list[Json]:
     """The names of elements that may be inserted here, and of those that may begin here and take in what follows."""
     document, grammar = asked.document, asked.grammar
+    if grammar.attributes.declares_any:
+        # It is wanted at the end.
+        grammar.declared.read_attributes()
     rest, end = without(document, start, offset)
     tree = document.tree_of(rest)
     owner = tree.around(start)

@@ -35,14 +35,14 @@ class Watch:
         self.writer, self.finder, self.client, self.say = writer, finder, client, say
         self.changed = threading.Condition()
         self.newest: Document | None = None
-        self.since, self.is_over, self.work = 0.0, False, Work()
+        self.since, self.pause, self.is_over, self.work = 0.0, 0.0, False, Work()
         threading.Thread(target=self.run, daemon=True).start()
 
-    def look(self, document: Document) -> None:
-        """A newer text."""
+    def look(self, document: Document, is_typed: bool = False) -> None:
+        """A newer text. Where somebody is typing, a pause is waited for."""
         with self.changed:
             self.settle()
-            self.newest, self.since = document, time.monotonic()
+            self.newest, self.since, self.pause = document, time.monotonic(), PAUSE if is_typed else 0.0
             self.work.cancel()
             self.changed.notify()
 
@@ -61,7 +61,7 @@ class Watch:
         """The newest text, once it has stood for a while; none at the end."""
         with self.changed:
             while not self.is_over:
-                left = self.since + PAUSE - time.monotonic()
+                left = self.since + self.pause - time.monotonic()
                 if self.newest is not None and left <= 0:
                     document, self.newest, self.work = self.newest, None, Work()
                     return document, self.work
@@ -109,11 +109,14 @@ class Judging:
         self.named = set[tuple[int, int]]()
 
     def judge(self) -> None:
-        grammar = self.watch.finder.grammar(self.document.uri, self.document.data, self.work.wait_for)
-        if not grammar.root:
+        about, wait = (self.document.uri, self.document.data), self.work.wait_for
+        plain, root = self.watch.finder.plain(*about, wait)
+        if not root:
             return self.publish([])
         try:
-            with self.work.session(grammar, grammar.root, self.document.data) as session:
+            # What the DTD declares is asked beside the session.
+            with self.work.session(plain, root, self.document.data) as session:
+                grammar = self.watch.finder.grammar(*about, wait)
                 self.listed(session, grammar)
             self.attributes(grammar)
         except Ended as ended:
@@ -153,14 +156,15 @@ class Judging:
         found = session.unsettled(MOST_BAD, MOST)
         if isinstance(found, Refused):
             raise Trouble(f"the verdicts can't be read: {found.why}")
-        self.document.judged = judged = Judged(found.count, found.bad)
+        count = found.lists
+        self.document.judged = judged = Judged(count, found.bad)
         tree, bad = self.document.accept(), found.first_bad
-        if not found.count:
+        if not count:
             return self.publish([])
         lists = [(path, tree.node(path)) for path in bad]
         self.rows = [*[(path, True) for path in bad], *[(path, False) for path in found.first]]
         left = self.watch.since + FIRST - time.monotonic()
-        timer = threading.Timer(max(0.0, left), lambda: self.tell(tree, grammar, found.count, None, is_last=False))
+        timer = threading.Timer(max(0.0, left), lambda: self.tell(tree, grammar, count, None, is_last=False))
         timer.start()
         try:
             wanted = [(path, node.label, kids_of(node, tree.data)) for path, node in lists if isinstance(node, Element)]
@@ -170,7 +174,7 @@ class Judging:
         finally:
             timer.cancel()
         judged.missing = missing if isinstance(missing, Counted) else None
-        self.tell(tree, grammar, found.count, missing)
+        self.tell(tree, grammar, count, missing)
         return None
 
     def missing(self, session: Session, grammar: Grammar) -> Counted | Refused:

@@ -4,8 +4,8 @@ import fnmatch
 import os
 import re
 import subprocess
-import sys
 import threading
+import time
 import urllib.parse
 import weakref
 from collections.abc import Callable, Mapping, Sequence
@@ -18,7 +18,7 @@ from xml.sax.saxutils import quoteattr
 import memory
 from nodes import LITERAL, NAME
 from pvtag import program as programs
-from pvtag.attributes import Attributes
+from pvtag.attributes import Attributes, pythons
 from pvtag.costs import Known
 from pvtag.dtd import Dtd
 from pvtag.faults import Refusal, fault_of
@@ -43,6 +43,8 @@ DOCTYPE = re.compile(
 INSTRUCTION = re.compile(rb"<\?pvtag\s+(.*?)\s*\?>\Z", re.S)
 MODEL = re.compile(rb"<\?xml-model\s+(.*?)\s*\?>\Z", re.S)
 PART = re.compile(rb"(dtd|root|href|type)\s*=\s*(" + LITERAL + rb")")
+# What looks like a DTD in modules.
+MODULAR = re.compile(rb"<!ENTITY\s+%\s+\S+\s+(?:SYSTEM|PUBLIC)\s|<!\[")
 # What the program doesn't read of XML, and `tools/flatten` does.
 MODULES = re.compile(r"dtd param (conditional|external)|dtd parameter \d")
 
@@ -78,8 +80,9 @@ class Named:
 
 
 class Plain(NamedTuple):
-    """The path of a plain DTD. One in memory is there for as long as this is held."""
+    """The program, and the path of a plain DTD for it. One in memory is there for as long as this is held."""
 
+    program: list[str]
     path: str
     held: memory.MemoryFile | None = None
 
@@ -91,11 +94,11 @@ class NoDtd(Trouble):
 class Declared:
     """A DTD that the program reads, whatever the root. Reasons under it are kept."""
 
-    def __init__(self, program: list[str], plain: Plain, answer: Answer) -> None:
-        self.program, self.plain = program, plain
+    def __init__(self, plain: Plain, answer: Answer) -> None:
+        self.program, self.plain = plain.program, plain
         # The file in which it is written, where that is known.
         self.file: str | None = None if plain.held is not None else plain.path
-        self.dtd = Dtd(program, plain.path)
+        self.dtd = Dtd(plain.program, plain.path)
         self.dtd.types = self.dtd.types_of(answer)
         # What the DTD declares of attributes. What is asked for it ends with this.
         self.attributes = Attributes(self.dtd.data)
@@ -146,13 +149,18 @@ class Grammar:
         self.declared, self.root = declared, root
         self.program, self.dtd, self.path = declared.program, declared.dtd, declared.plain.path
         self.attributes, self.asking = declared.attributes, declared.asking
+        # The time by which it has to be known what the DTD declares of attributes, once that is asked.
+        self.until: float | None = None
 
     def new_element(self, name: str) -> "NewElement":
-        """What a new element of this name is given, as far as it is known soon what the DTD declares of attributes."""
+        """What a new element of this name is given, as far as it is known soon what the DTD declares of attributes: all names
+        together wait so long."""
         if not self.attributes.declares_any:
             return NOTHING
+        now = time.monotonic()
+        self.until = now + SOON if self.until is None else self.until
         try:
-            attributes = self.declared.read_attributes().result(SOON)
+            attributes = self.declared.read_attributes().result(max(0.0, self.until - now))
         except FutureTimeout:
             return NOTHING
         return NewElement(text_of(given_to(attributes, name)), lacking_of(attributes, name))
@@ -213,6 +221,19 @@ def folder_of(uri: str) -> str:
     return os.path.dirname(urllib.parse.unquote(parts.path)) if parts.scheme == "file" else os.getcwd()
 
 
+class Making:
+    """A DTD that is being read: where it is plain, which is known first, and what the program says of it."""
+
+    def __init__(self) -> None:
+        self.plain: Future[Plain] = Future()
+        self.declared: Future[Declared] = Future()
+
+    def fail(self, fault: Trouble) -> None:
+        if not self.plain.done():
+            self.plain.set_exception(fault)
+        self.declared.set_exception(fault)
+
+
 class Finder:
     """Finds grammars. Each DTD is read once, in a thread of its own, and made plain there where it is in modules; it is
     kept in memory until its file changes or `forget` is called. The lock is held for look-ups alone."""
@@ -223,42 +244,49 @@ class Finder:
         told = options.get("associations")
         self.associations = [each for each in told if isinstance(each, dict)] if isinstance(told, list) else []
         self.lock = threading.Lock()
-        self.declared: dict[FileKey, Future[Declared]] = {}
+        self.made: dict[FileKey, Making] = {}
 
     def forget(self) -> None:
         """Looks at all files anew. What is in memory stays there for those that use it, and no longer."""
         with self.lock:
-            self.declared.clear()
+            self.made.clear()
 
-    def grammar(self, uri: str, data: bytes, wait: Callable[[Future[Declared]], object]) -> Grammar:
-        """The grammar of a document, or a trouble that says what can't be found. `wait` waits for a DTD that is read."""
+    def making(self, uri: str, data: bytes) -> tuple[Making, str]:
+        """The DTD of a document, which is read once, and the root."""
         named, root = self.named(uri, *front(data))
         key = key_of_file(named)
         with self.lock:
-            future = self.declared.get(key)
-            if future is None:
+            making = self.made.get(key)
+            if making is None:
                 # Of a file that has changed nothing is kept.
-                self.declared = {each: it for each, it in self.declared.items() if each[0] != key[0]}
-                future = self.declared[key] = Future()
-                threading.Thread(target=self.make, args=(future, named), daemon=True).start()
-        wait(future)
-        fault = future.exception()
-        if fault is not None:
-            raise fault.with_traceback(None)
-        return Grammar(future.result(), root)
+                self.made = {each: it for each, it in self.made.items() if each[0] != key[0]}
+                making = self.made[key] = Making()
+                threading.Thread(target=self.make, args=(making, named), daemon=True).start()
+        return making, root
 
-    def make(self, future: Future[Declared], named: Named) -> None:
+    def plain(self, uri: str, data: bytes, wait: Callable[[Future[Any]], object]) -> tuple[Plain, str]:
+        """Where the DTD of a document is plain, and the root, before it is known what it declares. `wait` waits for a DTD that
+        is read."""
+        making, root = self.making(uri, data)
+        return waited(making.plain, wait), root
+
+    def grammar(self, uri: str, data: bytes, wait: Callable[[Future[Any]], object]) -> Grammar:
+        """The grammar of a document, or a trouble that says what can't be found."""
+        making, root = self.making(uri, data)
+        return Grammar(waited(making.declared, wait), root)
+
+    def make(self, making: Making, named: Named) -> None:
         """Reads a DTD."""
         try:
             file = named.file
             is_there = file is not None and os.path.isfile(file)
-            made = self.read(file) if file is not None and is_there else self.by_catalog(named)
+            made = self.read(making, file) if file is not None and is_there else self.by_catalog(making, named)
             made.file = file if is_there else made.file
-            future.set_result(made)
+            making.declared.set_result(made)
         except Trouble as trouble:
-            future.set_exception(trouble)
+            making.fail(trouble)
         except Exception as fault:
-            future.set_exception(Trouble(f"{named.system}: {type(fault).__name__}: {fault}"))
+            making.fail(Trouble(f"{named.system}: {type(fault).__name__}: {fault}"))
 
     def named(self, uri: str, items: list[bytes], first: str) -> tuple[Named, str]:
         """What the settings tell, then an instruction `<?pvtag dtd="letter.dtd" root="letter"?>`, then the document
@@ -312,18 +340,22 @@ class Finder:
         is_there, is_beside = (each.file is not None and os.path.isfile(each.file) for each in (there, beside))
         return beside if is_beside and not is_there else there
 
-    def read(self, file: str) -> Declared:
-        """A DTD's file, made plain where it needs to be."""
+    def read(self, making: Making, file: str) -> Declared:
+        """A DTD's file, made plain where it needs to be. Where it looks like that, it is begun while the program is asked."""
+        try:
+            with open(file, "rb") as opened:
+                data = opened.read()
+        except OSError:
+            raise Trouble(f"{file}: it can't be read") from None
+        flattening = begun(lambda: flattened(file, file)) if MODULAR.search(data) else None
         answer = run(self.program, "dtd", file)
         if answer.status == 0:
-            return Declared(self.program, Plain(file), answer)
+            return self.declared(making, Plain(self.program, file), lambda: answer)
         if MODULES.match(answer.line):
-            return self.flattened(file, file)
-        with contextlib.suppress(OSError), open(file, "rb") as opened:
-            raise Refusal(fault_of(answer.status, answer.line, {"dtd": Source(file, opened.read())}))
-        raise Trouble(f"{file}: it can't be read")
+            return self.of_flat(making, flattening.result() if flattening is not None else flattened(file, file))
+        raise Refusal(fault_of(answer.status, answer.line, {"dtd": Source(file, data)}))
 
-    def by_catalog(self, named: Named) -> Declared:
+    def by_catalog(self, making: Making, named: Named) -> Declared:
         """A DTD that the catalogs of this machine know by its address or its public identifier."""
         if named.file is not None and not named.public:
             raise Trouble(f"{named.file}: there is no such DTD")
@@ -332,22 +364,56 @@ class Finder:
             f"PUBLIC {quoteattr(named.public)} {quoteattr(system)}" if named.public else f"SYSTEM {quoteattr(system)}"
         )
         with memory.file_of(f"<!ENTITY % all {identifier}>\n%all;\n".encode()) as path:
-            return self.flattened(path, named.system)
+            return self.of_flat(making, flattened(path, named.system))
 
-    def flattened(self, path: str, name: str) -> Declared:
-        """What `tools/flatten` makes of a DTD, in memory."""
-        said = ""
-        for python in dict.fromkeys((sys.executable, "/usr/bin/python3")):
-            try:
-                status, output, errors = ran([python, FLATTEN, path])
-            except OSError:
-                continue
-            if status == 0:
-                held = memory.MemoryFile(output)
-                return Declared(self.program, Plain(held.path, held), run(self.program, "dtd", held.path))
-            said = said if status == 2 and said else errors.decode(errors="replace")
-        lines = [line.removeprefix("flatten: ").replace(path, name) for line in said.splitlines()]
-        raise Trouble(f"{name}: the DTD can't be made plain: " + "; ".join(lines[:3]))
+    def of_flat(self, making: Making, data: bytes) -> Declared:
+        """A DTD that was made plain, in memory."""
+        held = memory.MemoryFile(data)
+        return self.declared(making, Plain(self.program, held.path, held), lambda: run(self.program, "dtd", held.path))
+
+    @staticmethod
+    def declared(making: Making, plain: Plain, ask: Callable[[], Answer]) -> Declared:
+        """What the program says of a plain DTD. Whoever wants to begin a session on it needn't wait for that."""
+        making.plain.set_result(plain)
+        return Declared(plain, ask())
+
+
+def waited(future: Future[Any], wait: Callable[[Future[Any]], object]) -> Any:
+    """What a DTD comes to, or a trouble of its own."""
+    wait(future)
+    fault = future.exception()
+    if fault is not None:
+        raise fault.with_traceback(None)
+    return future.result()
+
+
+def begun(act: Callable[[], bytes]) -> Future[bytes]:
+    """What this comes to, in a thread of its own."""
+    future: Future[bytes] = Future()
+
+    def run_it() -> None:
+        try:
+            future.set_result(act())
+        except Exception as fault:
+            future.set_exception(fault)
+
+    threading.Thread(target=run_it, daemon=True).start()
+    return future
+
+
+def flattened(path: str, name: str) -> bytes:
+    """What `tools/flatten` makes of a DTD."""
+    said = ""
+    for python in pythons():
+        try:
+            status, output, errors = ran([python, FLATTEN, path])
+        except OSError:
+            continue
+        if status == 0:
+            return output
+        said = said if status == 2 and said else errors.decode(errors="replace")
+    lines = [line.removeprefix("flatten: ").replace(path, name) for line in said.splitlines()]
+    raise Trouble(f"{name}: the DTD can't be made plain: " + "; ".join(lines[:3]))
 
 
 def is_matched(path: str, pattern: str) -> bool:

@@ -5,13 +5,14 @@ little. So names are asked of the list without the kids that stand in the way; a
 fewer lists are impossible after it, and the list itself isn't.
 """
 import re
+import time
 from collections.abc import Callable, Collection, Mapping, Sequence
 from typing import NamedTuple
 
 from grammar import Grammar
 from lists import Alone, kids_of, names
 from nodes import Element
-from order import Named, costs_of
+from order import Named, Times, costs_of, times_of
 from pvtag.session import Ended, Made, Refused, Session
 from pvtag.tries import Kid
 from work import Work
@@ -74,11 +75,11 @@ def wraps(
 ) -> list[list[Named]]:
     """The names that each of these runs of kids may be wrapped in, with what they cost, each name with its first run;
     those that are used most are looked at first. A wrap is an insertion, so none mends a list that is impossible."""
-    alone = Alone(owner, kids)
+    alone, begun = Alone(owner, kids), time.monotonic()
     try:
         with work.session(grammar, alone.root(grammar), alone.data) as session:
             if alone.path not in impossible(session):
-                return wraps_in(session, grammar, alone, runs, runs, uses)
+                return wraps_in(session, grammar, alone, runs, runs, uses, times_of(begun))
         gone = in_the_way(work, grammar, owner, kids)
         if gone is None:
             return [[] for _ in runs]
@@ -86,7 +87,7 @@ def wraps(
         alone = Alone(owner, left)
         with work.session(grammar, alone.root(grammar), alone.data) as session:
             parts = [(places[start], places[end]) for start, end in runs]
-            return wraps_in(session, grammar, alone, runs, parts, uses)
+            return wraps_in(session, grammar, alone, runs, parts, uses, times_of(begun))
     except Ended:
         return [[] for _ in runs]
 
@@ -98,6 +99,7 @@ def wraps_in(
     runs: Sequence[Part],
     parts: Sequence[Part],
     uses: Mapping[str, int],
+    times: Times,
 ) -> list[list[Named]]:
     """The same of runs that are these parts of the list alone. A run of nothing but kids that are in the way is no
     place."""
@@ -107,7 +109,7 @@ def wraps_in(
         names = [name for name in alone.wraps(session, first, last) if name not in known] if is_place else []
         names.sort(key=lambda name: -uses.get(name, 0))
         line = f"wrap {alone.path} {alone.places[first]} {alone.places[last]}"
-        found.append(costs_of(grammar, session, alone.data, alone.path, line, names))
+        found.append(costs_of(grammar, session, alone.data, alone.path, line, names, times))
         known |= {*names}
     return found
 

@@ -14,8 +14,9 @@ from pvtag.costs import Known, Task
 from pvtag.session import Session
 from work import Work
 
-# So long, in seconds, costs are counted before an answer, of all runs together; the first part is for a look at all.
-LOOK, COUNT = 0.1, 0.1
+# So long after a request, in seconds, names are looked at, and costs are counted; on a slow machine they are looked at for
+# as long at least once the session is there.
+LOOK, COUNT, LEAST = 0.15, 0.2, 0.05
 # Of so many places what is known is kept, and for so many seconds what is used in a document.
 KEPT, FRESH = 300, 10.0
 
@@ -29,7 +30,22 @@ class Named(NamedTuple):
     cost: int | None
 
 
-def costs_of(grammar: Grammar, session: Session, data: bytes, path: str, line: str, names: Sequence[str]) -> list[Named]:
+class Times(NamedTuple):
+    """Until when, by the clock, the names of a request are looked at, and until when costs are counted."""
+
+    looked: float
+    counted: float
+
+
+def times_of(begun: float) -> Times:
+    """The times of a request that begun then and whose session is there now."""
+    now = time.monotonic()
+    return Times(max(begun + LOOK, now + LEAST), max(begun + COUNT, now + LEAST))
+
+
+def costs_of(
+    grammar: Grammar, session: Session, data: bytes, path: str, line: str, names: Sequence[str], times: Times
+) -> list[Named]:
     """What is known of these names, after a look and a count in this session, which is on the data."""
     kept, lock = grammar.declared.costs, grammar.declared.lock
     key = hashlib.blake2b(data, digest_size=16).digest(), line
@@ -40,11 +56,12 @@ def costs_of(grammar: Grammar, session: Session, data: bytes, path: str, line: s
             kept.pop(next(iter(kept)))
     task = Task(lambda: contextlib.nullcontext(session), path, [], line, [*names], known)
     if task.left:
-        task.look(LOOK)
+        task.look(times.looked)
         task.left = known.lacking([*names])
         task.new = []
-        if task.left:
-            task.more([], True, COUNT)
+        left = times.counted - time.monotonic()
+        if task.left and left > 0:
+            task.more([], True, left)
     return [Named(name, name in known.direct, 0 if name in known.whole else known.costs.get(name)) for name in names]
 
 

@@ -70,6 +70,8 @@ class Server:
                 if message is None:
                     break
                 self.take(message)
+                # A large one isn't kept until the next one comes.
+                del message
             except Error as error:
                 self.writer.refuse(None, error)
         for each in [*self.opened.values()]:
@@ -262,7 +264,7 @@ class Server:
         for change in changes:
             text = text.changed(change)
         opened.document = Document(opened.document.uri, version_of(item), text, opened.document.accepted)
-        opened.watch.look(opened.document)
+        opened.watch.look(opened.document, is_typed=True)
 
     def did_save(self, params: Json) -> None:
         """A DTD may have changed. One that is saved in the editor may be a module of others."""

@@ -39,7 +39,9 @@ class Reader:
         if len(body) < length:
             return None
         try:
-            return Message(json.loads(body.decode()))
+            text = body.decode()
+            del body
+            return Message(json.loads(text))
         except (ValueError, RecursionError) as fault:
             self.is_lost = True
             raise Error(PARSE_ERROR, f"no JSON: {fault}"[:200]) from None

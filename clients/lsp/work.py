@@ -6,7 +6,7 @@ from concurrent.futures import Future
 from typing import Any
 
 import memory
-from grammar import Grammar, List
+from grammar import Grammar, List, Plain
 from pvtag import long
 from pvtag.long import Counted, Inserted
 from pvtag.program import RUNNING, Running, Stopped, Trouble, took_too_long
@@ -114,7 +114,7 @@ class Work:
             raise Cancelled from None
 
     @contextlib.contextmanager
-    def session(self, grammar: Grammar, root: str, data: bytes) -> Iterator[Session]:
+    def session(self, grammar: Grammar | Plain, root: str, data: bytes) -> Iterator[Session]:
         """A session on these bytes. One that has ended raises `Ended`, or `Cancelled` where it was for that. One that takes
         too long is a trouble."""
         with memory.file_of(data) as path:
@@ -146,7 +146,7 @@ class Work:
                 session.close()
 
 
-def begun(grammar: Grammar, root: str, path: str) -> Session:
+def begun(grammar: Grammar | Plain, root: str, path: str) -> Session:
     try:
         return Session(grammar.program, grammar.path, root, path)
     except OSError as fault:

@@ -14,6 +14,7 @@ What libxml2 finds decides; names, places and sentences are made here. One threa
 import contextlib
 import difflib
 import functools
+import importlib.util
 import json
 import os
 import re
@@ -163,15 +164,20 @@ def told_in_words(faults: Sequence[AttributeFault], has_more: bool = False) -> s
     return f"{least}{wrong} {noun} wrong" if wrong else ""
 
 
+def pythons() -> list[str]:
+    """The Pythons that may have lxml. Of this one it is known without running it where it has none."""
+    found = [python for python in dict.fromkeys(PYTHONS) if python and os.access(python, os.X_OK)]
+    return [python for python in found if python != sys.executable or importlib.util.find_spec("lxml") is not None] or found
+
+
 @functools.lru_cache(maxsize=1)
 def python_with_lxml() -> str | None:
     """A Python that has lxml, if there is one."""
-    for python in dict.fromkeys(PYTHONS):
-        if python and os.access(python, os.X_OK):
-            with contextlib.suppress(OSError, subprocess.TimeoutExpired):
-                words = [python, "-c", "import lxml.etree"]
-                if subprocess.run(words, stdin=subprocess.DEVNULL, capture_output=True, timeout=60, check=False).returncode == 0:
-                    return python
+    for python in pythons():
+        with contextlib.suppress(OSError, subprocess.TimeoutExpired):
+            words = [python, "-c", "import lxml.etree"]
+            if subprocess.run(words, stdin=subprocess.DEVNULL, capture_output=True, timeout=60, check=False).returncode == 0:
+                return python
     return None
 
 

@@ -21,6 +21,8 @@ TURN = 0.12
 NEW_TAG = re.compile(r"<([^\s/>!?]+)>")
 # So many names of missing elements are told.
 NAMED = 4
+# So many moves are asked about together, and so many bytes may be said of them: what isn't read yet fits into a pipe.
+AT_ONCE, MOST_SAID = 32, 32 << 10
 # Begins a session on the document of a list, which is there for as long as that is wanted.
 Begin = Callable[[], "contextlib.AbstractContextManager[Session]"]
 
@@ -76,25 +78,33 @@ class Task:
         if is_made and not isinstance(self.session.undo(), Made):
             raise Ended(None, "a move can't be taken back")
 
-    def look(self, seconds: float) -> None:
-        """Looks, for at most so long, with which names the list is valid, and with which nothing more is missing."""
-        rows, end = self.session.verdicts(), time.monotonic() + seconds
+    def look(self, end: float) -> None:
+        """Looks, until this time of the clock, with which names the list is valid, and with which nothing more is missing;
+        some names are looked at in any case."""
+        rows = self.session.verdict_lines()
         if isinstance(rows, Refused):
             return
-        before, is_open = sum(row.verdict == "possible" for row in rows), not self.is_list_valid()
-        for name in self.left:
-            if time.monotonic() > end:
+        before, is_open = rows.count(b" possible "), not self.is_valid_in(rows)
+        for at in range(0, len(self.left), AT_ONCE):
+            if at and time.monotonic() > end:
                 break
-            reply = self.session.edit(f"{self.line} {name}")
-            if not isinstance(reply, Made):
-                continue
-            if reply.open <= before - is_open:
-                self.known.whole.add(name)
-                self.known.direct.add(name)
-            elif reply.open == before + 1 and self.is_list_valid():
-                self.known.direct.add(name)
-            if not isinstance(self.session.undo(), Made):
-                raise Ended(None, "a move can't be taken back")
+            names, others = self.left[at:at + AT_ONCE], list[str]()
+            for name, (reply, _) in zip(names, self.tried(names)):
+                if isinstance(reply, Made) and reply.open <= before - is_open:
+                    self.known.whole.add(name)
+                    self.known.direct.add(name)
+                elif isinstance(reply, Made) and reply.open == before + 1:
+                    others.append(name)
+            few = max(1, MOST_SAID // (len(rows) + 100))
+            for first in range(0, len(others), few):
+                if time.monotonic() > end:
+                    break
+                some = others[first:first + few]
+                self.known.direct.update(name for name, (_, now) in zip(some, self.tried(some, "verdicts")) if self.is_valid_in(now))
+
+    def tried(self, names: list[str], then: str = "") -> list[tuple[Made | Refused, bytes]]:
+        """What the move answers with each of these names, and what is said then."""
+        return self.session.tried([f"{self.line} {name}" for name in names], then)
 
     def count(self) -> int | None:
         """How many elements are missing; none where that can't be told."""
@@ -109,19 +119,22 @@ class Task:
     def tell_cost(self, name: str, is_quick: bool = False) -> None:
         """Finds how many more elements are missing behind the move with this name; quickly or not at all where that is
         asked for."""
-        with self.moved(name) as is_made:
-            if is_quick and is_made and not self.is_list_valid():
+        if is_quick:
+            ((reply, rows),) = self.tried([name], "verdicts")
+            if isinstance(reply, Made) and not self.is_valid_in(rows):
                 self.known.slow.add(name)
                 return
-            count = self.count() if is_made else None
+        ((reply, told),) = self.tried([name], "need")
+        count = int(told) if isinstance(reply, Made) and told else None
         cost = None if count is None or self.before is None else count - self.before
         self.told.costs[name] = self.known.costs[name] = cost
         self.left.remove(name)
 
-    def is_list_valid(self) -> bool:
-        """Whether the list in question is, by itself. In a renaming that is the one that the element stands in."""
-        rows = self.session.verdicts()
-        return isinstance(rows, Refused) or any((row.path, row.verdict) == (self.path, "valid") for row in rows)
+    def is_valid_in(self, rows: bytes) -> bool:
+        """Whether these verdicts have the list in question as valid, by itself, or are refused. In a renaming that is the list
+        that the element stands in."""
+        row = b"%b valid " % self.path.encode()
+        return not rows or rows.startswith(row) or b"\n" + row in rows
 
     def tell_names(self, name: str) -> None:
         """Finds which elements these are."""

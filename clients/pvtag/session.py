@@ -87,7 +87,7 @@ class Unsettled(NamedTuple):
     """How many lists aren't valid, and how many of these can't be mended; the paths of the first that can't, and of the
     first that can."""
 
-    count: int
+    lists: int
     bad: int
     first_bad: list[str]
     first: list[str]
@@ -102,7 +102,7 @@ class Unsettled(NamedTuple):
             self.first_bad.extend([path.decode() for path, word in found if word][: most_bad - len(self.first_bad)])
         if len(self.first) < most and bad < len(found):
             self.first.extend([path.decode() for path, word in found if not word][: most - len(self.first)])
-        return Unsettled(self.count + len(found), self.bad + bad, self.first_bad, self.first)
+        return Unsettled(self.lists + len(found), self.bad + bad, self.first_bad, self.first)
 
 
 class Completed(NamedTuple):
@@ -335,9 +335,48 @@ class Session:
             words = self.ask(line)
             if words[0] == "no":
                 return refused(words)
-            self.moves += 1
-            self.follow(line)
-            return Made(*map(int, words[1:4]))
+            return self.was_made(line, words)
+
+    def was_made(self, line: str, words: list[str]) -> Made:
+        self.moves += 1
+        self.follow(line)
+        return Made(*map(int, words[1:4]))
+
+    def tried(self, lines: Sequence[str], then: str = "") -> list[tuple[Made | Refused, bytes]]:
+        """What each of these edits answers, each undone before the next, and what "need" or "verdicts" then says, as it comes.
+        They are written together where no edit was made before, since an undo of nothing changes nothing: so there are to be
+        few, and what is said of them short."""
+        with self.whole():
+            together = [lines] if not self.made else [[line] for line in lines]
+            return [answer for some in together for answer in self.tried_together(some, then)]
+
+    def tried_together(self, lines: Sequence[str], then: str) -> Iterator[tuple[Made | Refused, bytes]]:
+        if self.made and lines:
+            # One line: its undo is only asked for where it was made.
+            reply = self.edit(lines[0])
+            told = self.told_by(self.ask(then)) if then and isinstance(reply, Made) else b""
+            if isinstance(reply, Made) and not isinstance(self.undo(), Made):
+                raise Ended(None, "a move can't be taken back")
+            yield reply, told
+            return
+        after = [then, "undo"] if then else ["undo"]
+        self.write("".join(f"{each}\n" for line in lines for each in (in_one_line(line), *after)))
+        for line in lines:
+            words = self.words()
+            reply = refused(words) if words[0] == "no" else self.was_made(line, words)
+            told = self.told_by(self.words()) if then else b""
+            words = self.words()
+            if isinstance(reply, Made):
+                if words[0] == "no":
+                    raise Ended(None, "a move can't be taken back")
+                self.was_made("undo", words)
+            yield reply, told
+
+    def told_by(self, words: list[str]) -> bytes:
+        """The rows of verdicts, or a number; nothing where that is refused."""
+        if words[0] == "verdicts":
+            return b"".join(self.lines(int(words[1])))
+        return b"" if words[0] == "no" else words[1].encode()
 
     # The tree.
     def follow(self, line: str) -> None:
@@ -471,14 +510,19 @@ class Session:
     # The pipes.
     def ask(self, line: str) -> list[str]:
         """The first line of the reply, as words."""
-        data = in_one_line(line).encode() + b"\n"
+        line = in_one_line(line)
         with self.whole():
-            try:
-                self.input.write(data)
-                self.input.flush()
-            except BrokenPipeError:
-                pass
-            first = self.line()
+            self.write(f"{line}\n")
+            return self.words()
+
+    def write(self, lines: str) -> None:
+        with contextlib.suppress(BrokenPipeError):
+            self.input.write(lines.encode())
+            self.input.flush()
+
+    def words(self) -> list[str]:
+        """The first line of a reply, as words."""
+        first = self.line()
         words = first.split(" ", 2) if first.startswith("no ") else first.split(" ")
         if words[0] not in REPLIES:
             self.ended(first)
@@ -514,7 +558,7 @@ class Session:
                 self.ended("")
             ends = piece.count(b"\n")
             if ends > count:
-                piece, ends = b"".join(piece.splitlines(keepends=True)[:count]), count
+                piece, ends = b"".join(line + b"\n" for line in piece.split(b"\n")[:count]), count
             count -= ends
             yield self.output.read(len(piece))
 
