@@ -6,6 +6,8 @@ import functools
 import os
 import sys
 import tempfile
+import threading
+import time
 
 sys.dont_write_bytecode = True
 
@@ -338,7 +340,44 @@ def suggests_what_was_tagged(program):
         attributes.close()
 
 
-CASES = [suggests_what_was_tagged, gives_reasons_one_can_read, tags_each_line, offers_what_is_wanted, has_a_palette, gives_required_attributes]
+def keeps_nobody_waiting(program):
+    """While suggestions are looked for, which takes long, another has the lock within a moment; where it changes the document
+    they are looked for anew."""
+    tagged = "".join(f"<place>Town {number}</place> " * 3 for number in range(30))
+    body = f"<p>{tagged}</p>" + "".join(f"<p>Town {number % 30} and Town{number}</p>" for number in range(90))
+    with Place(program, f"<letter><opener><salute>x</salute></opener><body>{body}</body></letter>") as place:
+        editor = place.editor
+        around, attributes = Neighbours(editor.script.document, "letter"), Attributes(editor)
+        around.read.join()
+        everywhere = Everywhere(editor)
+        suggestions = Suggestions(editor, around, everywhere, attributes)
+        for moves, (name, call, want) in enumerate((("suggestions", suggestions.told, 90), ("places", lambda: everywhere.places({"text": "Town", "name": "person"}), 270)), 1):
+            try_one = everywhere.wrapped
+
+            def slow(*words):
+                time.sleep(0.02)
+                return try_one(*words)
+
+            everywhere.wrapped = slow
+            told, waits = [], []
+            work = threading.Thread(target=lambda: told.append(call()))
+            work.start()
+            while work.is_alive():
+                start = time.monotonic()
+                with editor.lock:
+                    waits.append(time.monotonic() - start)
+                    if len(waits) == 5:
+                        need("changes" in place.wrap("place", place.run_of("and", nth=moves)), "a move meanwhile")
+                time.sleep(0.005)
+            work.join()
+            everywhere.wrapped = try_one
+            need(len(waits) > 10 and max(waits) < 0.5, f"{name}: the lock is had within a moment: {len(waits)} times, {max(waits):.2f} s")
+            rows = told[0]["rows" if name == "suggestions" else "places"]
+            same((len(rows), len(editor.made)), (want, moves), f"{name}, of the document as it is then")
+        attributes.close()
+
+
+CASES = [keeps_nobody_waiting, suggests_what_was_tagged, gives_reasons_one_can_read, tags_each_line, offers_what_is_wanted, has_a_palette, gives_required_attributes]
 
 
 def main():

@@ -196,7 +196,7 @@ CHECKS = [
         "links, pipes, a server killed round a Save"),
     row("annotate_letters", "what makes a letter quick on the page", "", 3600, "python3 tests/annotate_letters.py PVTAG",
         "what makes a letter quick on the page: a tag round each line or paragraph; the palette and its file; suggestions of exact "
-        "words; reasons with first names; that under 60 names the wanted one is among the first five in nine of ten moves, where "
+        "words, for which nothing waits; reasons with first names; that under 60 names the wanted one is among the first five in nine of ten moves, where "
         "another letter lies beside it"),
     row("annotate_walk", "a walk through what the page asks for", "", 3600, "python3 tests/annotate_walk.py PVTAG 1",
         "a random walk through what the page asks for, with half surrogates, writes that fail, changes from outside, killed sessions "

@@ -8,6 +8,7 @@ from editor import Editor
 from pvtag.document import Document, Node, Told, shown
 from pvtag.session import Refused
 from runs import Stale, Stretch, below, run_over, texts_of
+from slices import in_slices
 
 # So many places are listed at most, and so many characters beside each.
 MOST = 2000
@@ -24,15 +25,20 @@ class Everywhere:
         text, name = ask["text"], name_of(ask)
         if not isinstance(text, str) or not text.strip():
             raise Stale
-        rows: list[Told] = []
-        with self.editor.lock:
-            for stretch, line, owner in found(self.editor.document, text):
-                if len(rows) == MOST:
-                    return {"places": rows, "more": True}
-                if not stands_in(owner, name):
-                    rows.append({"place": list(stretch), "in": owner.name, **beside(line, stretch),
-                                 "refused": isinstance(self.wrapped(stretch, name), Refused)})
-        return {"places": rows, "more": False}
+        _, rows = in_slices(self.editor, lambda: self.open_places(text, name))
+        return {"places": rows[:MOST], "more": len(rows) > MOST}
+
+    def open_places(self, text: str, name: str) -> Iterator[Told | None]:
+        """The same, in steps, and one more than are told."""
+        count = 0
+        for stretch, line, owner in found(self.editor.document, text):
+            if stretch is None or stands_in(owner, name):
+                yield None
+                continue
+            yield {"place": list(stretch), "in": owner.name, **beside(line, stretch), "refused": isinstance(self.wrapped(stretch, name), Refused)}
+            count += 1
+            if count > MOST:
+                return
 
     def wrapped(self, stretch: Stretch, name: str) -> Any:
         """What the session says of the tag there; nothing is changed."""
@@ -78,9 +84,9 @@ class Everywhere:
         return made, refused
 
 
-def found(document: Document, text: str) -> Iterator[tuple[Stretch, str, Node]]:
+def found(document: Document, text: str) -> Iterator[tuple[Stretch | None, str, Node]]:
     """The places of a text, in document order, each with the whole text that it is part of and the element that holds
-    that."""
+    that; and none behind each element."""
     for owner in in_order(document):
         for first, nodes in texts_of(owner):
             line = "".join("".join(map(shown, node.units)) for node in nodes)
@@ -88,6 +94,7 @@ def found(document: Document, text: str) -> Iterator[tuple[Stretch, str, Node]]:
             while at >= 0:
                 yield Stretch(owner.id, first, at, at + len(text)), line, owner
                 at = line.find(text, at + len(text))
+        yield None, "", owner
 
 
 def in_order(document: Document) -> list[Node]:

@@ -5,6 +5,7 @@ other as often. Each suggestion is an edit that the session would make.
 """
 import re
 from collections import Counter
+from collections.abc import Iterable, Iterator
 from typing import Any
 
 from attributes import Attributes, pairs_of
@@ -14,11 +15,14 @@ from neighbours import LONGEST, Neighbours, Tag
 from pvtag.document import TEXT, Node, Told, shown
 from pvtag.session import Refused
 from runs import Stretch, spot_at, texts_of
+from slices import in_slices
 
 # So often words had their tag, at least.
 OFTEN = 3
 # So many words are looked for, and so many places told.
 WORDS, PLACES = 3000, 300
+# Where words may begin: not within one, nor with white space.
+STARTS = re.compile(r"(?<![^\W_])[^\W_]|[^\w\s]|_")
 
 
 class Suggestions:
@@ -29,28 +33,21 @@ class Suggestions:
         """The places of words that have no tag here, in the order of the document: the words, what stands beside them, the
         tag, how often they had it, and how many places of the same words there are."""
         self.attributes.look()
-        with self.editor.lock:
-            known = self.known()
-            rows = self.rows(known) if known else []
-            counts = Counter(row["text"] for row in rows)
-            return {"version": self.editor.version, "rows": [{**row, "here": counts[row["text"]]} for row in rows]}
+        version, rows = in_slices(self.editor, self.rows)
+        counts = Counter(row["text"] for row in rows)
+        return {"version": version, "rows": [{**row, "here": counts[row["text"]]} for row in rows]}
 
-    def known(self) -> dict[str, tuple[Tag, int]]:
-        """The words that had one tag often, with it."""
-        counts: dict[str, Counter[Tag]] = {}
+    def known(self, counts: dict[str, Counter[Tag]]) -> Iterator[None]:
+        """Counts the tags that words had, beside and here, in steps."""
         for text, tags in self.around.tagged.copy().items():
             for tag, count in tags.copy().items():
                 counts.setdefault(text, Counter())[self.without_ids(tag)] += count
+            yield
         for node in in_order(self.editor.document):
             text = text_of(node)
             if text and node.owner is not None and node.owner.owner is not None:
                 counts.setdefault(text, Counter())[self.without_ids((node.name, tuple(pairs_of(node.attrs))))] += 1
-        known = dict[str, tuple[Tag, int]]()
-        for text, tags in counts.items():
-            (tag, count), *others = tags.most_common(2)
-            if count >= OFTEN and text.strip() == text and len(text) > 1 and (not others or others[0][1] < count):
-                known[text] = tag, count
-        return dict(sorted(known.items(), key=lambda row: -row[1][1])[:WORDS])
+            yield
 
     def without_ids(self, tag: Tag) -> Tag:
         """A tag without the attributes of which each value stands once in a document."""
@@ -58,23 +55,63 @@ class Suggestions:
         ids = {each.name for each in self.attributes.known.of(name) if each.type == "ID"} | {"xml:id"}
         return name, tuple(pair for pair in pairs if pair[0] not in ids)
 
-    def rows(self, known: dict[str, tuple[Tag, int]]) -> list[Told]:
-        wanted = re.compile("|".join(re.escape(text) for text in sorted(known, key=len, reverse=True)))
-        rows = list[Told]()
-        for owner in in_order(self.editor.document):
+    def rows(self) -> Iterator[Told | None]:
+        """The rows, in steps; each step tries one place at most."""
+        counts = dict[str, Counter[Tag]]()
+        yield from self.known(counts)
+        known, count = often(counts), 0
+        words = Words(known)
+        for owner in in_order(self.editor.document) if known else ():
             for first, nodes in texts_of(owner):
                 line = "".join("".join(map(shown, node.units)) for node in nodes)
-                for found in wanted.finditer(line):
-                    (name, pairs), count = known[found[0]]
-                    stretch = Stretch(owner.id, first, found.start(), found.end())
-                    told = beside(line, stretch)
-                    if told["part"] or stands_in(owner, name) or isinstance(self.everywhere.wrapped(stretch, name), Refused):
-                        continue
-                    rows.append({"text": found[0], "name": name, "pairs": list(pairs), "count": count, "in": owner.name,
-                                 "before": told["before"], "behind": told["behind"], "place": place_of(owner, stretch)})
-                    if len(rows) == PLACES:
-                        return rows
-        return rows
+                for at, text in words.found(line):
+                    row = self.row(owner, Stretch(owner.id, first, at, at + len(text)), line, *known[text])
+                    yield row
+                    count += row is not None
+                    if count == PLACES:
+                        return
+            yield None
+
+    def row(self, owner: Node, stretch: Stretch, line: str, tag: Tag, count: int) -> Told | None:
+        """A place where the session would make the tag; none where it wouldn't."""
+        name, pairs = tag
+        if stands_in(owner, name) or isinstance(self.everywhere.wrapped(stretch, name), Refused):
+            return None
+        told = beside(line, stretch)
+        return {"text": line[stretch.start:stretch.end], "name": name, "pairs": list(pairs), "count": count, "in": owner.name,
+                "before": told["before"], "behind": told["behind"], "place": place_of(owner, stretch)}
+
+
+def often(counts: dict[str, Counter[Tag]]) -> dict[str, tuple[Tag, int]]:
+    """The words that had one tag often, and no other as often, with it."""
+    known = dict[str, tuple[Tag, int]]()
+    for text, tags in counts.items():
+        (tag, count), *others = tags.most_common(2)
+        if count >= OFTEN and text.strip() == text and len(text) > 1 and (not others or others[0][1] < count):
+            known[text] = tag, count
+    return dict(sorted(known.items(), key=lambda row: -row[1][1])[:WORDS])
+
+
+class Words:
+    """Words that are looked for in texts, by their first two characters; the longest first."""
+
+    def __init__(self, words: Iterable[str]) -> None:
+        self.by_start: dict[str, list[str]] = {}
+        for word in sorted(words, key=len, reverse=True):
+            self.by_start.setdefault(word[:2], []).append(word)
+
+    def found(self, line: str) -> Iterator[tuple[int, str]]:
+        """Where they stand, whole, in a text."""
+        end = 0
+        for start in STARTS.finditer(line):
+            at = start.start()
+            if at < end:
+                continue
+            for word in self.by_start.get(line[at:at + 2], ()):
+                if line.startswith(word, at) and not (word[-1].isalnum() and line[at + len(word):at + len(word) + 1].isalnum()):
+                    end = at + len(word)
+                    yield at, word
+                    break
 
 
 def text_of(node: Node) -> str:

@@ -1,5 +1,6 @@
 // Words that were tagged the same way before, and have no tag here: one after another, each is taken or passed by a key.
-import { app, question } from "./app.js"
+import { app, tell } from "./app.js"
+import { ask } from "./ask.js"
 import { choose, select } from "./choose.js"
 import { make as element } from "./draw.js"
 import { make } from "./offers.js"
@@ -23,9 +24,11 @@ export function openSuggestions() {
   else goOn()
 }
 
+// What is looked for takes a while, and nothing waits for it: what was found of an earlier document isn't shown.
 async function fill() {
-  const answer = await question("suggestions")
-  if (!answer || box.hidden) return
+  const answer = await ask("suggestions")
+  if (answer.stale || answer.version !== app.state.version || box.hidden) return
+  if (answer.trouble) return tell(answer.trouble)
   const starts = startsOf()
   const told = answer.rows.map((row) => ({ ...row, key: [row.text, row.name, starts.get(row.place.from[0]) + row.place.from[1]].join("\0") }))
   const rows = told.filter(({ key }) => !passed.has(key))
