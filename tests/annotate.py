@@ -31,9 +31,9 @@ def python_with_selenium():
 
 
 def cases():
-    from lib.annotate import drawing, files, filling, keys, markup, offers, quick, texts, trial, views
+    from lib.annotate import drawing, files, filling, folders, keys, markup, offers, quick, texts, trial, views
 
-    modules = (keys, filling, markup, offers, quick, texts, views, files, drawing, trial)
+    modules = (keys, filling, markup, offers, quick, texts, views, files, folders, drawing, trial)
     return [case for module in modules for case in module.CASES]
 
 

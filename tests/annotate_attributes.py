@@ -22,8 +22,8 @@ from attributes import Attributes  # noqa: E402
 from editor import Editor  # noqa: E402
 from pvtag.attributes import python_with_lxml  # noqa: E402
 from script import Script  # noqa: E402
-from server import entities_of, note_of  # noqa: E402
 from texts import Texts  # noqa: E402
+from work import entities_of, note_of  # noqa: E402
 
 SUBSET = '<!DOCTYPE letter [\n<!ENTITY me "Anna"> <!ENTITY sp " "><!-- ]> -->\n]>\n'
 LETTER = SUBSET + "<letter id='&me;'>Dear &me;,&sp;<p>I &amp; &me; &none; met &#233;</p></letter>\n"

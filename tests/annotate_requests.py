@@ -107,7 +107,7 @@ def says_what_is_wrong(program):
         need("declares no element lettre; it declares letter, opener," in said(LETTER, "lettre", doc), "a root that isn't declared")
         need("can't be run" in said(LETTER, "letter", doc, "--program", "/nowhere/pvtag"), "a program that isn't there")
         same(said(LETTER, "letter", server.path("no/new.xml"), "--from", LETTER), "no/new.xml: No such file or directory", "a folder that isn't there")
-        same(said(LETTER, "letter", server.folder), f"{server.folder} is a folder, and no file", "a folder")
+        same(said(LETTER, "letter", server.folder, "--again"), f"{server.folder} is a folder, and --from and --again are about one document", "a folder")
         server.write("a\x01b", "odd.txt")
         need(said(LETTER, "letter", new, "--from", server.path("odd.txt")).startswith("no document can be made of odd.txt: "), "a character")
         os.unlink(server.path("odd.txt"))

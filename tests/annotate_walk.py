@@ -31,7 +31,7 @@ from pvtag.document import ELEMENT, Document  # noqa: E402
 from pvtag.program import file_of  # noqa: E402
 from pvtag.session import Ended, Session  # noqa: E402
 from script import Changed, Script  # noqa: E402
-from server import Handler, Refusal, Server  # noqa: E402
+from work import Refusal, Work  # noqa: E402
 
 ASKS = 2000
 PAGE = os.path.join(EXAMPLES, "page.dtd")
@@ -51,7 +51,7 @@ class Walk:
         with open(self.path, "w", encoding="utf-8", newline="") as file:
             file.write(source)
         self.declared, self.counts = declared_by([program], dtd), Counter()
-        self.server = None
+        self.work = None
         self.begin()
 
     # Beginning and ending.
@@ -62,18 +62,15 @@ class Walk:
         except BaseException:
             self.script.close()
             raise
-        self.server = Server(self.editor, self.declared, 0, "doc.xml")
-        self.handler = Handler.__new__(Handler)
-        self.handler.server = self.server
+        self.work = Work(self.editor, self.declared, "doc.xml")
         self.copy = Copy()
         self.copy.take(self.told("state", {}))
 
     def end(self, is_killed=False):
-        if self.server is None:
+        if self.work is None:
             return
-        self.server.close()
-        self.server.server_close()
-        self.server = None
+        self.work.stop()
+        self.work = None
         if is_killed:
             # What a kill leaves: no line more is written, and nothing is tidied up.
             self.editor.end_session()
@@ -83,7 +80,7 @@ class Walk:
 
     def told(self, name, what):
         """What the page is answered, as it comes out of JSON."""
-        return json.loads(json.dumps(self.handler.answer(name, json.loads(json.dumps(what)))))
+        return json.loads(json.dumps(self.work.answer(name, json.loads(json.dumps(what)))))
 
     def ask(self, name, what=None):
         what = {"version": self.copy.version, "window": random.choice(["one", "two"]), **(what or {})}
@@ -275,7 +272,7 @@ class Walk:
                 self.begin(again=True)
         except Exception:
             pass
-        if self.server is None:
+        if self.work is None:
             # What isn't a document of this DTD any more can't be opened; the script is as it was.
             with open(self.path, "w", encoding="utf-8", newline="") as file:
                 file.write(before)

@@ -45,7 +45,8 @@ class Unseen(Trouble):
 
 
 class Editor:
-    def __init__(self, program: list[str], dtd: str, root: str, script: Script) -> None:
+    def __init__(self, program: list[str], dtd: str, root: str, script: Script, version: int = 0) -> None:
+        """`version` is the last one of which a window may know, where the document was open before."""
         self.program, self.dtd, self.root, self.script = program, dtd, root, script
         self.lock = threading.RLock()
         # What the session and the tree have: the document, its subset and its entities masked.
@@ -56,7 +57,7 @@ class Editor:
         except BadLine as bad:
             raise script.trouble(bad) from None
         self.changes: list[Told] = []
-        self.version, self.needed = 0, {"version": -1}
+        self.version, self.needed = version, {"version": -1}
         # What a refusal is explained by: the tree, the lines up to the one that was refused, and the path that was told; it
         # gives a call that asks the program, `later`, when the lock isn't held any more.
         self.explain: Callable[[Document, list[str], str], Callable[[], Told]] | None = None

@@ -7,6 +7,7 @@ import fcntl
 import os
 import stat
 import tempfile
+import time
 from collections.abc import Iterator
 
 from pvtag.program import Trouble, shown_name
@@ -172,7 +173,7 @@ def locked(path: str, like: str) -> int:
     while True:
         number = opened_or_made(path, like)
         try:
-            fcntl.flock(number, fcntl.LOCK_EX | fcntl.LOCK_NB)
+            lock_alone(number)
             # Another program that ends may have taken it away meanwhile.
             with contextlib.suppress(FileNotFoundError):
                 if os.path.samestat(os.fstat(number), os.stat(path)):
@@ -181,6 +182,21 @@ def locked(path: str, like: str) -> int:
             os.close(number)
             raise
         os.close(number)
+
+
+# A list of documents looks who has one, and has its script for a moment: so often, and so long, it is waited for.
+TRIES, PAUSE = 5, 0.02
+
+
+def lock_alone(number: int) -> None:
+    """Has an open file for this program alone; where another has it, that is a `BlockingIOError`."""
+    for left in reversed(range(TRIES)):
+        try:
+            return fcntl.flock(number, fcntl.LOCK_EX | fcntl.LOCK_NB)
+        except BlockingIOError:
+            if not left:
+                raise
+            time.sleep(PAUSE)
 
 
 def opened_or_made(path: str, like: str) -> int:

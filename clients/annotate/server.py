@@ -12,26 +12,10 @@ import threading
 import traceback
 from collections.abc import Callable
 from http.server import BaseHTTPRequestHandler, ThreadingHTTPServer
-from typing import Any
+from typing import Any, Protocol
 
-from attributes import Attributes
-from completions import Completions
-from costs import Costs
-from declared import Declared
-from editor import Differs, Editor, Unseen
-from everywhere import Everywhere
-from explain import Explainer
-from neighbours import Neighbours
-from palette import Palette
-from pieces import Pieces
 from pvtag.document import Told
-from pvtag.program import Trouble, shown_name
-from pvtag.session import Ended
-from runs import Stale
-from script import Changed, Question
-from suggest import Suggestions
-from texts import Texts
-from uses import Uses
+from work import Refusal
 
 FOLDER = os.path.join(os.path.dirname(os.path.abspath(__file__)), "page")
 TYPES = {".html": "text/html", ".css": "text/css", ".js": "text/javascript"}
@@ -49,29 +33,42 @@ HEADERS = {
 }
 
 
-class Refusal(Exception):
-    def __init__(self, status: int, why: str) -> None:
-        super().__init__(why)
-        self.status, self.why = status, why
+class Asked(Protocol):
+    """What answers requests: a document, or a list of them."""
+
+    @property
+    def home(self) -> str:
+        """The page that is shown where none is named."""
+
+    def has(self, name: str) -> bool:
+        """Whether there is such a request."""
+
+    def answer(self, name: str, ask: Any) -> Told:
+        """What is answered to it."""
+
+
+class Place(Protocol):
+    """What a server shows: one document, or a drawer of them."""
+
+    is_over: Callable[[], bool]
+
+    def at(self, path: str) -> tuple[Asked, str]:
+        """Whom a path behind the token asks, and what is asked; a `Refusal` where there is nobody."""
+
+    def close(self) -> None:
+        """Ends all that runs for it."""
 
 
 class Server(ThreadingHTTPServer):
     daemon_threads = True
 
-    def __init__(self, editor: Editor, declared: dict[str, Declared], port: int, title: str,
-                 patience: float = PATIENCE) -> None:
-        self.editor, self.declared, self.title, self.patience = editor, declared, title, patience
-        self.around = Neighbours(editor.script.document, editor.root)
-        uses = Uses(editor, self.around, [name for name, each in declared.items() if each.kind == "empty"])
-        self.costs, self.texts, self.attributes = Costs(editor, declared, uses), Texts(editor), Attributes(editor)
-        self.everywhere, self.explainer = Everywhere(editor), Explainer(editor)
-        self.completions, self.palette = Completions(editor, self.attributes), Palette(editor.dtd, self.attributes)
-        self.pieces = Pieces(editor, self.everywhere)
-        self.suggestions = Suggestions(editor, self.around, self.everywhere, self.attributes)
+    def __init__(self, place: Place, port: int, patience: float = PATIENCE) -> None:
+        self.place, self.patience = place, patience
         self.token = secrets.token_urlsafe(24)
         self.files = {name: read_page(name) for name in os.listdir(FOLDER) if os.path.splitext(name)[1] in TYPES}
         self.windows: set[str] = set()
         self.lock, self.over, self.byes = threading.Lock(), threading.Event(), 0
+        place.is_over = self.over.is_set
         super().__init__(("127.0.0.1", port), Handler)
         self.hosts = {f"127.0.0.1:{self.server_port}", f"localhost:{self.server_port}"}
         self.address = f"http://127.0.0.1:{self.server_port}/{self.token}/"
@@ -93,13 +90,6 @@ class Server(ThreadingHTTPServer):
         with self.lock:
             if not self.windows and byes == self.byes:
                 self.over.set()
-
-    def close(self) -> None:
-        """Ends what runs beside the session."""
-        self.completions.stop()
-        self.completions.wide.end("need")
-        self.costs.close()
-        self.attributes.close()
 
     def handle_error(self, request: Any, client_address: Any) -> None:
         """A browser that goes away in mid-answer is no fault."""
@@ -160,14 +150,16 @@ class Handler(BaseHTTPRequestHandler):
             raise Refusal(403, "the address has no token, or that of another run: take it from the terminal")
         return name
 
-    def get(self, name: str) -> tuple[str, bytes]:
-        name = name or "index.html"
+    def get(self, path: str) -> tuple[str, bytes]:
+        asked, name = self.server.place.at(path)
+        name = name or asked.home
         if name not in self.server.files:
             raise Refusal(404, "there is no such page")
         return TYPES[os.path.splitext(name)[1]], self.server.files[name]
 
-    def post(self, name: str) -> tuple[str, bytes]:
-        if name not in ASKED:
+    def post(self, path: str) -> tuple[str, bytes]:
+        asked, name = self.server.place.at(path)
+        if not asked.has(name):
             raise Refusal(404, "there is no such request")
         if self.headers.get("Origin") is None or self.headers.get_content_type() != "application/json":
             raise Refusal(403, "a request comes from the page, as JSON")
@@ -178,117 +170,9 @@ class Handler(BaseHTTPRequestHandler):
             ask = json.loads(self.rfile.read(int(size)))
         except ValueError:
             raise Refusal(400, "that is no JSON") from None
-        return "application/json", json.dumps(self.answer(name, ask)).encode()
-
-    def answer(self, name: str, ask: Any) -> Told:
-        """What is answered. Where the session has ended, another one makes the moves that were written down, and the same is
-        asked once more: what raised that wasn't made."""
-        editor = self.server.editor
-        told: Told = {}
-        editor.asker.window = str(ask.get("window", "")) if isinstance(ask, dict) else ""
-        for _ in range(2):
-            try:
-                return {**self.answered(name, ask), **told}
-            except Ended as ended:
-                if self.server.over.is_set():
-                    return {"trouble": "annotate is ending"}
-                try:
-                    editor.begin_again()
-                except (Ended, Trouble, OSError) as fault:
-                    return {"trouble": f"{ended}, and can't be begun again: {fault}"}
-                told["again"] = f"{ended}; it was begun again, with all moves that were made"
-        return {"trouble": f"{told['again']}. What was asked for ends it"}
-
-    def answered(self, name: str, ask: Any) -> Told:
-        """What is answered, or `trouble`, a sentence for the user; `changed` says that the document was changed by another
-        program, `differs` what this one shows in its place, `ways` how it may be written all the same."""
-        try:
-            told = ASKED[name](self.server, ask)
-            # What is asked of the program for it is asked here, where no lock is held.
-            later = told.pop("later", None)
-            return {**told, **later()} if later else told
-        except Stale:
-            return {"stale": True}
-        except Changed as changed:
-            return {"trouble": str(changed), "changed": True}
-        except Question as question:
-            return {"trouble": str(question), "ways": question.ways}
-        except Differs as differs:
-            return {"trouble": str(differs), "differs": [differs.own, differs.shown]}
-        except Unseen as unseen:
-            return {"trouble": str(unseen), "unseen": True}
-        except Trouble as trouble:
-            return {"trouble": str(trouble)}
-        except OSError as fault:
-            return {"trouble": f"{shown_name(fault.filename or 'a file that is needed')}: {fault.strerror}"}
-        except (KeyError, TypeError, ValueError, AttributeError, IndexError):
-            traceback.print_exc()
-            raise Refusal(400, "that is no request") from None
+        if name in ("hello", "bye") and isinstance(ask, dict) and "window" in ask:
+            (self.server.hello if name == "hello" else self.server.bye)(str(ask["window"]))
+        return "application/json", json.dumps(asked.answer(name, ask)).encode()
 
     def log_message(self, *_: Any) -> None:
         pass
-
-
-def hello(server: Server, ask: Any) -> Told:
-    server.hello(str(ask["window"]))
-    empty = [name for name, declared in server.declared.items() if declared.kind == "empty"]
-    return {"title": server.title, "names": list(server.declared), "empty": empty, "note": note_of(server.editor),
-            "entities": entities_of(server.editor), "comments": server.explainer.takes.comments}
-
-
-def note_of(editor: Editor) -> str:
-    """What is to be said at the start: of moves that were made again, of entities and of the subset."""
-    remarks = [f"{remark.sentence[:1].upper()}{remark.sentence[1:]}." for remark in editor.masked.remarks]
-    more = f"{len(remarks) - 3} more entities aren't seen." if len(remarks) > 3 else ""
-    return " ".join(filter(None, [editor.note, *remarks[:3], more]))
-
-
-def entities_of(editor: Editor) -> Told:
-    """The references of the document by what stands for them in the tree."""
-    return {form.decode(): name.decode() for form, name in editor.masked.stands.items()}
-
-
-def bye(server: Server, ask: Any) -> Told:
-    server.bye(str(ask["window"]))
-    return {}
-
-
-def stop(server: Server, _: Any) -> Told:
-    server.completions.stop()
-    return {}
-
-
-# What the page asks for.
-ASKED: dict[str, Callable[[Server, Any], Told]] = {
-    "hello": hello,
-    "bye": bye,
-    "stop": stop,
-    "state": lambda server, ask: server.editor.state(ask.get("since")),
-    "history": lambda server, _: server.editor.history(),
-    "need": lambda server, _: server.editor.need(),
-    "need-wide": lambda server, ask: server.completions.wide.need(ask["version"]),
-    "move": lambda server, ask: server.editor.move(ask),
-    "undo": lambda server, ask: server.editor.undo(ask),
-    "redo": lambda server, ask: server.editor.redo(ask),
-    "back": lambda server, ask: server.editor.back(ask),
-    "save": lambda server, ask: server.editor.save(ask),
-    "save-beside": lambda server, ask: server.editor.save_beside(ask),
-    "offer": lambda server, ask: server.costs.offer(ask),
-    "costs": lambda server, ask: server.costs.more(ask),
-    "preview": lambda server, _: server.completions.preview(),
-    "missing": lambda server, ask: server.completions.missing(ask),
-    "take": lambda server, ask: server.completions.take(ask),
-    "type": lambda server, ask: server.texts.type(ask),
-    "attributes": lambda server, ask: server.attributes.of(ask),
-    "set-attributes": lambda server, ask: server.attributes.change(ask),
-    "attribute-faults": lambda server, ask: server.attributes.faults(ask),
-    "places": lambda server, ask: server.everywhere.places(ask),
-    "tag-places": lambda server, ask: server.everywhere.tag(ask, server.attributes.asked(ask)),
-    "tag": lambda server, ask: server.attributes.tag(ask),
-    "palette": lambda server, ask: server.palette.told(ask),
-    "set-palette": lambda server, ask: server.palette.put(ask),
-    "suggestions": lambda server, ask: server.suggestions.told(ask),
-    "pieces": lambda server, ask: server.pieces.of(ask),
-    "tag-pieces": lambda server, ask: server.pieces.tag(ask),
-    "why": lambda server, ask: server.explainer.of_lists(ask),
-}

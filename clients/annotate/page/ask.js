@@ -19,7 +19,7 @@ export async function ask(name, what = {}) {
   return answer.json()
 }
 
-export const hello = () => ask("hello")
+export const hello = (what = {}) => ask("hello", what)
 
 export function sayBye() {
   fetch("bye", { method: "POST", keepalive: true, headers: { "Content-Type": "application/json" }, body: JSON.stringify({ window: window_ }) })

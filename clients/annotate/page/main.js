@@ -2,6 +2,7 @@
 import { tagAgain, tagEverywhere } from "./again.js"
 import { app, catchUp, change, listeners, question, tell } from "./app.js"
 import { ask, Gone, hello, sayBye } from "./ask.js"
+import { closedBecause, goOnward, setDrawer } from "./onward.js"
 import { comments, empties, entities } from "./draw.js"
 import { rest, setTouch, takeSelection } from "./choose.js"
 import { openFinder } from "./find.js"
@@ -141,6 +142,7 @@ document.addEventListener("keydown", (event) => {
   const command = event.ctrlKey || event.metaKey
   if (event.isComposing || document.querySelector("dialog[open]")) return
   if (key === "f7") openSuggestions()
+  else if (key === "f9" && goOnward(event.shiftKey)) closeMenu()
   else if (key === "f8") goToNext(event.shiftKey ? -1 : 1)
   else if (key === "f4" && event.shiftKey) tagEverywhere()
   else if (key === "f4") tagAgain()
@@ -169,7 +171,10 @@ onWrong(() => {
   showVerdict()
   showNext(lastNeed)
 })
-const { title, names, empty, note, entities: known, comments: told } = await hello()
+const opened = await hello()
+if (opened.trouble) await closedBecause(opened)
+const { title, names, empty, note, entities: known, comments: told, drawer } = opened
+if (drawer) setDrawer(drawer)
 button("title").textContent = document.title = title
 app.names = new Set(names)
 for (const name of empty) empties.add(name)

@@ -240,7 +240,7 @@ const look = () => (isBusy() ? setTimeout(look, 20) : moves() ? requestAnimation
 setTimeout(() => requestAnimationFrame(() => setTimeout(look)))
 """
 # Whether a button stands among those that are folded away.
-FOLDED = "const all = document.getElementById('others'); return all.contains(document.querySelector(arguments[0])) && getComputedStyle(all).display === 'none'"
+FOLDED = "const all = document.getElementById('others'); return all !== null && all.contains(document.querySelector(arguments[0])) && getComputedStyle(all).display === 'none'"
 SETTLED = "return import('./type.js').then(({ settled }) => settled()).then(() => true)"
 NOTES = """
 let group = null

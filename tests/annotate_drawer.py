@@ -1,0 +1,280 @@
+"""Tries the list of a folder's documents in `clients/annotate`: what is told of each, and how one is begun, opened, done and left.
+
+Words: PROGRAM, and names of cases, all where there are none. Prints each difference, and how many cases passed; ends with 1 where one failed.
+"""
+import functools
+import json
+import os
+import subprocess
+import sys
+import tempfile
+import threading
+import time
+
+sys.dont_write_bytecode = True
+
+from lib.annotate.fixture import FOLDER, LETTER, Server, fault_of, need, run_cases, same, soon  # noqa: E402
+
+sys.path[:0] = [FOLDER, os.path.dirname(FOLDER)]
+
+import drawer as drawers  # noqa: E402
+from declared import declared_by  # noqa: E402
+from drawer import Drawer, address_of  # noqa: E402
+from listing import Marks  # noqa: E402
+from pvtag import program as programs  # noqa: E402
+from pvtag.program import Trouble  # noqa: E402
+from work import Refusal  # noqa: E402
+
+VALID = "<letter><opener><salute>Dear</salute></opener><body><p>I met him.</p></body></letter>\n"
+FILES = {
+    "letter 2.xml": VALID, "letter 10.xml": VALID.replace("<salute>Dear</salute>", "Dear"), "a%41#é.xml": VALID.replace("<opener>", "<closer>x</closer><opener>"),
+    "no.xml": "<letter>\n<", "begun.txt": "Dear brother", "letter 2.txt": "Dear", "tags.txt": "a person\n", ".hidden.xml": VALID, "notes": "x",
+}
+
+
+class Folder:
+    """A folder of documents, and its list."""
+
+    def __init__(self, program, files):
+        self.kept = tempfile.TemporaryDirectory()
+        self.program, self.path = program, os.path.join(self.kept.name, "letters")
+        os.mkdir(self.path)
+        for name, text in files.items():
+            self.write(name, text)
+        self.drawers = []
+
+    def __enter__(self):
+        return self
+
+    def __exit__(self, *_):
+        for each in self.drawers:
+            each.close()
+        # All runs are ended then; others begin in the next case.
+        programs.RUNNING.stopped = False
+        self.kept.cleanup()
+
+    def write(self, name, text):
+        with open(os.path.join(self.path, name), "wb") as file:
+            file.write(text.encode())
+
+    def text(self, name):
+        with open(os.path.join(self.path, name), encoding="utf-8") as file:
+            return file.read()
+
+    def drawer(self):
+        self.drawers.append(Drawer([self.program], LETTER, "letter", self.path, declared_by([self.program], LETTER)))
+        return self.drawers[-1]
+
+
+def rows_of(drawer):
+    """The list, once all documents are judged."""
+    return soon(lambda: drawer.answer("list", {})["rows"], lambda rows: all(row["is_text"] or "verdict" in row for row in rows), "all are judged")
+
+
+def ask(drawer, path, what=None):
+    """What is answered to a request."""
+    asked, name = drawer.at(path)
+    need(asked.has(name), f"there is such a request: {path}")
+    return json.loads(json.dumps(asked.answer(name, {"window": "1", **(what or {})})))
+
+
+def move(drawer, url, name="person", words="him"):
+    """Puts a tag round words of a document."""
+    state = ask(drawer, f"{url}/state")
+    text = next(row for row in state["tree"] if words in row.get("text", ""))
+    at = text["text"].index(words)
+    owner = next(row for row in reversed(state["tree"][:state["tree"].index(text)]) if row["depth"] == text["depth"] - 1)
+    place = {"list": owner["id"], "from": [text["id"], at], "to": [text["id"], at + len(words)]}
+    return ask(drawer, f"{url}/move", {"version": state["version"], "kind": "wrap", "place": place, "name": name})
+
+
+def lists_documents(program):
+    """Documents and plain texts without one, by their names and numbers, each with the verdict that `report` has."""
+    with Folder(program, FILES) as folder:
+        os.mkdir(os.path.join(folder.path, "folder.xml"))
+        os.mkfifo(os.path.join(folder.path, "pipe.xml"))
+        with open(os.path.join(os.fsencode(folder.path), b"latin\xe9.xml"), "wb") as file:
+            file.write(VALID.encode())
+        rows = rows_of(folder.drawer())
+        same([row["name"] for row in rows], ["a%41#é.xml", "begun.txt", "latin\ufffd.xml", "letter 2.xml", "letter 10.xml", "no.xml"], "their names")
+        same([row["is_text"] for row in rows], [False, True, False, False, False, False], "which are texts")
+        report = os.path.join(os.path.dirname(FOLDER), "report")
+        paths = [os.path.join(folder.path, row["name"]) for row in rows if not row["is_text"] and "\ufffd" not in row["name"]]
+        ran = subprocess.run([sys.executable, report, "--need", "--program", program, LETTER, "letter", *paths], capture_output=True, text=True)
+        told = {os.path.basename(row["path"]): row for row in map(json.loads, ran.stdout.splitlines()[1:])}
+        same(len(told), 4, f"what report tells: {ran.stderr}")
+        for row in rows:
+            other = told.get(row["name"])
+            if other is not None:
+                same((row["verdict"], row["missing"], row["faults"]), (other["verdict"], other.get("missing"), other.get("faults")), row["name"])
+                need(other.get("sentence", "") in row["sentence"], f"{row['name']}: {row['sentence']}")
+        same({row["name"]: row.get("verdict") for row in rows}["latin\ufffd.xml"], "valid", "a name that isn't UTF-8")
+
+
+def judges_again(program):
+    """What has changed is judged again, and only that; what is gone isn't listed any more."""
+    with Folder(program, {"a.xml": VALID, "b.xml": VALID}) as folder:
+        drawer = folder.drawer()
+        same([row["verdict"] for row in rows_of(drawer)], ["valid", "valid"], "both")
+        before = drawer.verdicts.rows[os.path.join(folder.path, "b.xml")]
+        folder.write("a.xml", VALID.replace("<salute>Dear</salute>", ""))
+        rows = soon(lambda: rows_of(drawer), lambda rows: rows[0]["verdict"] == "possible", "the one that has changed")
+        same((rows[0]["missing"], rows[1]["verdict"]), (1, "valid"), "what it misses")
+        need(drawer.verdicts.rows[os.path.join(folder.path, "b.xml")] is before, "the other isn't judged again")
+        os.unlink(os.path.join(folder.path, "a.xml"))
+        same([row["name"] for row in rows_of(drawer)], ["b.xml"], "one is gone")
+
+
+def keeps_what_is_done(program):
+    """Marks stand in a file beside the folder, for all who have it open; one that isn't such a file is told."""
+    with Folder(program, {"a.xml": VALID, "b.xml": VALID, "c.xml": VALID}) as folder:
+        one, other = folder.drawer(), folder.drawer()
+        same(ask(one, "mark", {"url": "b.xml", "done": True}), {"done": True}, "one is done")
+        same([row["done"] for row in ask(other, "list")["rows"]], [False, True, False], "also for another")
+        same(ask(one, "a.xml/hello")["drawer"], {"title": "letters", "at": 1, "of": 3, "done": False, "left": 2}, "a document's place")
+        same(ask(one, "a.xml/onward"), {"url": "c.xml"}, "the next that isn't done")
+        same(ask(one, "c.xml/onward"), {"url": "a.xml"}, "and then from the first on")
+        threads = [threading.Thread(target=ask, args=(each, "mark", {"url": url, "done": True})) for each, url in ((one, "a.xml"), (other, "c.xml"))]
+        for thread in threads:
+            thread.start()
+        for thread in threads:
+            thread.join()
+        with open(folder.path + ".pvtag", encoding="utf-8") as file:
+            same(json.load(file), {"done": ["a.xml", "b.xml", "c.xml"]}, "two at once")
+        same(ask(one, "c.xml/onward"), {"url": None}, "all others are done")
+        same(ask(one, "b.xml/mark", {"done": False}), {"done": False}, "not any more, from the document's page")
+        same([row["done"] for row in ask(one, "list")["rows"]], [True, False, True], "the list")
+        need("isn't in the folder" in ask(one, "mark", {"url": "x.xml", "done": True})["trouble"], "what isn't there")
+        for bad in ("x", "[]", '{"done": 5}'):
+            with open(folder.path + ".pvtag", "w", encoding="utf-8") as file:
+                file.write(bad)
+            need("move it away" in ask(one, "list")["trouble"], f"a file that holds {bad}")
+            need(isinstance(fault_of(lambda: Marks(folder.path).put("a.xml", True)), Trouble), "isn't written over")
+
+
+def begins_documents(program):
+    """A plain text begins a document, by a click or as the next one; of what can't be one nothing is left."""
+    with Folder(program, {"a.xml": VALID, "b.txt": "Dear <brother>\r\n", "bad.txt": "x\x01"}) as folder:
+        folder.write("latin.txt", "x")
+        with open(os.path.join(folder.path, "latin.txt"), "wb") as file:
+            file.write(b"caf\xe9")
+        drawer = folder.drawer()
+        same(ask(drawer, "a.xml/onward"), {"url": "b.xml"}, "the next is begun")
+        need("Dear &lt;brother>\n" in folder.text("b.xml").replace("&gt;", ">"), folder.text("b.xml"))
+        same([(row["name"], row["is_text"]) for row in ask(drawer, "list")["rows"]], [("a.xml", False), ("b.xml", False), ("bad.txt", True), ("latin.txt", True)], "the list")
+        need("isn't UTF-8" in ask(drawer, "begin", {"url": "latin.txt"})["trouble"], "what isn't UTF-8")
+        need("no character of XML" in ask(drawer, "begin", {"url": "bad.txt"})["trouble"], "what isn't XML")
+        same(ask(drawer, "begin", {"url": "a.xml"}), {"url": "a.xml"}, "what is there is opened")
+        for name in ("latin.xml", "bad.xml", "bad.xml.pvtag"):
+            need(not os.path.exists(os.path.join(folder.path, name)), f"{name} is left")
+
+
+def opens_documents(program):
+    """Each has a session of its own; moves and saves show in the list, and what another has open is told."""
+    with Folder(program, {"a.xml": VALID, "b.xml": VALID, "c.xml": "<letter>"}) as folder, Server(program, None) as server:
+        drawer = folder.drawer()
+        ask(drawer, "a.xml/hello")
+        need("changes" in move(drawer, "a.xml"), "a move")
+        row = rows_of(drawer)[0]
+        same((row["by"], row["moves"], row["verdict"]), ("here", True, "valid"), "it is open, with a move")
+        ask(drawer, "a.xml/save", {"version": ask(drawer, "a.xml/state")["version"]})
+        need("<person>him</person>" in folder.text("a.xml"), "it is saved")
+        same(rows_of(drawer)[0]["moves"], False, "which the list says")
+        need("<" in ask(drawer, "c.xml/hello")["trouble"] or ask(drawer, "c.xml/hello")["closed"], "what can't be opened is told")
+        server.words[4] = os.path.join(folder.path, "b.xml")
+        server.start()
+        server.ask("hello", {"window": "2"})
+        same(ask(drawer, "list")["rows"][1]["by"], "you", "another annotate has it")
+        told = ask(drawer, "b.xml/hello")
+        need(told["closed"] and "already, by another annotate" in told["trouble"], f"which is told: {told}")
+        server.stop()
+        same(ask(drawer, "b.xml/hello")["title"], "b.xml", "and it is opened once that has ended")
+        # The server of another finds it taken then.
+        ran = subprocess.run(server.words, capture_output=True, text=True)
+        need("already, by another annotate" in ran.stderr, f"as another finds: {ran.stderr}")
+        need("<letter" in folder.text("c.xml"), "the other is as it was")
+
+
+def makes_moves_again(program):
+    """A document that was changed outside since is told when it is opened, and its moves can be made again."""
+    with Folder(program, {"a.xml": VALID}) as folder:
+        drawer = folder.drawer()
+        ask(drawer, "a.xml/hello")
+        need("changes" in move(drawer, "a.xml"), "a move")
+        drawer.entry("a.xml").close()
+        same(ask(drawer, "list")["rows"][0]["moves"], True, "its moves are kept")
+        folder.write("a.xml", VALID.replace("Dear", "Dear Anna"))
+        told = ask(drawer, "a.xml/hello")
+        same((told["changed"], told["closed"]), (True, True), "it was changed")
+        need("1 of 1 moves were made again" in ask(drawer, "a.xml/hello", {"again": True})["note"], "they are made again")
+        names = [row.get("name") for row in ask(drawer, "a.xml/state")["tree"]]
+        need("person" in names, f"they are there: {names}")
+
+
+def closes_what_is_left(program):
+    """A document is closed a while after its last window, and opened again with a later version, so that no window takes it for
+    what it knew."""
+    with Folder(program, {"a.xml": VALID}) as folder:
+        drawer = folder.drawer()
+        kept, drawers.LEFT = drawers.LEFT, 0.2
+        try:
+            ask(drawer, "a.xml/hello")
+            version = move(drawer, "a.xml")["version"]
+            entry = drawer.entry("a.xml")
+            ask(drawer, "a.xml/bye")
+            ask(drawer, "a.xml/hello")
+            time.sleep(0.5)
+            need(entry.work is not None, "a window came back")
+            ask(drawer, "a.xml/bye")
+            soon(lambda: entry.work, lambda work: work is None, "it is closed")
+            same(ask(drawer, "list")["rows"][0]["by"], "", "nobody has it")
+            state = ask(drawer, "a.xml/state", {"since": version})
+            need(state["version"] > version and "tree" in state, f"all of it is told anew: {state['version']} after {version}")
+            need("person" in [row.get("name") for row in state["tree"]], "with its moves")
+        finally:
+            drawers.LEFT = kept
+
+
+def refuses_other_names(program):
+    """A path names a document of the list and nothing else."""
+    with Folder(program, {"a.xml": VALID, "b b%2f.xml": VALID}) as folder:
+        with open(os.path.join(folder.kept.name, "out.xml"), "w", encoding="utf-8") as file:
+            file.write(VALID)
+        drawer = folder.drawer()
+        for path in ("../out.xml/", "%2e%2e%2fout.xml/state", "out.xml/state", "/a.xml/state", "a.txt/", "a.xml%00/", "%ff/", "a.xml.pvtag/state", "notes/"):
+            fault = fault_of(lambda: drawer.at(path))
+            need(isinstance(fault, Refusal) and fault.status == 404, f"{path}: {fault!r}")
+        need(not drawer.at("a.xml/list")[0].has("list") and not drawer.at("x")[0].has("state"), "requests of the other page")
+        same(ask(drawer, f"{address_of('b b%2f.xml')}/hello")["title"], "b b%2f.xml", "a name with signs")
+        for what in ([], {"url": 5}, {}, "x"):
+            fault = fault_of(lambda: drawer.answer("mark", what))
+            need(isinstance(fault, Refusal) and fault.status == 400 or fault is None, f"{what}: {fault!r}")
+    with Server(program, None) as server:
+        os.mkdir(server.path("letters"))
+        server.write(VALID, "letters/a.xml")
+        server.words[4] = server.path("letters")
+        server.start()
+        page = f"/{server.token}/"
+        same([server.request("GET", page + path)[0] for path in ("", "drawer.js", "a.xml/", "a.xml/main.js", "b.xml/", "a.xml/none.js", "..%2f/")],
+             [200, 200, 200, 200, 404, 404, 404], "its pages")
+        need(b"drawer.js" in server.request("GET", page)[1] and b"main.js" in server.request("GET", page + "a.xml/")[1], "the list, and a document")
+        server.ask("a.xml/hello", {"window": "1"})
+        server.ask("state", status=404)
+        same(server.stop(), (0, ""), "Ctrl-C")
+        same(sorted(os.listdir(server.path("letters"))), ["a.xml"], "what wasn't changed leaves no files")
+        for more in (["--again"], ["--from", LETTER]):
+            ran = subprocess.run([*server.words, *more], capture_output=True, text=True)
+            need(ran.returncode == 1 and "is a folder, and --from and --again are about one document" in ran.stderr, f"{more}: {ran.stderr}")
+
+
+CASES = [lists_documents, judges_again, keeps_what_is_done, begins_documents, opens_documents, makes_moves_again, closes_what_is_left, refuses_other_names]
+
+
+def main():
+    program = os.path.abspath(sys.argv[1])
+    wanted = [case for case in CASES if not sys.argv[2:] or case.__name__ in sys.argv[2:]]
+    return run_cases("a drawer of documents", [functools.update_wrapper(functools.partial(case, program), case) for case in wanted])
+
+
+if __name__ == "__main__":
+    sys.exit(main())
