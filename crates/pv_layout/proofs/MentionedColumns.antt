@@ -1,7 +1,6 @@
 -- Columns that rules mention, and those that are told to mention them.
 use Rattle.std.proofs.Common.{List, None, Some, [], ap, arith, false, get_or, inl, inr, length, slice_get, suc, true, zero, ℕ, ◌+◌, ◌-◌, ◌<◌, ◌∷◌, ◌≡◌, ◌≢◌, ◌≤◌, ◌⊎◌}
 use Rattle.std.proofs.Math.Logic.{∥∥₁_elim}
-use Rattle.std.proofs.lemmas.Bool.{cases_lt}
 use Rattle.std.proofs.lemmas.List.Edits.{get_or-between, length-between}
 use Rattle.std.proofs.lemmas.Option.{get_or_from_slice_get, slice_get-get_or, slice_get_within}
 use Rattle.std.specs.List.{between}
@@ -101,11 +100,4 @@ pub told_one : (f : List PlainForm) (m : Mentions) (c d : ℕ) (above : List ℕ
 told_one f m c d above h some o l each = elim (one_or_not c above) [
   | inl q ↦ q
   | inr none ↦ absurd (∥∥₁_elim h (λ a b. absurd a) (λ t. none (each c (t some c d o l))))
-]
-
--- what stands before the end
-pub before_none : (xs : List ℕ) (p k d : ℕ) → slice_get xs p ≡ None → slice_get xs k ≡ Some d → k < p
-before_none xs p k d e f = elim (cases_lt k p) [
-  | inl lt ↦ lt
-  | inr le ↦ absurd (let l = slice_get_within xs k d f in let g = slice_get-get_or xs p 0 (omega arith) in cc)
 ]

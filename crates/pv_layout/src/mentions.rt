@@ -63,6 +63,22 @@ pub fn mentioned(form: &Form, place: usize) -> Option<u32>
     }
 }
 
+/// How many columns are mentioned.
+fn mention_count(form: &Form) -> usize
+    ensures { result ≡ length (columns_mentioned (plain_form form.now)) }
+{
+    match form {
+        Form::Never => 0,
+        Form::Element(_, _) => 1,
+        Form::Nothing => 0,
+        Form::OneOf(members) => members.len(),
+        Form::Opt(_) => 1,
+        Form::Star(_, _) => 1,
+        Form::Plus(_) => 1,
+        Form::Then(_, _) => 2,
+    }
+}
+
 /// Counts one more at a number.
 fn count(counts: &mut [u32], number: u32) {
     let place = number as usize;
@@ -73,11 +89,10 @@ fn count(counts: &mut [u32], number: u32) {
 
 /// Counts each column that is mentioned.
 fn count_mentioned(form: &Form, counts: &mut [u32]) {
-    for place in 0..usize::MAX {
-        let Some(column) = mentioned(form, place) else {
-            break;
-        };
-        count(counts, column);
+    for place in 0..mention_count(form) {
+        if let Some(column) = mentioned(form, place) {
+            count(counts, column);
+        }
     }
 }
 
@@ -130,13 +145,12 @@ fn put_mentioned(
     places: &mut [u32],
 ) {
     let mut last = 0;
-    for place in 0..usize::MAX {
-        let Some(column) = mentioned(form, place) else {
-            break;
-        };
-        let at = put(number, column, starts, above);
-        put_place(last, at, places);
-        last = u32::saturating_add(last, 1);
+    for place in 0..mention_count(form) {
+        if let Some(column) = mentioned(form, place) {
+            let at = put(number, column, starts, above);
+            put_place(last, at, places);
+            last = u32::saturating_add(last, 1);
+        }
     }
 }
 
@@ -264,15 +278,14 @@ fn tells_form(mentions: &Mentions, form: &Form, number: u32, ends: &mut [u32]) -
     ensures { IsTrue result → (d : ℕ) → IsOneOf d (columns_mentioned (plain_form form.now)) →
         d < length ends.old → IsMentionTold mentions.now d number }
 {
-    for place in 0..usize::MAX {
-        let Some(column) = mentioned(form, place) else {
-            return true;
-        };
-        if !is_next(mentions, column, number, ends) {
-            return false;
+    for place in 0..mention_count(form) {
+        if let Some(column) = mentioned(form, place) {
+            if !is_next(mentions, column, number, ends) {
+                return false;
+            }
         }
     }
-    false
+    true
 }
 
 /// Whether all mentions of all columns are told.
