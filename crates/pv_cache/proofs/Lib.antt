@@ -34,4 +34,5 @@ pub mod Laid
 pub mod StampMoves
 pub mod LaidLevels
 pub mod NoBad
+pub mod MarkedWalks
 pub mod ToldRows

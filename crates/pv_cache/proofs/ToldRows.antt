@@ -234,23 +234,3 @@ module _ (g : PlainDtd) (root : List ℕ) (doc : PlainDoc Mark)
         (verdicts_to stamp_of doc g root (verdicts_told doc) (doc-told g root doc w)));
     stamps = ap (λ ns. stamp_of doc.mark ∷ ns) (stamps_at (0 ∷ []) doc.root);
   })
-
--- ---- rows of nodes side by side, one after the other
-pub more_rows : (path : List ℕ) (i : ℕ) (ks rest : Forest Mark) (t : Tree Mark)
-    (rows now : List VerdictRow) → ks ≡ tree t rest → now ≡ rows ++ rows_at (path ++ i ∷ []) t →
-    now ++ rows_from path (suc i) rest ≡ rows ++ rows_from path i ks
-more_rows path i ks rest t rows now e h =
-    rw (e, h) (append_assoc rows (rows_at (path ++ i ∷ []) t) (rows_from path (suc i) rest))
-
-pub one_more : (path : List ℕ) (i : ℕ) (ks rest : Forest Mark) (t : Tree Mark)
-    (rows now : List VerdictRow) → ks ≡ tree t rest → now ≡ rows ++ rows_at (path ++ i ∷ []) t →
-    now ++ rows_from path (i + 1) rest ≡ rows ++ rows_from path i ks
-one_more path i ks rest t rows now e h =
-    let n : i + 1 ≡ suc i = omega arith in rw n (more_rows path i ks rest t rows now e h)
-
--- ---- and verdicts
-pub more_verdicts : (ks rest : Forest Mark) (t : Tree Mark) (vs now : List Verdict) →
-    ks ≡ tree t rest → now ≡ vs ++ told_verdicts t →
-    now ++ told_verdicts_in rest ≡ vs ++ told_verdicts_in ks
-more_verdicts ks rest t vs now e h =
-    rw (e, h) (append_assoc vs (told_verdicts t) (told_verdicts_in rest))
