@@ -8,4 +8,4 @@ abbrev pub load_of : Load → PlainLoad
 load_of l = record { used = l.used; total = l.total }
 
 abbrev pub made_of : Made → PlainMade
-made_of m = record { used = m.load.used; tables = m.tables.items; room = m.room }
+made_of m = record { used = m.used; tables = m.tables.items; room = m.room }

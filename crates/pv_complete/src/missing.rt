@@ -4,6 +4,7 @@ pub mod known;
 pub mod lists;
 pub mod load;
 pub mod needing;
+pub mod owners;
 pub mod remembering;
 pub mod weighing;
 pub mod widths;

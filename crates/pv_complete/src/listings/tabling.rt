@@ -4,11 +4,10 @@ ghost use Rattle.std.specs.Prelude.{◌≡◌, ◌≤◌, ◌<◌, ◌∷◌, []
 ghost use Rattle.std.specs.Prelude.{length, map};
 ghost use Rattle.pv_model.specs.PlainForms.{plain_token};
 ghost use Rattle.pv_productive.specs.PlainForms.{dtd_of};
-ghost use Rattle.pv_tree.specs.Legal.{MAX_NODES};
-ghost use Rattle.pv_tree.specs.Lists.{Listed, lists_at, lists_from, lists_of};
-ghost use Rattle.pv_tree.specs.Plain.{nodes_in, nodes_in_all};
+ghost use Rattle.pv_tree.specs.Lists.{Listed, lists_of};
 ghost use Rattle.pv_tree.specs.PlainDocs.{plain_doc};
-ghost use Rattle.pv_tree.specs.PlainForms.{plain, forest};
+ghost use Rattle.pv_tree.specs.PlainForms.{forest};
+ghost use Rattle.pv_tree.specs.Walking.{path_come_to};
 ghost use Rattle.pv_tree.specs.Words.{word_of};
 ghost use Rattle.pv_tree.specs.declared.nodes.Mark.{Mark};
 ghost use Rattle.pv_missing.specs.LiveWords.{AreProductiveTokens};
@@ -24,10 +23,12 @@ use crate::errors::NeedError;
 use crate::listings::entries::entries_of;
 use crate::listings::made::Made;
 use crate::missing::known::KnownWeights;
-use pv_missing::{Of, Verdicts, element_owner, live_word, root_owner};
+use crate::missing::load::next_is_possible;
+use crate::missing::owners::owner_in;
+use pv_missing::{Of, Verdicts, live_word};
 use pv_model::Token;
 use pv_span::{ColumnLayout, Entry, ListOwner, SpanError, is_known_owner, weights_by};
-use pv_tree::{Doc, Node, Path};
+use pv_tree::{Doc, Lists, Node, Path};
 use std::alloc::Global;
 
 /// All entries of a word of productive names, by its owner and the places of its list, if there are
@@ -108,11 +109,12 @@ fn kids_entries(
     known_entries(alloc, owner, live.as_slice(), known, places, room)
 }
 
-/// Adds the table of the list of these kids where it is Possible.
+/// Adds the table of the list of these kids, which a walk came to last, where it is Possible.
 fn table_list(
     alloc: Global,
     layout: &ColumnLayout<'_>,
     owner: Option<Of>,
+    lists: &Lists<'_>,
     kids: &[Node],
     verdicts: &Verdicts,
     known: &KnownWeights,
@@ -120,18 +122,17 @@ fn table_list(
 ) -> Result<(), NeedError>
     requires { AreKnown (dtd_of layout.now.grammar.now) known.now }
     ensures tabled { OnOk result ((root : List ℕ) (list : Listed Mark) →
-        list.kids ≡ forest kids.now →
-        list.path ≡ made.old.load.places.items → IsOwner (dtd_of layout.now.grammar.now) root list
-        owner → MakesTables (dtd_of layout.now.grammar.now) root (list ∷ []) verdicts.now.verdicts
+        list.kids ≡ forest kids.now → list.path ≡ path_come_to lists.now →
+        IsOwner (dtd_of layout.now.grammar.now) root list owner →
+        MakesTables (dtd_of layout.now.grammar.now) root (list ∷ []) verdicts.now.verdicts
         (made_of made.old) (made_of made.new)) }
     ensures refused { IfErr result (λ e. (root : List ℕ) (list : Listed Mark) →
-        list.kids ≡ forest kids.now →
-        list.path ≡ made.old.load.places.items → IsOwner (dtd_of layout.now.grammar.now) root list
-        owner → StopsTables (dtd_of layout.now.grammar.now) root (list ∷ [])
+        list.kids ≡ forest kids.now → list.path ≡ path_come_to lists.now →
+        IsOwner (dtd_of layout.now.grammar.now) root list owner →
+        StopsTables (dtd_of layout.now.grammar.now) root (list ∷ [])
         verdicts.now.verdicts (made_of made.old) e) }
-    ensures places { made.new.load.places ≡ made.old.load.places }
 {
-    if !made.load.takes_possible(verdicts) {
+    if !next_is_possible(verdicts, &mut made.used) {
         return Ok(());
     }
     let Some(of) = owner else {
@@ -141,71 +142,9 @@ fn table_list(
         return Ok(());
     }
     let owner = ListOwner { layout, of };
-    let entries = kids_entries(alloc, &owner, kids, known, &made.load.places, made.room)?;
-    made.add(alloc, entries)?;
-    Ok(())
-}
-
-/// Adds the tables of the Possible lists of this subtree. The places are those of its node.
-#[cycle(table)]
-fn table_node(
-    alloc: Global,
-    layout: &ColumnLayout<'_>,
-    node: &Node,
-    verdicts: &Verdicts,
-    known: &KnownWeights,
-    made: &mut Made,
-) -> Result<(), NeedError>
-    requires known { AreKnown (dtd_of layout.now.grammar.now) known.now }
-    requires few { nodes_in (plain node.now) ≤ MAX_NODES }
-    ensures tabled { OnOk result ((root : List ℕ) → MakesTables (dtd_of layout.now.grammar.now) root
-        (lists_at made.old.load.places.items (plain node.now))
-        verdicts.now.verdicts
-        (made_of made.old) (made_of made.new)) }
-    ensures refused { IfErr result (λ e. (root : List ℕ) → StopsTables
-        (dtd_of layout.now.grammar.now) root (lists_at made.old.load.places.items (plain node.now))
-        verdicts.now.verdicts (made_of made.old) e) }
-    ensures places { OnOk result (made.new.load.places.items ≡ made.old.load.places.items) }
-{
-    match node {
-        Node::Elem { name, kids, .. } => {
-            let owner = element_owner(layout.grammar.dtd(), name.as_slice());
-            table_list(alloc, layout, owner, kids, verdicts, known, made)?;
-            table_kids(alloc, layout, kids, verdicts, known, made)
-        }
-        Node::Text(_) => Ok(()),
-        Node::Cdata(_) => Ok(()),
-        Node::Misc(_) => Ok(()),
-    }
-}
-
-/// Adds the tables of the Possible lists of nodes side by side. The places are those of their list.
-#[cycle(table)]
-fn table_kids(
-    alloc: Global,
-    layout: &ColumnLayout<'_>,
-    kids: &[Node],
-    verdicts: &Verdicts,
-    known: &KnownWeights,
-    made: &mut Made,
-) -> Result<(), NeedError>
-    requires known { AreKnown (dtd_of layout.now.grammar.now) known.now }
-    requires few { nodes_in_all (forest kids.now) ≤ MAX_NODES }
-    ensures tabled { OnOk result ((root : List ℕ) → MakesTables (dtd_of layout.now.grammar.now) root
-        (lists_from made.old.load.places.items 0 (forest kids.now))
-        verdicts.now.verdicts
-        (made_of made.old) (made_of made.new)) }
-    ensures refused { IfErr result (λ e. (root : List ℕ) → StopsTables
-        (dtd_of layout.now.grammar.now) root
-        (lists_from made.old.load.places.items 0 (forest kids.now))
-        verdicts.now.verdicts (made_of made.old) e) }
-    ensures places { OnOk result (made.new.load.places.items ≡ made.old.load.places.items) }
-{
-    for (i, kid) in kids.iter().enumerate() {
-        made.load.enter(i as u32)?;
-        table_node(alloc, layout, kid, verdicts, known, made)?;
-        made.load.places.pop();
-    }
+    let path = lists.path(alloc)?;
+    let entries = kids_entries(alloc, &owner, kids, known, path.places(), made.room)?;
+    made.add(path, entries)?;
     Ok(())
 }
 
@@ -219,17 +158,19 @@ pub fn table_doc(
     known: &KnownWeights,
     made: &mut Made,
 ) -> Result<(), NeedError>
-    requires known { AreKnown (dtd_of layout.now.grammar.now) known.now }
-    requires places { made.old.load.places.items ≡ [] }
+    requires { AreKnown (dtd_of layout.now.grammar.now) known.now }
     ensures tabled { OnOk result (MakesTables (dtd_of layout.now.grammar.now) root.now
         (lists_of (plain_doc doc.now)) verdicts.now.verdicts
         (made_of made.old) (made_of made.new)) }
     ensures refused { IfErr result (StopsTables (dtd_of layout.now.grammar.now) root.now
         (lists_of (plain_doc doc.now)) verdicts.now.verdicts (made_of made.old)) }
 {
-    let owner = root_owner(layout.grammar.dtd(), root);
-    let kids = std::slice::from_ref(&doc.root);
-    table_list(alloc, layout, owner, kids, verdicts, known, made)?;
-    made.load.enter(0)?;
-    table_node(alloc, layout, &doc.root, verdicts, known, made)
+    let mut lists = Lists::of(alloc, doc);
+    while let Some(list) = lists.next()? {
+        let owner = owner_in(layout.grammar, root, list.owner);
+        table_list(
+            alloc, layout, owner, &lists, list.kids, verdicts, known, made,
+        )?;
+    }
+    Ok(())
 }

@@ -5,11 +5,9 @@ ghost use Rattle.pv_missing.specs.Verdicts.{is_possible};
 ghost use Rattle.pv_rules.specs.Derivations.{heaviest};
 ghost use Rattle.pv_complete.specs.Loads.{UsesVerdict};
 
-use pv_chars::NoMemory;
 use pv_missing::Verdicts;
 use pv_rules::HEAVIEST;
 use pv_tree::Verdict;
-use std::alloc::Global;
 
 fn is_possible(verdict: Verdict) -> bool
     ensures { result ≡ is_possible verdict }
@@ -34,49 +32,31 @@ pub fn next_is_possible(verdicts: &Verdicts, used: &mut u64) -> bool
     is_possible(verdict)
 }
 
-/// The number of verdicts that are used, the sum of the weights so far, cut, and the places of the
-/// node that is next.
+/// The number of verdicts that are used, and the sum of the weights so far, cut.
 #[derive(Drop)]
 pub struct Load {
     pub used: u64,
     pub total: u32,
-    pub places: Vec<u32>,
     ghost bounded: { total ≤ heaviest },
 }
 
 impl Load {
-    ghost use Rattle.std.specs.Prelude.{◌≡◌, ◌+◌, ◌++◌, ◌∷◌, [], OnOk, min};
+    ghost use Rattle.std.specs.Prelude.{◌≡◌, ◌+◌, min};
 
-    /// No list so far, and the next is that of the document node.
-    pub fn new(alloc: Global) -> Load
+    /// No list so far.
+    pub fn new() -> Load
         ensures used { result.used ≡ 0 }
         ensures total { result.total ≡ 0 }
-        ensures places { result.places.items ≡ [] }
     {
-        Load {
-            used: 0,
-            total: 0,
-            places: Vec::new(alloc),
-        }
+        Load { used: 0, total: 0 }
     }
 
     /// Uses the verdict that is next, if there is one, and tells whether it is Possible.
     pub fn takes_possible(&mut self, verdicts: &Verdicts) -> bool
         ensures taken { UsesVerdict verdicts.now.verdicts self.old.used self.new.used result }
         ensures total { self.new.total ≡ self.old.total }
-        ensures places { self.new.places ≡ self.old.places }
     {
         next_is_possible(verdicts, &mut self.used)
-    }
-
-    /// Goes down to the node at a place of the list at hand.
-    pub fn enter(&mut self, place: u32) -> Result<(), NoMemory>
-        ensures used { self.new.used ≡ self.old.used }
-        ensures total { self.new.total ≡ self.old.total }
-        ensures places { OnOk result (self.new.places.items ≡ self.old.places.items ++ place ∷ []) }
-    {
-        self.places.push(place)?;
-        Ok(())
     }
 
     /// Adds the weight of a list.
@@ -84,7 +64,6 @@ impl Load {
         requires { weight ≤ heaviest }
         ensures used { self.new.used ≡ self.old.used }
         ensures total { self.new.total ≡ min heaviest (self.old.total + weight) }
-        ensures places { self.new.places ≡ self.old.places }
     {
         self.total = (self.total + weight).min(HEAVIEST);
     }

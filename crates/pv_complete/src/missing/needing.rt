@@ -9,7 +9,8 @@ ghost use Rattle.pv_complete.specs.Needing.{AreLiveVerdicts, HasCause, Needs, We
 use crate::errors::NeedError;
 use crate::missing::known::KnownWeights;
 use crate::missing::load::Load;
-use crate::missing::weighing::weigh_doc;
+use crate::missing::owners::owner_in;
+use crate::missing::weighing::weigh_list;
 use crate::missing::widths::first_wide_list;
 use pv_dtd::laws::proper_dtd_law;
 use pv_fresh::{PossibleError, possible_verdicts};
@@ -19,7 +20,7 @@ use pv_productive::Grammar;
 use pv_rules::HEAVIEST;
 use pv_span::{ColumnLayout, SpanError};
 use pv_tables::laws::possible_weights_law;
-use pv_tree::{Doc, Mark, Path};
+use pv_tree::{Doc, Lists, Mark};
 use std::alloc::Global;
 
 /// The verdicts of the lists of a document that isn't impossible.
@@ -66,12 +67,17 @@ fn total_weight(
     if let Some(path) = first_wide_list(alloc, layout.grammar.dtd(), doc, verdicts)? {
         return Err(NeedError::TooWide(path));
     }
-    let mut load = Load::new(alloc);
-    match weigh_doc(alloc, layout, root, doc, verdicts, known, &mut load) {
-        Ok(()) => Ok(load.total),
-        Err(SpanError::TooWide) => Err(NeedError::TooWide(Path::new(alloc, &load.places)?)),
-        Err(SpanError::NoMemory) => Err(NeedError::NoMemory),
+    let mut load = Load::new();
+    let mut lists = Lists::of(alloc, doc);
+    while let Some(list) = lists.next()? {
+        let owner = owner_in(layout.grammar, root, list.owner);
+        match weigh_list(alloc, layout, owner, list.kids, verdicts, known, &mut load) {
+            Ok(()) => {}
+            Err(SpanError::TooWide) => return Err(NeedError::TooWide(lists.path(alloc)?)),
+            Err(SpanError::NoMemory) => return Err(NeedError::NoMemory),
+        }
     }
+    Ok(load.total)
 }
 
 /// The least number of elements whose insertion makes a document valid, under a grammar that is
