@@ -1,4 +1,5 @@
 -- of this crate:
+pub mod ChainsLeft
 pub mod Alone
 pub mod Cells
 pub mod FewColumns

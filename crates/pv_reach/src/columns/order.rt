@@ -33,10 +33,7 @@ fn lefts_of(alloc: Global, rules: &[ColumnRule]) -> Result<Vec<usize>, AllocErro
 /// Appends the numbers of a chain.
 fn push_chain(chains: &Chains, key: usize, numbers: &mut Vec<usize>) -> Result<(), AllocError> {
     let mut next = chains.first(key);
-    for _ in 0..u64::MAX {
-        let Some(number) = next else {
-            break;
-        };
+    while let Some(number) = next {
         numbers.push(number)?;
         next = chains.next(number);
     }

@@ -1,5 +1,7 @@
 //! Numbers chained by a key.
 
+ghost use Rattle.std.specs.Prelude.{◌<◌, IfSome, length};
+
 use std::alloc::{AllocError, Global};
 
 /// The numbers of a list of keys, chained by key: the first of each key, and the next one after
@@ -34,12 +36,11 @@ impl Chains {
         }
     }
 
-    /// The next number of the same key.
-    pub fn next(&self, number: usize) -> Option<usize> {
-        if number < self.next.len() {
-            self.next[number]
-        } else {
-            None
-        }
+    /// The next number of the same key, which is greater.
+    pub fn next(&self, number: usize) -> Option<usize>
+        ensures { IfSome result (λ next. (number < next) × (number < length self.now.next.items)) }
+    {
+        let next = self.next.get(number).copied()??;
+        if number < next { Some(next) } else { None }
     }
 }

@@ -95,10 +95,7 @@ fn come_from(
     ensures long { OnOk result (length sweep.new.table.items ≡ length sweep.old.table.items) }
 {
     let mut next = chains.first(column);
-    for _ in 0..u64::MAX {
-        let Some(number) = next else {
-            break;
-        };
+    while let Some(number) = next {
         next = chains.next(number);
         if number < edges.len() {
             come_along(edges, groups, number, sweep)?;
@@ -107,28 +104,26 @@ fn come_from(
     Ok(())
 }
 
-/// Sweeps on from the columns that it has come to, from place `at` of their order on.
+/// Sweeps on from the columns that it has come to, from place `first` of their order on. It comes to
+/// each column once.
 fn go_on(
     edges: &[Edge],
     chains: &Chains,
     groups: &[usize],
-    at: usize,
+    first: usize,
     sweep: &mut Sweep,
-) -> Result<usize, AllocError>
+) -> Result<(), AllocError>
     requires led { AreLed edges.now sweep.old.table.items }
     ensures led { OnOk result (AreLed edges.now sweep.new.table.items) }
     ensures long { OnOk result (length sweep.new.table.items ≡ length sweep.old.table.items) }
 {
-    let mut at = at;
-    for _ in 0..u64::MAX {
-        if at >= sweep.columns.len() {
+    for at in first..sweep.seen.len() {
+        let Some(column) = sweep.columns.get(at).copied() else {
             break;
-        }
-        let column = sweep.columns[at];
-        at += 1;
+        };
         come_from(edges, chains, groups, column, sweep)?;
     }
-    Ok(at)
+    Ok(())
 }
 
 /// Sweeps from these columns, each where no earlier one was led to it, against the edges; but only
@@ -149,10 +144,10 @@ pub fn sweep_from(
         seen: vec![in alloc; false; width]?,
         columns: Vec::new(alloc),
     };
-    let mut at = 0;
     for column in columns {
+        let first = sweep.columns.len();
         come_to(*column, &mut sweep)?;
-        at = go_on(edges, chains, groups, at, &mut sweep)?;
+        go_on(edges, chains, groups, first, &mut sweep)?;
     }
     Ok(sweep)
 }

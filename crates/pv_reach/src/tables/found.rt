@@ -102,7 +102,7 @@ impl FoundColumns {
 pub fn find_needed(plan: &Plan, column: usize, found: &mut FoundColumns) -> Result<(), AllocError> {
     found.names.clear();
     found.find(column)?;
-    for at in 0..usize::MAX {
+    for at in 0..found.numbers.len() {
         let Some(column) = found.names.get(at).copied() else {
             break;
         };
