@@ -1,6 +1,6 @@
 -- What the marks of a well marked document tell of each list.
-use Rattle.std.proofs.Common.{List, None, Option, Some, [], ap, arith, append_assoc, map, refl}
-use Rattle.std.proofs.Common.{subst, suc, sym, zero, ℕ, ◌+◌, ◌++◌, ◌∙◌, ◌∷◌, ◌≡◌}
+use Rattle.std.proofs.Common.{List, None, Option, Some, [], ap, map, refl}
+use Rattle.std.proofs.Common.{subst, suc, sym, zero, ℕ, ◌++◌, ◌∙◌, ◌∷◌, ◌≡◌}
 use Rattle.std.proofs.Math.Logic.{∥∥₁_map}
 use Rattle.std.proofs.lemmas.List.{map-append}
 use Rattle.std.specs.Option.{MatchOption, option_map}
