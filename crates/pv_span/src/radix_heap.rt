@@ -103,6 +103,11 @@ impl RadixHeap {
         self.first = 0;
     }
 
+    /// How many entries are in the buckets.
+    pub fn len(&self) -> usize {
+        self.held
+    }
+
     /// Puts an entry in the bucket of its column's value.
     fn link(&mut self, number: u32, value: u32) {
         let place = number as usize;
@@ -138,7 +143,7 @@ impl RadixHeap {
     fn least_on(&self, bucket: usize, taken: u32, values: &[u32]) -> u32 {
         let mut least = NO_SIZE;
         let mut number = first_on(&self.buckets, bucket);
-        for _ in 0..u64::MAX {
+        for _ in 0..self.entries.len() {
             let Some(entry) = self.entry(number) else {
                 break;
             };
@@ -155,7 +160,7 @@ impl RadixHeap {
     /// than a value were taken before.
     fn sort_from(&mut self, first: u32, taken: u32, values: &[u32]) {
         let mut number = first;
-        for _ in 0..u64::MAX {
+        for _ in 0..self.entries.len() {
             let Some(entry) = self.entry(number) else {
                 break;
             };

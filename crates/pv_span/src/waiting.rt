@@ -72,7 +72,7 @@ impl Waiting {
         ensures rest { (d : ℕ) → Waits self.old d → (result ≡ Some d) ⊎ Waits self.new d }
         ensures long { length self.new.flags.items ≡ length self.old.flags.items }
     {
-        for _ in 0..u64::MAX {
+        for _ in 0..self.fallen.len() {
             let column = self.fallen.pop(values)?;
             if self.take(column) {
                 return Some(column);
