@@ -5,6 +5,7 @@ ghost use Rattle.pv_params.specs.Meaning.{Expansion, Expands, expanded, faulty};
 ghost use Rattle.pv_params.specs.ItemReading.{front_of};
 ghost use Rattle.pv_params.specs.Spelling.{IsBehindTextDecl, HasHead};
 ghost use Rattle.pv_params.specs.Laws.{HasNothingToExpand};
+ghost use Rattle.pv_params.specs.OpenTexts.{LeadToExpansion, plain_so_far, stacked};
 ghost use Rattle.pv_params.specs.Answers.{Tells, Answers};
 
 use crate::entities::Entities;
@@ -15,6 +16,7 @@ use crate::open_texts::OpenText;
 use crate::reading::TextStack;
 use crate::state::{State, TextEnding};
 use crate::text_mode::TextMode;
+use pv_chars::NoMemory;
 use pv_chars::declarations::after_text_decl;
 use pv_chars::delimiters::{up_to, up_to_byte};
 use pv_chars::scan::after_byte_order_mark;
@@ -37,11 +39,13 @@ fn after_head(bytes: &[u8]) -> &[u8]
     after_declaration(after_byte_order_mark(bytes))
 }
 
-fn expanded_file(alloc: Global, bytes: &[u8]) -> Result<Vec<u8>, ParamError>
-    ensures read { IfOk result (λ text. Expands bytes.now (expanded text.items)) }
-    ensures refused { IfErr result (Tells (λ fault. Expands bytes.now (faulty fault))) }
+// The file, of which nothing is read yet but its head.
+fn open_file(alloc: Global, bytes: &[u8]) -> Result<TextStack, NoMemory>
+    ensures { IfOk result (λ reading. LeadToExpansion bytes.now (stacked reading.texts.items)
+        reading.names (plain_so_far reading.so_far)) }
 {
     let rest = after_head(bytes);
+    let result = Vec::from_slice(alloc, before(bytes, rest))?;
     let file = OpenText {
         mode: TextMode::File(false),
         of_entity: false,
@@ -51,16 +55,23 @@ fn expanded_file(alloc: Global, bytes: &[u8]) -> Result<Vec<u8>, ParamError>
     };
     let mut texts = Vec::new(alloc);
     texts.push(file)?;
-    let mut reading = TextStack {
+    Ok(TextStack {
         texts,
         names: NamesBeingRead::new(alloc),
         so_far: State {
             declared: Entities::new(alloc),
             references: 0,
             placed: 0,
-            result: Vec::from_slice(alloc, before(bytes, rest))?,
+            result,
         },
-    };
+    })
+}
+
+fn expanded_file(alloc: Global, bytes: &[u8]) -> Result<Vec<u8>, ParamError>
+    ensures read { IfOk result (λ text. Expands bytes.now (expanded text.items)) }
+    ensures refused { IfErr result (Tells (λ fault. Expands bytes.now (faulty fault))) }
+{
+    let mut reading = open_file(alloc, bytes)?;
     'steps: while reading.step(alloc)? {}
     let TextStack {
         texts: _,
