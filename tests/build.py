@@ -348,6 +348,8 @@ def try_order(trial: Trial) -> None:
     trial.forget()
     told = trial.run("tools/build", TAKES="2", CI="true")
     trial.expect("from nothing", told[0] == 0 and trial.count() == 1, told)
+    first = re.match(r"pvtag: (\d+) crates are proved and built first, in about [1-9]\d* minutes if none is kept\n", told[2])
+    trial.expect("it says about how long it takes", first is not None and int(first[1]) == len(needs("pvtag")), told)
     begins, ends = by_name(trial, "begins"), by_name(trial, "ends")
     crates, notes, runs = needs("pvtag"), trial.notes(), trial.runs()
     proved = sorted(note.crate for note in notes if note.what == "ends")
