@@ -1,12 +1,14 @@
 //! What an edit is going to do: its change and its inverse, made before the tree is touched.
 
-ghost use Rattle.std.specs.Prelude.{◌≡◌, ◌<◌, ◌+◌, [], false, IfOk, IsTrue, length};
-ghost use Rattle.pv_tree.specs.Plain.{element, is_element, no_trees, short};
+ghost use Rattle.std.specs.Prelude.{◌≡◌, ◌<◌, ◌+◌, ◌∷◌, [], false, IfOk, IsTrue, length};
+ghost use Rattle.pv_tree.specs.Plain.{element, is_element, no_trees, short, tagged};
 ghost use Rattle.pv_tree.specs.Places.{at_node, kids_of, spot_at};
 ghost use Rattle.pv_tree.specs.PlainDocs.{plain_doc};
 ghost use Rattle.pv_tree.specs.PlainForms.{plain};
 ghost use Rattle.pv_tree.specs.Marks.{blank_mark};
-ghost use Rattle.pv_edit.specs.Effects.{parent_of, kid_place};
+ghost use Rattle.pv_edit.specs.Changes.{around, named, others};
+ghost use Rattle.pv_edit.specs.Effects.{fill, fill_node, parent_of, kid_place};
+ghost use Rattle.pv_edit.specs.Fitting.{plain_task};
 ghost use Rattle.pv_edit.specs.Inverses.{put_back};
 ghost use Rattle.pv_edit.specs.Reasons.{lacks_element, reason_of};
 ghost use Rattle.pv_edit.specs.Preparations.{IsPreparation};
@@ -17,7 +19,7 @@ use crate::filling::{Filling, kid_count};
 use crate::inverses::Inverse;
 use crate::places::parent_of;
 use crate::tasks::{
-    Preparation, ends_short, equal_end, kid_path, last_place, list_task, node_task, one_node,
+    Preparation, Task, ends_short, equal_end, kid_path, last_place, list_task, node_task, one_node,
 };
 use crate::text_preparations::{
     prepare_add_text, prepare_del_text, prepare_join, prepare_set_text, prepare_split,
@@ -66,17 +68,27 @@ fn prepare_wrap(
     ensures { IfOk result (IsPreparation (plain_doc doc.now).root
         (edit.Wrap path.now from to name.now)) }
 {
+    let kid = kid_path(alloc, path, from)?;
+    let task = wrap_task(alloc, path, from, to, name)?;
+    let inverse = Inverse::TakeOut {
+        path: kid,
+        short: ends_short(doc, path),
+    };
+    Ok(Preparation { task, inverse })
+}
+
+// What puts an element of this name around kids of the list at a path.
+fn wrap_task(alloc: Global, path: &Path, from: u32, to: u32, name: &[u8]) -> Result<Task, NoMemory>
+    ensures { IfOk result (λ task. plain_task task
+        ≡ fill path.now from to (around name.now [] (tagged []) blank_mark)) }
+{
+    let list = path_of(alloc, path)?;
     let filling = Filling::Around {
         name: bytes_of(alloc, name)?,
         attrs: List::of(Vec::new(alloc)),
         end: End::Tagged(List::of(Vec::new(alloc))),
     };
-    let inverse = Inverse::TakeOut {
-        path: kid_path(alloc, path, from)?,
-        short: ends_short(doc, path),
-    };
-    let task = list_task(path_of(alloc, path)?, from, to, filling);
-    Ok(Preparation { task, inverse })
+    Ok(list_task(list, from, to, filling))
 }
 
 fn prepare_insert(
@@ -89,13 +101,23 @@ fn prepare_insert(
     ensures { IfOk result (IsPreparation (plain_doc doc.now).root
         (edit.Insert path.now at name.now)) }
 {
-    let filling = one_node(alloc, new_element(alloc, name)?)?;
+    let kid = kid_path(alloc, path, at)?;
+    let task = insert_task(alloc, path, at, name)?;
     let inverse = Inverse::TakeOut {
-        path: kid_path(alloc, path, at)?,
+        path: kid,
         short: ends_short(doc, path),
     };
-    let task = list_task(path_of(alloc, path)?, at, at, filling);
     Ok(Preparation { task, inverse })
+}
+
+// What puts an element of this name into the list at a path.
+fn insert_task(alloc: Global, path: &Path, at: u32, name: &[u8]) -> Result<Task, NoMemory>
+    ensures { IfOk result (λ task. plain_task task
+        ≡ fill path.now at at (others (element name.now [] short no_trees blank_mark ∷ []))) }
+{
+    let list = path_of(alloc, path)?;
+    let filling = one_node(alloc, new_element(alloc, name)?)?;
+    Ok(list_task(list, at, at, filling))
 }
 
 // An element without attributes and kids.
@@ -171,11 +193,20 @@ fn prepare_rename(
     let Some(Found::Inner(Node::Elem { name: old, .. })) = doc.node_at(path) else {
         unreachable!()
     };
+    let path_back = path_of(alloc, path)?;
+    let name_back = bytes_of(alloc, old.as_slice())?;
+    let task = rename_task(alloc, path, name)?;
     let inverse = Inverse::Name {
-        path: path_of(alloc, path)?,
-        name: bytes_of(alloc, old.as_slice())?,
+        path: path_back,
+        name: name_back,
     };
-    let filling = Filling::Named(bytes_of(alloc, name)?);
-    let task = node_task(alloc, path, 1, filling)?;
     Ok(Preparation { task, inverse })
+}
+
+// What gives the element at a path this name.
+fn rename_task(alloc: Global, path: &Path, name: &[u8]) -> Result<Task, NoMemory>
+    ensures { IfOk result (λ task. plain_task task ≡ fill_node path.now (named name.now)) }
+{
+    let filling = Filling::Named(bytes_of(alloc, name)?);
+    node_task(alloc, path, 1, filling)
 }

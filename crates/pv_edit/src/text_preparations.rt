@@ -77,11 +77,12 @@ pub(crate) fn prepare_join(alloc: Global, doc: &Doc, path: &Path) -> Result<Prep
     let Some(units) = text_at(doc, path) else {
         unreachable!()
     };
+    let path_back = path_of(alloc, path)?;
+    let task = join_task(alloc, doc, path)?;
     let inverse = Inverse::Divide {
-        path: path_of(alloc, path)?,
+        path: path_back,
         at: units.len() as u64,
     };
-    let task = join_task(alloc, doc, path)?;
     Ok(Preparation { task, inverse })
 }
 
@@ -116,11 +117,13 @@ pub(crate) fn prepare_set_text(
     ensures { IfOk result (IsPreparation (plain_doc doc.now).root
         (edit.SetText path.now text.now)) }
 {
+    let path_back = path_of(alloc, path)?;
+    let text_back = old_text(alloc, doc, path)?;
     let filling = new_text(alloc, text)?;
     let task = node_task(alloc, path, 1, filling)?;
     let inverse = Inverse::Text {
-        path: path_of(alloc, path)?,
-        text: old_text(alloc, doc, path)?,
+        path: path_back,
+        text: text_back,
     };
     Ok(Preparation { task, inverse })
 }
@@ -160,10 +163,12 @@ pub(crate) fn prepare_add_text(
     ensures { IfOk result (IsPreparation (plain_doc doc.now).root
         (edit.AddText path.now at text.now)) }
 {
+    let kid = kid_path(alloc, path, at)?;
+    let list = path_of(alloc, path)?;
     let filling = new_text(alloc, text)?;
-    let task = list_task(path_of(alloc, path)?, at, at, filling);
+    let task = list_task(list, at, at, filling);
     let inverse = Inverse::Discard {
-        path: kid_path(alloc, path, at)?,
+        path: kid,
         short: ends_short(doc, path),
     };
     Ok(Preparation { task, inverse })
@@ -178,11 +183,13 @@ pub(crate) fn prepare_del_text(
     requires { lacks_text path.now (plain_doc doc.now).root ≡ false }
     ensures { IfOk result (IsPreparation (plain_doc doc.now).root (edit.DelText path.now)) }
 {
+    let path_back = path_of(alloc, path)?;
+    let text_back = old_text(alloc, doc, path)?;
     let filling = Filling::Others(Vec::new(alloc));
     let task = node_task(alloc, path, 1, filling)?;
     let inverse = Inverse::Restore {
-        path: path_of(alloc, path)?,
-        text: old_text(alloc, doc, path)?,
+        path: path_back,
+        text: text_back,
     };
     Ok(Preparation { task, inverse })
 }
