@@ -26,6 +26,7 @@ use Rattle.pv_edit.specs.declared.edits.Edit.{Edit}
 use Rattle.pv_edit.specs.declared.reasons.EditError.{EditError}
 use Rattle.pv_edit.specs.declared.reasons.EditError.TheVariants as error
 use Rattle.pv_edit.specs.declared.inverses.Inverse.{Inverse}
+use Rattle.pv_edit.specs.declared.tasks.Preparation.{Preparation}
 use Rattle.pv_edit.proofs.KeptBack.{can-made}
 use Rattle.pv_edit.proofs.RemarkedReasons.{inverse-as}
 use Rattle.pv_missing.specs.Verdicts.{is_impossible, is_possible}
@@ -40,7 +41,6 @@ use Rattle.pv_cache.specs.BadLists.{bad_gained, bad_lost}
 use Rattle.pv_cache.specs.Changed.{AreJudged, owner_at}
 use Rattle.pv_cache.specs.Changing.{AreNarrowAfter, IsUnaccepted}
 use Rattle.pv_cache.specs.declared.mending.InnerVerdict.{InnerVerdict}
-use Rattle.pv_cache.specs.declared.moving.JudgedEdit.{JudgedEdit}
 use Rattle.pv_cache.specs.Moves.{HasBad, HasGround, HasOpen, IsEdited, IsReverted}
 use Rattle.pv_cache.specs.Stamps.{doc_as, stamp_of, stamp_lists, stamped_doc_of, stamps_of}
 use Rattle.pv_cache.specs.WellMarked.{IsWellMarked, told_bad}
@@ -243,7 +243,7 @@ module _ (g : PlainDtd) (root : List ℕ) where
 
   -- ---- an edit that can't be made
   pub not_shaped : (old : PlainDoc Mark) (edit : Edit) (e : EditError) →
-      IsRefused (edit_outcome blank_mark old edit) e → (r : Result JudgedEdit EditAnswer) →
+      IsRefused (edit_outcome blank_mark old edit) e → (r : Result Preparation EditAnswer) →
       IsErr r × IsErrAnd r (λ a. a ≡ refusal_of e) →
       IfErr r (HasGround 0 g root (stamps_of old) edit)
   not_shaped old edit e h r s = by e h r (err_from_is_err_and r s.1)
@@ -254,7 +254,7 @@ module _ (g : PlainDtd) (root : List ℕ) where
       ground error.NoMemory h = tt
 
       by : (e : EditError) → IsRefused (edit_outcome blank_mark old edit) e →
-          (r : Result JudgedEdit EditAnswer) → (a : EditAnswer) × (r ≡ Err a) × (a ≡ refusal_of e) →
+          (r : Result Preparation EditAnswer) → (a : EditAnswer) × (r ≡ Err a) × (a ≡ refusal_of e) →
           IfErr r (HasGround 0 g root (stamps_of old) edit)
       by e h r (a, is, same) = rw (is, same) (ground e h)
 

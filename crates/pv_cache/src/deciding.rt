@@ -5,16 +5,18 @@ ghost use Rattle.std.specs.Prelude.{false, None};
 ghost use Rattle.pv_cache.specs.BadLists.{bad_gained, bad_lost};
 ghost use Rattle.pv_cache.specs.Changed.{AreJudged, IsFirstAmong, owner_at};
 ghost use Rattle.pv_cache.specs.Changing.{IsTaskFor, IsUnaccepted};
-ghost use Rattle.pv_cache.specs.Judging.{AreWords};
+ghost use Rattle.pv_cache.specs.Judging.{AreListTokens, AreWords};
 ghost use Rattle.pv_cache.specs.declared.mending.InnerVerdict.{InnerVerdict};
+ghost use Rattle.pv_edit.specs.Changes.{list_after};
 ghost use Rattle.pv_edit.specs.Fitting.{plain_task};
 ghost use Rattle.pv_edit.specs.Reasons.{kids_at};
+ghost use Rattle.pv_tree.specs.Plain.{forest_of};
 ghost use Rattle.pv_tree.specs.PlainDocs.{plain_doc};
 ghost use Rattle.pv_tree.specs.declared.nodes.Verdict.TheVariants as verdict;
 
 use crate::mending::{ChangedVerdicts, InnerVerdict};
 use crate::well_marked::WellMarked;
-use crate::words::Words;
+use crate::words::{ListTokens, Words};
 use pv_chars::NoMemory;
 use pv_edit::{EditAnswer, Task, kid_path};
 use pv_reach::ReachError;
@@ -58,11 +60,11 @@ fn first_impossible(
 }
 
 impl WellMarked {
-    /// Decides on a change by its words: the verdicts of the lists that it changes, or why it isn't
-    /// accepted.
-    /// Limits come before verdicts, and the outer list before the inner one. No more lists may be
-    /// Impossible afterwards.
-    pub(crate) fn decide<L: Ledger>(
+    // Decides on a change by its words: the verdicts of the lists that it changes, or why it isn't
+    // accepted.
+    // Limits come before verdicts, and the outer list before the inner one. No more lists may be
+    // Impossible afterwards.
+    fn decide<L: Ledger>(
         &self,
         task: &Task,
         words: &Words<'_>,
@@ -95,5 +97,32 @@ impl WellMarked {
             None => unreachable!(),
             Some(path) => Err(EditAnswer::Impossible(path)),
         }
+    }
+
+    /// Judges a task: the verdicts of the lists that it changes and the tokens of its list
+    /// afterwards, or why it isn't accepted.
+    pub(crate) fn judge_change<L: Ledger>(
+        &self,
+        task: &Task,
+        steps: &mut Steps<L>,
+    ) -> Result<(ChangedVerdicts, ListTokens), EditAnswer>
+        requires { IsTaskFor (plain_doc self.now.doc) task.now }
+        ensures judged { IfOk result (λ found. AreJudged self.now.grammar self.now.root
+            (owner_at task.now.list (plain_doc self.now.doc).root)
+            (kids_at task.now.list (plain_doc self.now.doc).root)
+            (plain_task task.now) found.0.outer found.0.inner) }
+        ensures no_more { IfOk result (λ found. bad_gained found.0.outer found.0.inner
+            ≤ bad_lost (plain_task task.now) (plain_doc self.now.doc)) }
+        ensures tokens { IfOk result (λ found. AreListTokens self.now.grammar
+            (forest_of (list_after (plain_task task.now)
+            (kids_at task.now.list (plain_doc self.now.doc).root))) found.1) }
+        ensures refused { IfErr result (IsUnaccepted self.now.grammar self.now.root
+            (plain_doc self.now.doc) (plain_task task.now)) }
+        ensures steps { steps.new ≤ steps.old + 2 }
+        ensures later { steps.old ≤ steps.new }
+    {
+        let words = self.words_of(task)?;
+        let verdicts = self.decide(task, &words, steps)?;
+        Ok((verdicts, words.into_outer()))
     }
 }

@@ -1,14 +1,21 @@
 //! Edits of a well marked document, and taking them back.
 
-ghost use Rattle.std.specs.Prelude.{◌≡◌, ◌≤◌, ◌+◌, nat_lt, IfErr, IfOk, OnErr, OnOk};
+ghost use Rattle.std.specs.Prelude.{◌≡◌, ◌≤◌, ◌+◌, nat_lt, IfErr, IfOk, None, OnErr, OnOk};
 ghost use Rattle.pv_cache.specs.Accepting.{IsAccepted, IsHoldable, MAX_EDITED_NODES};
-ghost use Rattle.pv_cache.specs.Changing.{IsReady, edited_doc};
+ghost use Rattle.pv_cache.specs.Changed.{AreJudged, owner_at};
+ghost use Rattle.pv_cache.specs.Changing.{AreNarrowAfter, IsReady, IsTaskFor, edited_doc};
+ghost use Rattle.pv_cache.specs.Judging.{AreListTokens};
 ghost use Rattle.pv_cache.specs.Moves.{HasGround, IsEdited, IsReverted};
 ghost use Rattle.pv_cache.specs.PlainForms.{stamped_doc};
 ghost use Rattle.pv_cache.specs.Stamps.{stamps_of};
+ghost use Rattle.pv_edit.specs.Changes.{list_after};
 ghost use Rattle.pv_edit.specs.Counts.{nodes_made, nodes_taken};
+ghost use Rattle.pv_edit.specs.Fitting.{plain_task};
 ghost use Rattle.pv_edit.specs.Inverses.{LeadsBack};
-ghost use Rattle.pv_tree.specs.Plain.{PlainDoc};
+ghost use Rattle.pv_edit.specs.Preparations.{IsPreparation};
+ghost use Rattle.pv_edit.specs.Reasons.{kids_at, reason_of};
+ghost use Rattle.pv_tree.specs.Marks.{blank_mark};
+ghost use Rattle.pv_tree.specs.Plain.{PlainDoc, forest_of};
 ghost use Rattle.pv_tree.specs.PlainDocs.{plain_doc};
 
 use crate::mending::ChangedVerdicts;
@@ -45,6 +52,25 @@ pub(crate) struct JudgedEdit {
 }
 
 impl WellMarked {
+    // What an edit does and what undoes it, where it can be made and doesn't give too many nodes;
+    // else the ground on which it is refused.
+    fn prepare_edit(&self, edit: &Edit) -> Result<Preparation, EditAnswer>
+        ensures given { OnOk result (reason_of blank_mark (plain_doc self.now.doc).root edit.now
+            ≡ None) }
+        ensures prepared { IfOk result (IsPreparation (plain_doc self.now.doc).root edit.now) }
+        ensures task { IfOk result (λ ready. IsTaskFor (plain_doc self.now.doc) ready.task) }
+        ensures refused { IfErr result (HasGround 0 self.now.grammar self.now.root
+            (stamps_of (plain_doc self.now.doc)) edit.now) }
+    {
+        changed_lists_law::<Mark>();
+        nodes_law::<Mark>();
+        let ready = prepare(self.alloc, &self.doc, edit)?;
+        if gives_too_many(edit, self.doc.mark.nodes) {
+            return Err(EditAnswer::Limit);
+        }
+        Ok(ready)
+    }
+
     /// Judges an edit: it is accepted and ready to be made, or there is a ground to refuse it.
     pub(crate) fn judge<L: Ledger>(
         &self,
@@ -62,15 +88,9 @@ impl WellMarked {
         ensures later { steps.old ≤ steps.new }
     {
         changed_lists_law::<Mark>();
-        nodes_law::<Mark>();
-        let ready = prepare(self.alloc, &self.doc, edit)?;
-        if gives_too_many(edit, self.doc.mark.nodes) {
-            return Err(EditAnswer::Limit);
-        }
+        let ready = self.prepare_edit(edit)?;
         let Preparation { task, inverse } = ready;
-        let words = self.words_of(&task)?;
-        let verdicts = self.decide(&task, &words, steps)?;
-        let tokens = words.into_outer();
+        let (verdicts, tokens) = self.judge_change(&task, steps)?;
         Ok(JudgedEdit {
             task,
             inverse,
@@ -109,6 +129,34 @@ impl WellMarked {
         Ok((Done { checked, left, bad }, inverse))
     }
 
+    // The verdicts of the lists that a task changes, none of which is too wide afterwards, and the
+    // tokens of its list.
+    fn judge_back<L: Ledger>(
+        &self,
+        task: &Task,
+        steps: &mut Steps<L>,
+    ) -> Result<(ChangedVerdicts, ListTokens), NoMemory>
+        requires task { IsTaskFor (plain_doc self.now.doc) task.now }
+        requires narrow { AreNarrowAfter self.now.grammar (plain_task task.now)
+            (kids_at task.now.list (plain_doc self.now.doc).root) }
+        ensures judged { IfOk result (λ found. AreJudged self.now.grammar self.now.root
+            (owner_at task.now.list (plain_doc self.now.doc).root)
+            (kids_at task.now.list (plain_doc self.now.doc).root)
+            (plain_task task.now) found.0.outer found.0.inner) }
+        ensures tokens { IfOk result (λ found. AreListTokens self.now.grammar
+            (forest_of (list_after (plain_task task.now)
+            (kids_at task.now.list (plain_doc self.now.doc).root))) found.1) }
+        ensures steps { steps.new ≤ steps.old + 2 }
+        ensures later { steps.old ≤ steps.new }
+    {
+        let words = self.words_of(task)?;
+        match self.judge_task(task, &words, steps) {
+            Ok(verdicts) => Ok((verdicts, words.into_outer())),
+            Err(ReachError::TooWide) => unreachable!(),
+            Err(ReachError::NoMemory) => Err(NoMemory),
+        }
+    }
+
     /// Takes an edit back: makes the document that an inverse leads to. After an error the document
     /// is as it was.
     pub(crate) fn revert<L: Ledger>(
@@ -131,13 +179,7 @@ impl WellMarked {
         leads_back_law::<Mark>();
         changed_lists_law::<Mark>();
         let task = prepare_back(self.alloc, &self.doc, inverse)?;
-        let words = self.words_of(&task)?;
-        let verdicts = match self.judge_task(&task, &words, steps) {
-            Ok(verdicts) => verdicts,
-            Err(ReachError::TooWide) => unreachable!(),
-            Err(ReachError::NoMemory) => return Err(NoMemory),
-        };
-        let tokens = words.into_outer();
+        let (verdicts, tokens) = self.judge_back(&task, steps)?;
         let checked = self.make_judged(task, verdicts, tokens, stamp)?;
         let left = self.doc.mark.left;
         Ok(Done {

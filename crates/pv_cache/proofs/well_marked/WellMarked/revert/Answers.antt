@@ -2,17 +2,13 @@ use Rattle.std.proofs.Common.{◌≡◌, refl, subst, sym}
 use Rattle.pv_cache.specs.Moves.{IsReverted}
 use Rattle.pv_cache.specs.Stamps.{StampedDoc, stamped_doc_of}
 use Rattle.pv_cache.specs.WellMarked.{IsWellMarked}
-use Rattle.pv_edit.specs.Changes.{list_after}
 use Rattle.pv_edit.specs.Fitting.{plain_task}
-use Rattle.pv_edit.specs.Reasons.{kids_at}
-use Rattle.pv_tree.specs.Plain.{forest_of}
 use Rattle.pv_tree.specs.PlainDocs.{plain_doc}
-use Rattle.pv_cache.specs.Judging.{AreListTokens}
 use Rattle.pv_cache.proofs.StampMoves.{back_few, back_made, back_narrow, same_ground, stamped_ground}
 use Rattle.pv_cache.proofs.well_marked.WellMarked.revert.Goals as goal
 
-pub words_of-requires : goal.words_of-requires
-words_of-requires g c =
+pub judge_back-requires-clause-task : goal.judge_back-requires-clause-task
+judge_back-requires-clause-task g c =
     let d = c.args.self.now.grammar in
     let old = plain_doc c.args.self.now.doc in
     let t = c.in_ok-task.task in
@@ -27,21 +23,15 @@ words_of-requires g c =
           (plain_task t) c.in_ok-task.ensures.task l.2;
     }
 
-pub judge_task-requires-clause-task : goal.judge_task-requires-clause-task
-judge_task-requires-clause-task g c =
+pub judge_back-requires-clause-narrow : goal.judge_back-requires-clause-narrow
+judge_back-requires-clause-narrow g c =
     let d = c.args.self.now.grammar in
     let old = plain_doc c.args.self.now.doc in
     let t = c.in_ok-task.task in
     let l = c.requires in
-    record {
-      can = c.in_ok-task.ensures.can;
-      unshort = c.in_ok-task.ensures.unshort;
-      bare = c.in_ok-task.ensures.bare;
-      kept = c.in_ok-task.ensures.kept;
-      few =
-          back_few d c.args.self.now.root old c.args.inverse.now l.0 l.1 c.leads_back_law.ensures
-          (plain_task t) c.in_ok-task.ensures.task l.2;
-    }
+    back_narrow d c.args.self.now.root old c.args.inverse.now l.0 l.1 c.leads_back_law.ensures
+    (plain_task t) c.in_ok-task.ensures.task l.2 c.in_ok-task.ensures.can
+    c.in_ok-task.ensures.unshort c.in_ok-task.ensures.bare
 
 pub make_judged-requires-clause-task : goal.make_judged-requires-clause-task
 make_judged-requires-clause-task g c =
@@ -58,25 +48,6 @@ make_judged-requires-clause-task g c =
           back_few d c.args.self.now.root old c.args.inverse.now l.0 l.1 c.leads_back_law.ensures
           (plain_task t) c.in_ok-task.ensures.task l.2;
     }
-
-pub make_judged-requires-clause-tokens : goal.make_judged-requires-clause-tokens
-make_judged-requires-clause-tokens g c =
-    let d = c.args.self.now.grammar in
-    let old = plain_doc c.args.self.now.doc in
-    let t = c.in_ok-task.task in
-    subst (AreListTokens d (forest_of (list_after (plain_task t) (kids_at t.list old.root))))
-    (sym c.into_outer-tokens.ensures) c.in_ok-words.ensures.outer
-
-pub unreachable-requires : goal.unreachable-requires
-unreachable-requires g c =
-    let d = c.args.self.now.grammar in
-    let old = plain_doc c.args.self.now.doc in
-    let t = c.in_ok-task.task in
-    let l = c.requires in
-    c.in-Err-TooWide.ensures.wide c.in-Err-TooWide.field-0-is
-    (back_narrow d c.args.self.now.root old c.args.inverse.now l.0 l.1 c.leads_back_law.ensures
-    (plain_task t) c.in_ok-task.ensures.task l.2 c.in_ok-task.ensures.can
-    c.in_ok-task.ensures.unshort c.in_ok-task.ensures.bare)
 
 pub returns-clause-reverted : goal.returns-clause-reverted
 returns-clause-reverted g c = λ before l.
