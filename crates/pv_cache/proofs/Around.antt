@@ -10,7 +10,7 @@ use Rattle.pv_tree.specs.Plain.{Ending, Forest, Tree, element, tree}
 use Rattle.pv_tree.specs.declared.nodes.Mark.{Mark}
 use Rattle.pv_cache.specs.WellMarked.{EachList, EachListIn, TellsList, told_left, told_left_in}
 use Rattle.pv_cache.specs.WellMarked.{told_nodes, told_nodes_in}
-use Rattle.pv_cache.specs.Mending.{count_again, mend_below}
+use Rattle.pv_cache.specs.Updates.{count_again, update_below}
 use Rattle.pv_cache.proofs.NodeLists.{kid-has}
 
 -- two trees that look alike in a list, and tell the same numbers
@@ -49,7 +49,7 @@ below-shows h here s = s
 below-shows h (down q n) s = record { head = refl; left = refl; nodes = refl }
 
 pub below-head : {path : List ℕ} {t u : Tree Mark} (f : Tree Mark → Tree Mark) → NodeAt path t u →
-    head_of (f u) ≡ head_of u → head_of (mend_below path f t) ≡ head_of t
+    head_of (f u) ≡ head_of u → head_of (update_below path f t) ≡ head_of t
 below-head f here e = e
 below-head f (down q n) e = refl
 
@@ -124,13 +124,13 @@ module _ (g : PlainDtd) (root : List ℕ) where
   beside-changed f (at-first w) h = (h, w)
   beside-changed f (behind t b) h = (t, beside-changed f b h)
 
-  -- Mended there and above it, it is marked.
-  pub mended-around : {path : List ℕ} {t u : Tree Mark} (f : Tree Mark → Tree Mark) →
+  -- Updated there and above it, it is marked.
+  pub updated-around : {path : List ℕ} {t u : Tree Mark} (f : Tree Mark → Tree Mark) →
       Around path t u → head_of (f u) ≡ head_of u → EachList (TellsList g root) (f u) →
-      EachList (TellsList g root) (mend_below path f t)
-  mended-around f right-here e m = m
-  mended-around f (further {path = path} {x = x} {kids = kids} {m = mark} h b a) e m = (
-    tells-again (an_element x) kids (change_kid (mend_below path f) _ kids) mark
-        (kid-heads (mend_below path f) (beside-kid b) (below-head f (around-node a) e)) h,
-    beside-changed (mend_below path f) b (mended-around f a e m),
+      EachList (TellsList g root) (update_below path f t)
+  updated-around f right-here e m = m
+  updated-around f (further {path = path} {x = x} {kids = kids} {m = mark} h b a) e m = (
+    tells-again (an_element x) kids (change_kid (update_below path f) _ kids) mark
+        (kid-heads (update_below path f) (beside-kid b) (below-head f (around-node a) e)) h,
+    beside-changed (update_below path f) b (updated-around f a e m),
   )

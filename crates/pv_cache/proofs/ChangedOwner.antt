@@ -1,4 +1,4 @@
--- The owner of a changed list, mended.
+-- The owner of a changed list, updated.
 use Rattle.std.proofs.Common.{◌≡◌, ◌∙◌, ap, sym, refl, ℕ, zero, suc, ◌≤◌, Bool, true, false, ◌||◌}
 use Rattle.std.proofs.Common.{List, [], ◌∷◌, ◌++◌, length, take, drop, Option, Some, None, subst}
 use Rattle.std.specs.List.{AllByRecursion, between, list_any}
@@ -18,28 +18,28 @@ use Rattle.pv_tree.specs.Plain.{misc_node, no_trees, text_node, tree, trees_of}
 use Rattle.pv_tree.specs.declared.nodes.Mark.{Mark}
 use Rattle.pv_tree.specs.declared.nodes.Verdict.{Verdict}
 use Rattle.pv_cache.specs.Changed.{AreJudged, IsJudged, IsInnerJudged, IsOneJudged}
-use Rattle.pv_cache.specs.Mending.{fresh_mark, mend_element, mend_kids, mend_owner}
-use Rattle.pv_cache.specs.declared.mending.InnerVerdict.{InnerVerdict}
+use Rattle.pv_cache.specs.Updates.{fresh_mark, update_element, update_kids, update_owner}
+use Rattle.pv_cache.specs.declared.updates.InnerVerdict.{InnerVerdict}
 use Rattle.pv_cache.specs.WellMarked.{EachList, EachListIn, TellsList}
 use Rattle.pv_cache.proofs.NodeLists.{all-joined, all-spliced, all-front, all-between, all-back}
 
-mended-head : (v : Verdict) (stamp : ℕ) (t : Tree Mark) →
-    head_of (mend_element v stamp t) ≡ head_of t
-mended-head v stamp (element x a e k m) = refl
-mended-head v stamp (text_node us) = refl
-mended-head v stamp (cdata_node b) = refl
-mended-head v stamp (misc_node b) = refl
+updated-head : (v : Verdict) (stamp : ℕ) (t : Tree Mark) →
+    head_of (update_element v stamp t) ≡ head_of t
+updated-head v stamp (element x a e k m) = refl
+updated-head v stamp (text_node us) = refl
+updated-head v stamp (cdata_node b) = refl
+updated-head v stamp (misc_node b) = refl
 
-mended-heads : (v : Verdict) (stamp i : ℕ) (kids : Forest Mark) →
-    heads_of (change_kid (mend_element v stamp) i kids) ≡ heads_of kids
-mended-heads v stamp i no_trees = refl
-mended-heads v stamp zero (tree t rest) = ap (λ h. h ∷ heads_of rest) (mended-head v stamp t)
-mended-heads v stamp (suc i) (tree t rest) = ap (λ l. head_of t ∷ l) (mended-heads v stamp i rest)
+updated-heads : (v : Verdict) (stamp i : ℕ) (kids : Forest Mark) →
+    heads_of (change_kid (update_element v stamp) i kids) ≡ heads_of kids
+updated-heads v stamp i no_trees = refl
+updated-heads v stamp zero (tree t rest) = ap (λ h. h ∷ heads_of rest) (updated-head v stamp t)
+updated-heads v stamp (suc i) (tree t rest) = ap (λ l. head_of t ∷ l) (updated-heads v stamp i rest)
 
 pub kids-heads : (inner : Option InnerVerdict) (stamp : ℕ) (kids : Forest Mark) →
-    heads_of (mend_kids inner stamp kids) ≡ heads_of kids
+    heads_of (update_kids inner stamp kids) ≡ heads_of kids
 kids-heads None stamp kids = refl
-kids-heads (Some i) stamp kids = mended-heads i.verdict stamp i.place kids
+kids-heads (Some i) stamp kids = updated-heads i.verdict stamp i.place kids
 
 -- one tree among others, changed
 pub among : (f : Tree Mark → Tree Mark) (xs ys : List (Tree Mark)) (n : Tree Mark) →
@@ -128,20 +128,20 @@ module _ (g : PlainDtd) (root : List ℕ) where
       brings_element f ≡ true → HaveNoKids f → (b : IsOneJudged g root (in_place_of f old) v) →
       EachListIn (TellsList g root) (forest_of old) →
       EachList (TellsList g root)
-      (mend_element v stamp (element b.name b.attrs b.ending b.kids b.mark))
+      (update_element v stamp (element b.name b.attrs b.ending b.kids b.mark))
   came-marked f old stamp v h z b w = (
     fresh-tells (an_element b.name) b.kids b.kids v stamp refl b.list,
     rw (← forest-trees b.kids)
         (came-kids f old (element b.name b.attrs b.ending b.kids b.mark) h z b.is_one w),
   )
 
-  -- the list after a change that brought an element, mended, in three parts
+  -- the list after a change that brought an element, updated, in three parts
   pub came-parts : (c : Change Mark) (ts : List (Tree Mark)) (i : InnerVerdict) (stamp : ℕ) →
       c.from ≤ c.to → c.to ≤ length ts →
       (j : IsInnerJudged g root c (in_place_of c.filling (between c.from c.to ts)) (Some i)) →
-      mend_kids (Some i) stamp (forest_of (list_after c ts))
+      update_kids (Some i) stamp (forest_of (list_after c ts))
       ≡ forest_of (take c.from ts
-      ++ (mend_element i.verdict stamp
+      ++ (update_element i.verdict stamp
       (element j.2.name j.2.attrs j.2.ending j.2.kids j.2.mark) ∷ drop c.to ts))
   came-parts c ts i stamp h l j =
       let b = j.2 in
@@ -149,19 +149,19 @@ module _ (g : PlainDtd) (root : List ℕ) where
       let front = front-length ts c.from c.to h l in
       let place : i.place ≡ length (take c.from ts) = j.1 ∙ sym front in
       ap (λ (l : List (Tree Mark)).
-      change_kid (mend_element i.verdict stamp) i.place
+      change_kid (update_element i.verdict stamp) i.place
       (forest_of (take c.from ts ++ (l ++ drop c.to ts)))) b.is_one
       ∙ ap (λ (k : ℕ).
-      change_kid (mend_element i.verdict stamp) k
+      change_kid (update_element i.verdict stamp) k
       (forest_of (take c.from ts ++ (n ∷ drop c.to ts)))) place
-      ∙ among (mend_element i.verdict stamp) (take c.from ts) (drop c.to ts) n
+      ∙ among (update_element i.verdict stamp) (take c.from ts) (drop c.to ts) n
 
-  -- the list after the change, mended
+  -- the list after the change, updated
   pub list-marked : (c : Change Mark) (ts : List (Tree Mark)) (inner2 : Option InnerVerdict)
       (stamp : ℕ) → c.from ≤ c.to → c.to ≤ length ts → HaveNoKids c.filling →
       IsInnerJudged g root c (in_place_of c.filling (between c.from c.to ts)) inner2 →
       EachListIn (TellsList g root) (forest_of ts) →
-      EachListIn (TellsList g root) (mend_kids inner2 stamp (forest_of (list_after c ts)))
+      EachListIn (TellsList g root) (update_kids inner2 stamp (forest_of (list_after c ts)))
   list-marked c ts None stamp h l z j w =
       all-spliced (TellsList g root) ts (in_place_of c.filling (between c.from c.to ts)) c.from c.to
       h w (none-came c.filling (between c.from c.to ts) j
@@ -175,19 +175,19 @@ module _ (g : PlainDtd) (root : List ℕ) where
       (all-between (TellsList g root) ts c.from c.to h w) in
       subst (EachListIn (TellsList g root)) (sym is)
       (all-joined (TellsList g root) (take c.from ts)
-      (mend_element i.verdict stamp n ∷ drop c.to ts)
+      (update_element i.verdict stamp n ∷ drop c.to ts)
       (all-front (TellsList g root) ts c.from c.to h w)
       (m, all-back (TellsList g root) ts c.from c.to h w))
 
-  -- an element whose list is changed, mended
+  -- an element whose list is changed, updated
   pub owner-marked : (c : Change Mark) (x attrs : List ℕ) (e : Ending) (kids : Forest Mark)
       (m : Mark) (v : Verdict) (i : Option InnerVerdict) (stamp : ℕ) → c.from ≤ c.to →
       c.to ≤ length (trees_of kids) → HaveNoKids c.filling →
       AreJudged g root (an_element x) (trees_of kids) c v i → EachListIn (TellsList g root) kids →
-      EachList (TellsList g root) (mend_owner v i stamp (owner_after c (element x attrs e kids m)))
+      EachList (TellsList g root) (update_owner v i stamp (owner_after c (element x attrs e kids m)))
   owner-marked c x attrs e kids m v i stamp h l z j w = (
     fresh-tells (an_element x) (forest_of (list_after c (trees_of kids)))
-        (mend_kids i stamp (forest_of (list_after c (trees_of kids)))) v stamp
+        (update_kids i stamp (forest_of (list_after c (trees_of kids)))) v stamp
         (kids-heads i stamp (forest_of (list_after c (trees_of kids)))) j.outer,
     list-marked c (trees_of kids) i stamp h l z j.within (rw (forest-trees kids) w),
   )

@@ -1,4 +1,4 @@
--- A document after a change, mended.
+-- A document after a change, updated.
 use Rattle.std.proofs.Common.{◌≡◌, ◌∙◌, ap, sym, refl, ℕ, zero, suc, ◌+◌, ◌≤◌, List, [], ◌∷◌, ◌++◌}
 use Rattle.std.proofs.Common.{length, take, drop, Option, Some, None, arith, subst}
 use Rattle.std.specs.List.{between}
@@ -24,12 +24,12 @@ use Rattle.pv_tree.specs.Plain.{trees_of}
 use Rattle.pv_tree.specs.declared.nodes.Mark.{Mark}
 use Rattle.pv_tree.specs.declared.nodes.Verdict.{Verdict}
 use Rattle.pv_cache.specs.Changed.{AreJudged, IsInnerJudged, owner_at}
-use Rattle.pv_cache.specs.Laws.{MarksTell, MendedIsMarked}
-use Rattle.pv_cache.specs.Mending.{mend_below, mend_doc, mend_kids, mend_owner, mend_root}
-use Rattle.pv_cache.specs.declared.mending.InnerVerdict.{InnerVerdict}
+use Rattle.pv_cache.specs.Laws.{MarksTell, UpdatedIsMarked}
+use Rattle.pv_cache.specs.Updates.{update_below, update_doc, update_kids, update_owner, update_root}
+use Rattle.pv_cache.specs.declared.updates.InnerVerdict.{InnerVerdict}
 use Rattle.pv_cache.specs.WellMarked.{EachListIn, IsWellMarked, TellsList}
 use Rattle.pv_cache.proofs.Around.{ShowsSame, ShowSame, below-shows, changed-around, around-node}
-use Rattle.pv_cache.proofs.Around.{below-head, mended-around, tells-again, tells-same}
+use Rattle.pv_cache.proofs.Around.{below-head, updated-around, tells-again, tells-same}
 use Rattle.pv_cache.proofs.NodeLists.{node-has}
 use Rattle.pv_cache.proofs.TreeMarks.{doc-bad, doc-left, doc-narrow, doc-nodes, doc-told}
 use Rattle.pv_cache.proofs.ChangedOwner.{fresh-tells, kids-heads, list-marked, owner-marked}
@@ -57,11 +57,11 @@ only root (t ∷ u ∷ ts) n = absurd (omega arith)
 -- the list of the document node holds the root alone, and what came is the root
 pub top-list : (stamp : ℕ) (t : Tree Mark) (list : List (Tree Mark)) → list ≡ t ∷ [] →
     (i : Option InnerVerdict) → ((k : InnerVerdict) → i ≡ Some k → k.place ≡ 0) →
-    mend_kids i stamp (forest_of list) ≡ tree (mend_root i stamp t) no_trees
+    update_kids i stamp (forest_of list) ≡ tree (update_root i stamp t) no_trees
 top-list stamp t list e None p = ap forest_of e
 top-list stamp t list e (Some k) p =
-    ap (λ l. mend_kids (Some k) stamp (forest_of l)) e
-    ∙ ap (λ n. mend_kids (Some (record k { place = n })) stamp (tree t no_trees)) (p k refl)
+    ap (λ l. update_kids (Some k) stamp (forest_of l)) e
+    ∙ ap (λ n. update_kids (Some (record k { place = n })) stamp (tree t no_trees)) (p k refl)
 
 pub top-place : (g : PlainDtd) (root : List ℕ) (c : Change Mark) (ts : List (Tree Mark)) →
     c.from ≤ c.to → c.to ≤ length ts → length (list_after c ts) ≡ 1 → (i : Option InnerVerdict) →
@@ -91,7 +91,7 @@ module _ (g : PlainDtd) (root : List ℕ) (doc : PlainDoc Mark) (w : IsWellMarke
       Made doc.mark (zero ∷ path) c doc.root ts →
       AreJudged g root (owner_at (zero ∷ path) doc.root) ts c v inner
       → IsWellMarked g root
-      (mend_doc (zero ∷ path) v inner stamp
+      (update_doc (zero ∷ path) v inner stamp
       (record doc { root = root_after (zero ∷ path) c doc.root }))
   below-marked path ts d j =
       let o = d.owner in
@@ -112,7 +112,7 @@ module _ (g : PlainDtd) (root : List ℕ) (doc : PlainDoc Mark) (w : IsWellMarke
       let shows =
       below-shows (owner_after c) n (owner-shows c o.name o.attrs o.ending o.kids o.mark) in
       let old : Tree Mark = change_below path (owner_after c) doc.root in
-      let new : Tree Mark = mend_below path (mend_owner v inner stamp) old in
+      let new : Tree Mark = update_below path (update_owner v inner stamp) old in
       let same : ShowSame (tree old no_trees) (tree doc.root no_trees) =
       record {
         heads = ap (λ h. h ∷ []) shows.head;
@@ -125,15 +125,15 @@ module _ (g : PlainDtd) (root : List ℕ) (doc : PlainDoc Mark) (w : IsWellMarke
       record {
         document =
             tells-again g root the_document (tree old no_trees) (tree new no_trees) doc.mark
-            (ap (λ h. h ∷ []) (below-head (mend_owner v inner stamp) (around-node g root a) refl))
+            (ap (λ h. h ∷ []) (below-head (update_owner v inner stamp) (around-node g root a) refl))
             told;
-        elements = mended-around g root (mend_owner v inner stamp) a refl m;
+        elements = updated-around g root (update_owner v inner stamp) a refl m;
       }
 
   top-marked : (ts : List (Tree Mark)) → Made doc.mark [] c doc.root ts →
       AreJudged g root the_document ts c v inner →
       IsWellMarked g root
-      (mend_doc [] v inner stamp (record doc { root = root_after [] c doc.root }))
+      (update_doc [] v inner stamp (record doc { root = root_after [] c doc.root }))
   top-marked ts d j =
       let k = top-kids d.owner in
       let judged : AreJudged g root the_document (doc.root ∷ []) c v inner = rw (← k) j in
@@ -147,12 +147,12 @@ module _ (g : PlainDtd) (root : List ℕ) (doc : PlainDoc Mark) (w : IsWellMarke
       let m =
       list-marked g root c (doc.root ∷ []) inner stamp d.order within z judged.within
       (w.elements, tt) in
-      let marked : EachListIn (TellsList g root) (tree (mend_root inner stamp t) no_trees) =
+      let marked : EachListIn (TellsList g root) (tree (update_root inner stamp t) no_trees) =
       subst (EachListIn (TellsList g root)) e m in
       record {
         document =
             fresh-tells g root the_document (forest_of (list_after c (doc.root ∷ [])))
-            (tree (mend_root inner stamp t) no_trees) v stamp (ap heads_of (sym e)
+            (tree (update_root inner stamp t) no_trees) v stamp (ap heads_of (sym e)
             ∙ kids-heads inner stamp (forest_of (list_after c (doc.root ∷ [])))) judged.outer;
         elements = marked.0;
       }
@@ -171,7 +171,7 @@ after-marked : (g : PlainDtd) (root : List ℕ) (doc : PlainDoc Mark) (c : Chang
     (i : Option InnerVerdict) (stamp : ℕ) → IsWellMarked g root doc → BringsBare c.filling →
     (list : List ℕ) (ts : List (Tree Mark)) → Made doc.mark list c doc.root ts →
     AreJudged g root (owner_at list doc.root) (kids_at list doc.root) c v i →
-    IsWellMarked g root (mend_doc list v i stamp (record doc { root = root_after list c doc.root }))
+    IsWellMarked g root (update_doc list v i stamp (record doc { root = root_after list c doc.root }))
 after-marked g root doc c v i stamp w b [] ts d j =
     top-marked g root doc w c (bare-kids c.filling b) v i stamp ts d (rw (owner-list d) at j)
 after-marked g root doc c v i stamp w b (zero ∷ path) ts d j =
@@ -179,8 +179,8 @@ after-marked g root doc c v i stamp w b (zero ∷ path) ts d j =
 after-marked g root doc c v i stamp w b (suc k ∷ path) ts d j =
     let h = at_node d.owner.node in absurd cc
 
-pub mended-marked : MendedIsMarked
-mended-marked g root doc c v i stamp w can unshort b j =
+pub updated-marked : UpdatedIsMarked
+updated-marked g root doc c v i stamp w can unshort b j =
     let d = can-made doc.mark c.list c doc.root can unshort in
     after-marked g root doc c v i stamp w b c.list d.0 d.1 j
 

@@ -1,4 +1,4 @@
--- The stamps of a mended document.
+-- The stamps of a updated document.
 use Rattle.std.proofs.Common.{List, length, None, Option, Some, [], ap, refl, suc, zero, ℕ, ◌++◌}
 use Rattle.std.proofs.Common.{◌∙◌, ◌∷◌, ◌≡◌}
 use Rattle.pv_dtd.specs.Plain.{PlainDtd}
@@ -9,9 +9,9 @@ use Rattle.pv_tree.specs.Plain.{map_marks_all, misc_node, no_trees, text_node, t
 use Rattle.pv_tree.specs.declared.nodes.Mark.{Mark}
 use Rattle.pv_tree.specs.declared.nodes.Verdict.{Verdict}
 use Rattle.pv_cache.specs.Changed.{IsInnerJudged}
-use Rattle.pv_cache.specs.Mending.{mend_element, mend_below, mend_doc, mend_owner}
+use Rattle.pv_cache.specs.Updates.{update_element, update_below, update_doc, update_owner}
 use Rattle.pv_cache.specs.Stamps.{changed_by, stamp_of, stamp_lists, stamps_of, with_mark}
-use Rattle.pv_cache.specs.declared.mending.InnerVerdict.{InnerVerdict}
+use Rattle.pv_cache.specs.declared.updates.InnerVerdict.{InnerVerdict}
 
 -- of the stamps of a tree the one function makes what the other makes of the tree
 abbrev Stamps : (Tree Mark → Tree Mark) → (Tree ℕ → Tree ℕ) → Type 0
@@ -24,18 +24,18 @@ kid_stamps f h s i no_trees = refl
 kid_stamps f h s zero (tree t rest) = ap (λ u. tree u (map_marks_all stamp_of rest)) (s t)
 kid_stamps f h s (suc i) (tree t rest) = ap (tree (map_marks stamp_of t)) (kid_stamps f h s i rest)
 
-mended_stamps : (v : Verdict) (n : ℕ) → Stamps (mend_element v n) (with_mark n)
-mended_stamps v n (element x a e kids m) = refl
-mended_stamps v n (text_node us) = refl
-mended_stamps v n (cdata_node b) = refl
-mended_stamps v n (misc_node b) = refl
+updated_stamps : (v : Verdict) (n : ℕ) → Stamps (update_element v n) (with_mark n)
+updated_stamps v n (element x a e kids m) = refl
+updated_stamps v n (text_node us) = refl
+updated_stamps v n (cdata_node b) = refl
+updated_stamps v n (misc_node b) = refl
 
 below_stamps : (path : List ℕ) (f : Tree Mark → Tree Mark) (h : Tree ℕ → Tree ℕ) → Stamps f h →
-    Stamps (mend_below path f) (change_below path h)
+    Stamps (update_below path f) (change_below path h)
 below_stamps [] f h s t = s t
 below_stamps (i ∷ path) f h s (element x a e kids m) =
     ap (λ k. element x a e k (stamp_of m))
-    (kid_stamps (mend_below path f) (change_below path h) (below_stamps path f h s) i kids)
+    (kid_stamps (update_below path f) (change_below path h) (below_stamps path f h s) i kids)
 below_stamps (i ∷ path) f h s (text_node us) = refl
 below_stamps (i ∷ path) f h s (cdata_node b) = refl
 below_stamps (i ∷ path) f h s (misc_node b) = refl
@@ -81,31 +81,31 @@ module _ {M : Type 0} where
 abbrev both_marked : ℕ → InnerVerdict → Tree ℕ → Tree ℕ
 both_marked n i t = change_below (i.place ∷ []) (with_mark n) (with_mark n t)
 
-owner_stamps : (v : Verdict) (n : ℕ) → Stamps (mend_owner v None n) (with_mark n)
+owner_stamps : (v : Verdict) (n : ℕ) → Stamps (update_owner v None n) (with_mark n)
 owner_stamps v n (element x a e kids m) = refl
 owner_stamps v n (text_node us) = refl
 owner_stamps v n (cdata_node b) = refl
 owner_stamps v n (misc_node b) = refl
 
 inner_stamps : (v : Verdict) (n : ℕ) (i : InnerVerdict) →
-    Stamps (mend_owner v (Some i) n) (both_marked n i)
+    Stamps (update_owner v (Some i) n) (both_marked n i)
 inner_stamps v n i (element x a e kids m) =
     ap (λ k. element x a e k n)
-    (kid_stamps (mend_element i.verdict n) (with_mark n) (mended_stamps i.verdict n) i.place kids
+    (kid_stamps (update_element i.verdict n) (with_mark n) (updated_stamps i.verdict n) i.place kids
     ∙ kid_alike (with_mark n) (change_below [] (with_mark n)) (λ t. refl) i.place
     (map_marks_all stamp_of kids))
 inner_stamps v n i (text_node us) = refl
 inner_stamps v n i (cdata_node b) = refl
 inner_stamps v n i (misc_node b) = refl
 
-pub stamps_mended : (list : List ℕ) (v : Verdict) (inner : Option InnerVerdict) (n : ℕ)
+pub stamps_updated : (list : List ℕ) (v : Verdict) (inner : Option InnerVerdict) (n : ℕ)
     (doc : PlainDoc Mark) →
-    stamps_of (mend_doc list v inner n doc) ≡ stamp_lists n (changed_by list inner) (stamps_of doc)
-stamps_mended [] v None n doc = refl
-stamps_mended [] v (Some i) n doc =
+    stamps_of (update_doc list v inner n doc) ≡ stamp_lists n (changed_by list inner) (stamps_of doc)
+stamps_updated [] v None n doc = refl
+stamps_updated [] v (Some i) n doc =
     ap (λ (t : Tree ℕ). record { before = doc.before; root = t; after = doc.after; mark = n })
-    (mended_stamps i.verdict n doc.root)
-stamps_mended (k ∷ path) v None n doc =
+    (updated_stamps i.verdict n doc.root)
+stamps_updated (k ∷ path) v None n doc =
     ap (λ (t : Tree ℕ). record {
       before = doc.before;
       root = t;
@@ -113,14 +113,14 @@ stamps_mended (k ∷ path) v None n doc =
       mark =
           stamp_of doc.mark;
     })
-    (below_stamps path (mend_owner v None n) (with_mark n) (owner_stamps v n) doc.root)
-stamps_mended (k ∷ path) v (Some i) n doc =
+    (below_stamps path (update_owner v None n) (with_mark n) (owner_stamps v n) doc.root)
+stamps_updated (k ∷ path) v (Some i) n doc =
     let root = map_marks stamp_of doc.root in
     let both =
-    below_stamps path (mend_owner v (Some i) n) (both_marked n i) (inner_stamps v n i) doc.root in
+    below_stamps path (update_owner v (Some i) n) (both_marked n i) (inner_stamps v n i) doc.root in
     let again = below_further (with_mark n) path i.place (change_below path (with_mark n) root) in
     let twice = below_twice (change_below (i.place ∷ []) (with_mark n)) (with_mark n) path root in
-    let same : map_marks stamp_of (mend_below path (mend_owner v (Some i) n) doc.root)
+    let same : map_marks stamp_of (update_below path (update_owner v (Some i) n) doc.root)
     ≡ change_below (path ++ i.place ∷ []) (with_mark n) (change_below path (with_mark n) root) =
     cc in
     ap (λ (t : Tree ℕ). record {

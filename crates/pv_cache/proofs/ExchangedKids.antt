@@ -18,11 +18,11 @@ use Rattle.pv_tree.specs.declared.nodes.Mark.{Mark}
 use Rattle.pv_tree.specs.declared.nodes.Node.{Node}
 use Rattle.pv_tree.specs.declared.nodes.Verdict.{Verdict}
 use Rattle.pv_cache.specs.Changed.{IsInnerJudged}
-use Rattle.pv_cache.specs.Mending.{IsExchange, OwnerTellsBefore, TellsBefore, kids_beside}
-use Rattle.pv_cache.specs.Mending.{mend_element, mend_inner}
+use Rattle.pv_cache.specs.Updates.{IsExchange, OwnerTellsBefore, TellsBefore, kids_beside}
+use Rattle.pv_cache.specs.Updates.{update_element, update_inner}
 use Rattle.pv_cache.specs.WellMarked.{TellsList, own_left, told_left_in, told_nodes_in}
-use Rattle.pv_cache.specs.declared.mending.Exchange.{Exchange}
-use Rattle.pv_cache.specs.declared.mending.InnerVerdict.{InnerVerdict}
+use Rattle.pv_cache.specs.declared.updates.Exchange.{Exchange}
+use Rattle.pv_cache.specs.declared.updates.InnerVerdict.{InnerVerdict}
 use Rattle.pv_cache.proofs.ChangedOwner.{came-parts}
 
 -- ---- sums over lists in parts
@@ -156,10 +156,10 @@ module _ (g : PlainDtd) (root : List ℕ) (c : Change Mark) (x attrs : List ℕ)
   -- The owner of a changed list tells of the list before.
   pub owner-tells : (inner : Option InnerVerdict) →
       IsInnerJudged g root c (in_place_of c.filling (between c.from c.to (trees_of kids))) inner →
-      OwnerTellsBefore e (mend_inner inner stamp (owner_after c (element x attrs en kids m)))
+      OwnerTellsBefore e (update_inner inner stamp (owner_after c (element x attrs en kids m)))
   owner-tells None j = tells-list (in_place_of c.filling (between c.from c.to (trees_of kids)))
   owner-tells (Some i) j =
       let b = j.2 in
-      let one = mend_element i.verdict stamp (element b.name b.attrs b.ending b.kids b.mark) in
+      let one = update_element i.verdict stamp (element b.name b.attrs b.ending b.kids b.mark) in
       subst (λ (f : Forest Mark). TellsBefore e (trees_of f) m)
       (sym (came-parts g root c (trees_of kids) i stamp h w j)) (tells-list (one ∷ []))

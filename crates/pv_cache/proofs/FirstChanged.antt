@@ -5,7 +5,7 @@ use Rattle.std.specs.List.{AllByRecursion, between}
 use Rattle.pv_cache.specs.Changed.{AreJudged, IsFirstAmong, IsFirstImpossibleAt, IsInnerJudged}
 use Rattle.pv_cache.specs.Changed.{IsLiveListAt, inner_first, outer_first, owner_at}
 use Rattle.pv_cache.specs.Laws.{FirstIsFirstAmong}
-use Rattle.pv_cache.specs.declared.mending.InnerVerdict.{InnerVerdict}
+use Rattle.pv_cache.specs.declared.updates.InnerVerdict.{InnerVerdict}
 use Rattle.pv_cache.proofs.Docs.{in-root, owner-list, root-name}
 use Rattle.pv_cache.proofs.Limits.{came_stands, inner_stands, list_stands, lists_are, lists_by}
 use Rattle.pv_cache.proofs.Limits.{node_changed}

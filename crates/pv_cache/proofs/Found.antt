@@ -22,8 +22,8 @@ use Rattle.pv_tree.specs.declared.nodes.Verdict.{Verdict}
 use Rattle.pv_cache.specs.Changed.{AreJudged, IsInnerJudged, IsJudged}
 use Rattle.pv_cache.specs.Judging.{AreFound, AreWords, IsFound, IsFoundList, IsInnerFound}
 use Rattle.pv_cache.specs.Judging.{IsInnerWord, IsWordOf}
-use Rattle.pv_cache.specs.declared.mending.InnerVerdict.{InnerVerdict}
-use Rattle.pv_cache.specs.declared.mending.ChangedVerdicts.{ChangedVerdicts}
+use Rattle.pv_cache.specs.declared.updates.InnerVerdict.{InnerVerdict}
+use Rattle.pv_cache.specs.declared.updates.ChangedVerdicts.{ChangedVerdicts}
 use Rattle.pv_cache.specs.declared.words.InnerWord.{InnerWord}
 use Rattle.pv_cache.specs.declared.words.ListWord.{ListWord}
 use Rattle.pv_cache.specs.declared.words.Words.{Words}

@@ -28,12 +28,12 @@ use Rattle.pv_cache.specs.Accepting.{IsNarrowAt, IsWithinLimits, MAX_EDITED_NODE
 use Rattle.pv_cache.specs.BadLists.{bad_gained, bad_lost}
 use Rattle.pv_cache.specs.Changed.{AreJudged, IsFirstImpossibleAt, owner_at}
 use Rattle.pv_cache.specs.Changing.{IsUnaccepted}
-use Rattle.pv_cache.specs.Mending.{mend_doc}
+use Rattle.pv_cache.specs.Updates.{update_doc}
 use Rattle.pv_cache.specs.Moves.{HasGround}
 use Rattle.pv_cache.specs.WellMarked.{IsWellMarked, told_bad, verdicts_told}
-use Rattle.pv_cache.specs.declared.mending.InnerVerdict.{InnerVerdict}
-use Rattle.pv_cache.proofs.ImpossibleCounts.{mended-counted}
-use Rattle.pv_cache.proofs.Docs.{mended-marked}
+use Rattle.pv_cache.specs.declared.updates.InnerVerdict.{InnerVerdict}
+use Rattle.pv_cache.proofs.ImpossibleCounts.{updated-counted}
+use Rattle.pv_cache.proofs.Docs.{updated-marked}
 use Rattle.pv_cache.proofs.FirstChanged.{first-is-first}
 use Rattle.pv_cache.proofs.Limits.{narrow_paths, paths_narrow}
 use Rattle.pv_cache.proofs.Tasks.{judged-narrow}
@@ -75,7 +75,7 @@ module _ (g : PlainDtd) (root : List ℕ) where
       (v : Verdict) (i : Option InnerVerdict)
       (j : AreJudged g root (owner_at c.list doc.root) (kids_at c.list doc.root) c v i) where
     abbrev new : PlainDoc Mark
-    new = mend_doc c.list v i 0 (doc_after c doc)
+    new = update_doc c.list v i 0 (doc_after c doc)
 
     -- so many lists are Impossible before and after
     have_both : IsWellMarked g root doc →
@@ -85,11 +85,11 @@ module _ (g : PlainDtd) (root : List ℕ) where
       has =
           same_counts Mark Mark is_impossible g root new (doc_after c doc) (told_bad new)
           (doc-as c.list v i 0 (doc_after c doc))
-          (bad_of new (mended-marked g root doc c v i 0 w can unshort bare j));
+          (bad_of new (updated-marked g root doc c v i 0 w can unshort bare j));
     }
 
     abbrev counted : told_bad new + bad_lost c doc ≡ told_bad doc + bad_gained v i
-    counted = mended-counted g root doc c v i 0 can unshort bare j
+    counted = updated-counted g root doc c v i 0 can unshort bare j
 
     pub gets_no_worse : bad_gained v i ≤ bad_lost c doc → ∥ IsWellMarked g root doc ∥₁ →
         ∥ GetsNoWorse g root doc (doc_after c doc) ∥₁

@@ -1,4 +1,4 @@
--- How many lists are Impossible after a change whose marks are mended, as marks tell.
+-- How many lists are Impossible after a change whose marks are updated, as marks tell.
 use Rattle.std.proofs.Common.{List, None, Option, Some, [], ap, arith, drop, length, refl, subst}
 use Rattle.std.proofs.Common.{suc, sym, take, true, false, zero, ℕ, ◌+◌, ◌++◌, ◌≤◌, ◌∙◌, ◌∷◌, ◌≡◌}
 use Rattle.std.proofs.Common.{map, Bool, ◌||◌}
@@ -6,10 +6,10 @@ use Rattle.std.proofs.lemmas.List.Edits.{split_between}
 use Rattle.std.specs.List.{between, list_any}
 use Rattle.pv_cache.specs.BadLists.{bad_gained, bad_gone, own_at, own_in, own_inner, own_of}
 use Rattle.pv_cache.specs.Changed.{IsInnerJudged}
-use Rattle.pv_cache.specs.Laws.{MendedIsCounted}
-use Rattle.pv_cache.specs.Mending.{mend_below, mend_doc, mend_element, mend_kids, mend_owner}
+use Rattle.pv_cache.specs.Laws.{UpdatedIsCounted}
+use Rattle.pv_cache.specs.Updates.{update_below, update_doc, update_element, update_kids, update_owner}
 use Rattle.pv_cache.specs.WellMarked.{bad_in, bad_in_all, own_bad, told_bad}
-use Rattle.pv_cache.specs.declared.mending.InnerVerdict.{InnerVerdict}
+use Rattle.pv_cache.specs.declared.updates.InnerVerdict.{InnerVerdict}
 use Rattle.pv_cache.proofs.Docs.{bare-kids, in-root, only, owner-list, top-list, top-place}
 use Rattle.pv_cache.proofs.Limits.{node_changed}
 use Rattle.pv_cache.proofs.ChangedOwner.{bare, came-parts}
@@ -176,12 +176,12 @@ came-bad inner old x a e k m b z h is = absurd cc
 came-bad (named name) old x a e k m b z h is = named-bad name x a e k m old h is
 
 module _ (g : PlainDtd) (root : List ℕ) where
-  -- the list after the change, mended
+  -- the list after the change, updated
   list-bad : (c : Change Mark) (ts : List (Tree Mark)) (i : Option InnerVerdict) (stamp : ℕ) →
       c.from ≤ c.to → c.to ≤ length ts → HaveNoKids c.filling →
       CanFill c.filling (between c.from c.to ts) →
       IsInnerJudged g root c (in_place_of c.filling (between c.from c.to ts)) i →
-      bad_in_all (mend_kids i stamp (forest_of (list_after c ts))) + bad_gone c.filling
+      bad_in_all (update_kids i stamp (forest_of (list_after c ts))) + bad_gone c.filling
       (between c.from c.to ts) ≡ bad_in_all (forest_of ts) + own_inner i
   list-bad c ts None stamp h l z f j =
       let old = between c.from c.to ts in
@@ -192,7 +192,7 @@ module _ (g : PlainDtd) (root : List ℕ) where
   list-bad c ts (Some i) stamp h l z f j =
       let old = between c.from c.to ts in
       let o = j.2 in
-      let new = mend_element i.verdict stamp (element o.name o.attrs o.ending o.kids o.mark) in
+      let new = update_element i.verdict stamp (element o.name o.attrs o.ending o.kids o.mark) in
       let is = ap bad_in_all (came-parts g root c ts i stamp h l j) in
       let a = bad-joined (take c.from ts) (new ∷ drop c.to ts) in
       let b = was-three ts c.from c.to h in
@@ -213,12 +213,12 @@ change-bad h (down {path = path} q n) =
     let b = change-bad h n in
     omega arith
 
-mend-bad : {path : List ℕ} {t u : Tree Mark} (f : Tree Mark → Tree Mark) → NodeAt path t u →
-    bad_in (mend_below path f t) + bad_in u ≡ bad_in t + bad_in (f u)
-mend-bad f here = omega arith
-mend-bad f (down {path = path} q n) =
-    let a = kid-bad (mend_below path f) q in
-    let b = mend-bad f n in
+update-bad : {path : List ℕ} {t u : Tree Mark} (f : Tree Mark → Tree Mark) → NodeAt path t u →
+    bad_in (update_below path f t) + bad_in u ≡ bad_in t + bad_in (f u)
+update-bad f here = omega arith
+update-bad f (down {path = path} q n) =
+    let a = kid-bad (update_below path f) q in
+    let b = update-bad f n in
     omega arith
 
 module _ (g : PlainDtd) (root : List ℕ) (doc : PlainDoc Mark) (c : Change Mark)
@@ -231,7 +231,7 @@ module _ (g : PlainDtd) (root : List ℕ) (doc : PlainDoc Mark) (c : Change Mark
 
   abbrev Counted : List ℕ → List (Tree Mark) → Type 0
   Counted list ts =
-      told_bad (mend_doc list v i stamp (record doc { root = root_after list c doc.root }))
+      told_bad (update_doc list v i stamp (record doc { root = root_after list c doc.root }))
       + (own_at doc.mark (spot_at list doc.root) + Gone ts) ≡ told_bad doc + bad_gained v i
 
   inside-bad : (path : List ℕ) (ts : List (Tree Mark)) → Made doc.mark (zero ∷ path) c doc.root ts →
@@ -253,7 +253,7 @@ module _ (g : PlainDtd) (root : List ℕ) (doc : PlainDoc Mark) (c : Change Mark
       let list = list-bad g root c (trees_of o.kids) i stamp d.order within z fits judged in
       let whole = ap bad_in_all (forest-trees o.kids) in
       let a = change-bad (owner_after c) n in
-      let b = mend-bad (mend_owner v i stamp) (node_changed (owner_after c) n) in
+      let b = update-bad (update_owner v i stamp) (node_changed (owner_after c) n) in
       omega arith
 
   top-bad : (ts : List (Tree Mark)) → Made doc.mark [] c doc.root ts → Inner ts → Counted [] ts
@@ -281,8 +281,8 @@ module _ (g : PlainDtd) (root : List ℕ) (doc : PlainDoc Mark) (c : Change Mark
   bad-by (suc k ∷ path) ts d j = let h = at_node d.owner.node in absurd cc
 
 -- the number is that from before, without what went, and with what came
-pub mended-counted : MendedIsCounted
-mended-counted g root doc c v i stamp can unshort b j =
+pub updated-counted : UpdatedIsCounted
+updated-counted g root doc c v i stamp can unshort b j =
     let d = can-made doc.mark c.list c doc.root can unshort in
     let kids = owner-list d.1 in
     let judged : IsInnerJudged g root c (in_place_of c.filling (between c.from c.to d.0)) i =
@@ -290,6 +290,6 @@ mended-counted g root doc c v i stamp can unshort b j =
     IsInnerJudged g root c (in_place_of c.filling (between c.from c.to ts)) i) kids j.within in
     let all = bad-by g root doc c (bare-kids c.filling b) v i stamp c.list d.0 d.1 judged in
     subst (λ (ts : List (Tree Mark)).
-    told_bad (mend_doc c.list v i stamp (doc_after c doc))
+    told_bad (update_doc c.list v i stamp (doc_after c doc))
     + (own_at doc.mark (spot_at c.list doc.root) + bad_gone c.filling (between c.from c.to ts))
     ≡ told_bad doc + bad_gained v i) (sym kids) all

@@ -1,4 +1,4 @@
--- What is kept of a list stays right where others come into it, and where marks are mended.
+-- What is kept of a list stays right where others come into it, and where marks are updated.
 use Rattle.std.proofs.Common.{◌≡◌, ◌∙◌, ap, sym, refl, ℕ, true, false, List, [], Option, Some, None}
 use Rattle.std.proofs.Common.{map, subst}
 use Rattle.std.specs.Option.{ForSome, option_map}
@@ -19,8 +19,8 @@ use Rattle.pv_tree.specs.Plain.{without_marks}
 use Rattle.pv_tree.specs.declared.nodes.Mark.{Mark}
 use Rattle.pv_tree.specs.declared.nodes.Verdict.{Verdict}
 use Rattle.pv_cache.specs.Judging.{AreListTokens, AreKeptTokens}
-use Rattle.pv_cache.specs.Mending.{mend_doc}
-use Rattle.pv_cache.specs.declared.mending.InnerVerdict.{InnerVerdict}
+use Rattle.pv_cache.specs.Updates.{update_doc}
+use Rattle.pv_cache.specs.declared.updates.InnerVerdict.{InnerVerdict}
 use Rattle.pv_cache.specs.declared.words.KeptTokens.{KeptTokens}
 use Rattle.pv_cache.specs.declared.words.ListTokens.{ListTokens}
 use Rattle.pv_cache.proofs.Alike.{list_at_as}
@@ -79,13 +79,13 @@ module _ (g : PlainDtd) (doc : PlainDoc Mark) (c : Change Mark) (can : CanChange
       ap items_of (list_stands doc.mark c.list c doc.root d.0 d.1)
       ∙ ap (list_after c) (sym (owner-kids d.1.owner))
 
-  -- the tokens of a changed list are those of the list in the mended document
+  -- the tokens of a changed list are those of the list in the updated document
   pub kept-after : (tokens : ListTokens) →
       AreListTokens g (forest_of (list_after c (kids_at c.list doc.root))) tokens →
       AreListTokens g
-      (forest_of (kids_at c.list (mend_doc c.list v inner stamp (doc_after c doc)).root)) tokens
+      (forest_of (kids_at c.list (update_doc c.list v inner stamp (doc_after c doc)).root)) tokens
   kept-after tokens t =
-      let new = mend_doc c.list v inner stamp (doc_after c doc) in
+      let new = update_doc c.list v inner stamp (doc_after c doc) in
       let e =
       heads-kids c.list new (doc_after c doc) (doc-as c.list v inner stamp (doc_after c doc)) in
       tokens-alike g (forest_of (list_after c (kids_at c.list doc.root)))

@@ -14,7 +14,7 @@ use Rattle.pv_tree.specs.declared.nodes.Node.{Node}
 use Rattle.pv_tree.specs.declared.nodes.Verdict.{Verdict}
 use Rattle.pv_tree.specs.declared.nodes.Verdict.TheVariants as verdict
 use Rattle.pv_cache.specs.Laying.{lay_node, lay_kids, lists_in, lists_in_all, nth_verdict}
-use Rattle.pv_cache.specs.Mending.{IsCounted, IsDocCounted, mend_doc}
+use Rattle.pv_cache.specs.Updates.{IsCounted, IsDocCounted, update_doc}
 use Rattle.pv_cache.specs.WellMarked.{own_left, told_left, told_left_in, told_nodes, told_nodes_in}
 
 pub none_numbered : (vs : List Verdict) (n : ℕ) → slice_get vs n ≡ None →
@@ -150,7 +150,7 @@ module _ (vs : List Verdict) where
 
 -- the numbers of the document's own mark
 pub root_counted : (vs : List Verdict) (t : Tree Mark) (v : Verdict) (doc : PlainDoc Mark) →
-    nodes_in t ≤ MAX_NODES → doc.root ≡ lay_node vs 1 t → IsDocCounted (mend_doc [] v None 0 doc)
+    nodes_in t ≤ MAX_NODES → doc.root ≡ lay_node vs 1 t → IsDocCounted (update_doc [] v None 0 doc)
 root_counted vs t v doc small e =
     let l = laid_left vs 1 t in
     let n = laid_nodes vs 1 t in

@@ -1,4 +1,4 @@
--- One level of a tree that is mended.
+-- One level of a tree that is updated.
 use Rattle.std.proofs.Common.{◌≡◌, ◌∙◌, ap, sym, refl, ℕ, ◌+◌, ◌-◌, ◌<◌, ◌≤◌, ◌^◌, List, [], ◌∷◌}
 use Rattle.std.proofs.Common.{length, take, drop, get_or, Option, Some, None, slice_get, slice_set}
 use Rattle.std.proofs.Common.{arith, subst, IsTrue}
@@ -16,10 +16,10 @@ use Rattle.pv_tree.specs.PlainForms.{plain, plain_all}
 use Rattle.pv_tree.specs.declared.nodes.Mark.{Mark}
 use Rattle.pv_tree.specs.declared.nodes.Node.{Node}
 use Rattle.pv_tree.specs.declared.nodes.Verdict.{Verdict}
-use Rattle.pv_cache.specs.Mending.{CanMend, HasElement, IsCounted, KidIsCounted, TellsAtLeast}
-use Rattle.pv_cache.specs.Mending.{mend_element, mend_below, mend_owner, mend_kid, with_told}
+use Rattle.pv_cache.specs.Updates.{CanUpdate, HasElement, IsCounted, KidIsCounted, TellsAtLeast}
+use Rattle.pv_cache.specs.Updates.{update_element, update_below, update_owner, update_kid, with_told}
 use Rattle.pv_cache.specs.WellMarked.{told_left, told_left_in, told_nodes, told_nodes_in}
-use Rattle.pv_cache.specs.declared.mending.InnerVerdict.{InnerVerdict}
+use Rattle.pv_cache.specs.declared.updates.InnerVerdict.{InnerVerdict}
 use Rattle.pv_cache.specs.declared.told.Told.{Told}
 
 -- a kid in a vector
@@ -67,25 +67,25 @@ told-same : (m : Mark) (a b c d : ℕ) → a ≡ c → b ≡ d →
 told-same m a b c d p q =
     ap (λ n. record m { left = n; nodes = b }) p ∙ ap (λ n. record m { left = c; nodes = n }) q
 
--- what a mend below needs at a kid, and what it finds there
+-- what a update below needs at a kid, and what it finds there
 pub record Below (P : Tree Mark → Type 0) (path : List ℕ) (f : Tree Mark →
     Tree Mark) (t : Tree Mark) (i : ℕ) (k : Tree Mark) : Type 0 where
-  pub can : CanMend P path k
-  pub counted : IsCounted (mend_below path f k)
+  pub can : CanUpdate P path k
+  pub counted : IsCounted (update_below path f k)
   pub at_least : (told_left k ≤ told_left t) × (told_nodes k ≤ told_nodes t)
   pub told_again : (before after : Told) → before.left ≡ told_left k → before.nodes ≡ told_nodes k →
-      after.left ≡ told_left (mend_below path f k) →
-      after.nodes ≡ told_nodes (mend_below path f k) →
-      with_told before after (change_below (i ∷ []) (mend_below path f) t)
-      ≡ mend_below (i ∷ path) f t
+      after.left ≡ told_left (update_below path f k) →
+      after.nodes ≡ told_nodes (update_below path f k) →
+      with_told before after (change_below (i ∷ []) (update_below path f) t)
+      ≡ update_below (i ∷ path) f t
 
 below-kid : (P : Tree Mark → Type 0) (path : List ℕ) (f : Tree Mark →
     Tree Mark) (x attrs : List ℕ) (kids : Forest Mark) (m : Mark) (i : ℕ) (k : Tree Mark) →
-    KidAt i kids k → CanMend P path k → told_left_in kids ≤ m.left → told_nodes_in kids ≤ m.nodes →
-    (e : _) → IsCounted (mend_below (i ∷ path) f (element x attrs e kids m)) →
+    KidAt i kids k → CanUpdate P path k → told_left_in kids ≤ m.left → told_nodes_in kids ≤ m.nodes →
+    (e : _) → IsCounted (update_below (i ∷ path) f (element x attrs e kids m)) →
     Below P path f (element x attrs e kids m) i k
 below-kid P path f x attrs kids m i k q can l n e c =
-    let h = mend_below path f in
+    let h = update_below path f in
     let sl = sum-left h q in
     let sn = sum-nodes h q in
     let pl = part-left q in
@@ -111,12 +111,12 @@ found Q i kids (Some k) e h = (kid_at i kids k e, h)
 
 place-below : (P : Tree Mark → Type 0) (path : List ℕ) (f : Tree Mark →
     Tree Mark) (t : Tree Mark) (i : ℕ) (ks : List Node) (d : Node) → plain_all ks ≡ kids_of t →
-    CanMend P (i ∷ path) t → IsCounted (mend_below (i ∷ path) f t) →
+    CanUpdate P (i ∷ path) t → IsCounted (update_below (i ∷ path) f t) →
     (i < length ks) × Below P path f t i (plain (get_or ks i d))
 place-below P path f (element x attrs e kids m) i ks d s can c =
     let p =
-    at-place (λ k. KidAt i kids k × CanMend P path k) i (trees_of kids) ks d s
-    (found (CanMend P path) i kids (slice_get (trees_of kids) i) refl can.2) in
+    at-place (λ k. KidAt i kids k × CanUpdate P path k) i (trees_of kids) ks d s
+    (found (CanUpdate P path) i kids (slice_get (trees_of kids) i) refl can.2) in
     (p.0, below-kid P path f x attrs kids m i (plain (get_or ks i d)) p.1.0 p.1.1 can.0 can.1 e c)
 place-below P path f (text_node us) i ks d s can c = absurd can
 place-below P path f (cdata_node b) i ks d s can c = absurd can
@@ -124,21 +124,21 @@ place-below P path f (misc_node b) i ks d s can c = absurd can
 
 pub first-below : (P : Tree Mark → Type 0) (path : List ℕ) (f : Tree Mark →
     Tree Mark) (t : Tree Mark) (ks : List Node) (d : Node) → 1 ≤ length path →
-    plain_all ks ≡ kids_of t → CanMend P path t → IsCounted (mend_below path f t) →
+    plain_all ks ≡ kids_of t → CanUpdate P path t → IsCounted (update_below path f t) →
     (get_or path 0 0 < length ks) ×
     Below P (take (length path - 1) (drop 1 path)) f t (get_or path 0 0)
     (plain (get_or ks (get_or path 0 0) d))
 first-below P path f t ks d n s can c =
     place-below P (take (length path - 1) (drop 1 path)) f t (get_or path 0 0) ks d s
-    (subst (λ (q : List ℕ). CanMend P q t) (path-split path n) can)
-    (subst (λ (q : List ℕ). IsCounted (mend_below q f t)) (path-split path n) c)
+    (subst (λ (q : List ℕ). CanUpdate P q t) (path-split path n) can)
+    (subst (λ (q : List ℕ). IsCounted (update_below q f t)) (path-split path n) c)
 
-pub kid-mended : (inner : InnerVerdict) (stamp : ℕ) (t : Tree Mark) → IsTrue (is_element t) →
-    change_below (inner.place ∷ []) (mend_element inner.verdict stamp) t ≡ mend_kid inner stamp t
-kid-mended inner stamp (element x attrs e kids m) h = refl
-kid-mended inner stamp (text_node us) h = absurd cc
-kid-mended inner stamp (cdata_node b) h = absurd cc
-kid-mended inner stamp (misc_node b) h = absurd cc
+pub kid-updated : (inner : InnerVerdict) (stamp : ℕ) (t : Tree Mark) → IsTrue (is_element t) →
+    change_below (inner.place ∷ []) (update_element inner.verdict stamp) t ≡ update_kid inner stamp t
+kid-updated inner stamp (element x attrs e kids m) h = refl
+kid-updated inner stamp (text_node us) h = absurd cc
+kid-updated inner stamp (cdata_node b) h = absurd cc
+kid-updated inner stamp (misc_node b) h = absurd cc
 
 kid-counted : (h : Tree Mark → Tree Mark) {i : ℕ} {kids : Forest Mark} {k : Tree Mark} →
     KidAt i kids k → (told_left (h k) ≤ told_left_in (change_kid h i kids)) ×
@@ -149,16 +149,16 @@ kid-counted h q =
 
 one-counted : (inner : InnerVerdict) (stamp : ℕ) (kids : Forest Mark) (o : Option (Tree Mark)) →
     slice_get (trees_of kids) inner.place ≡ o → IsSomeAnd o (λ t. IsTrue (is_element t)) →
-    told_left_in (change_kid (mend_element inner.verdict stamp) inner.place kids) < 2 ^ 64 →
-    told_nodes_in (change_kid (mend_element inner.verdict stamp) inner.place kids) < 2 ^ 64 →
-    IsSomeAnd o (λ k. IsCounted (mend_element inner.verdict stamp k))
+    told_left_in (change_kid (update_element inner.verdict stamp) inner.place kids) < 2 ^ 64 →
+    told_nodes_in (change_kid (update_element inner.verdict stamp) inner.place kids) < 2 ^ 64 →
+    IsSomeAnd o (λ k. IsCounted (update_element inner.verdict stamp k))
 one-counted inner stamp kids None e h l n = absurd h
 one-counted inner stamp kids (Some k) e h l n =
-    let b = kid-counted (mend_element inner.verdict stamp) (kid_at inner.place kids k e) in
+    let b = kid-counted (update_element inner.verdict stamp) (kid_at inner.place kids k e) in
     let p = b.0 in let q = b.1 in record { left = omega arith; nodes = omega arith }
 
 pub inner-counted : (v : Verdict) (inner : InnerVerdict) (stamp : ℕ) (t : Tree Mark) →
-    HasElement (kids_of t) inner.place → IsCounted (mend_owner v (Some inner) stamp t) →
+    HasElement (kids_of t) inner.place → IsCounted (update_owner v (Some inner) stamp t) →
     KidIsCounted inner stamp t
 inner-counted v inner stamp (element x attrs e kids m) h c =
     let l = c.left in let n = c.nodes in
@@ -176,32 +176,32 @@ same-told i h (text_node us) = (refl, refl)
 same-told i h (cdata_node b) = (refl, refl)
 same-told i h (misc_node b) = (refl, refl)
 
--- one level of the mending of a tree: its kids taken out, one of them mended, put back, and its
+-- one level of the updating of a tree: its kids taken out, one of them updated, put back, and its
 -- mark told again
 module _ (P : Tree Mark → Type 0) (path : List ℕ) (f : Tree Mark →
     Tree Mark) (old bare put : Tree Mark) (ks : List Node) (kid new : Node) (before after : Told)
     (n : 1 ≤ length path) (taken : plain_all ks ≡ kids_of old) (rest : bare ≡ with_kids [] old)
     (is_put : put ≡ with_kids (plain_all (slice_set ks (get_or path 0 0) new)) bare)
     (is_kid : kid ≡ get_or ks (get_or path 0 0) kid)
-    (made : plain new ≡ mend_below (take (length path - 1) (drop 1 path)) f (plain kid))
+    (made : plain new ≡ update_below (take (length path - 1) (drop 1 path)) f (plain kid))
     (bl : before.left ≡ told_left (plain kid)) (bn : before.nodes ≡ told_nodes (plain kid))
     (al : after.left ≡ told_left (plain new)) (an : after.nodes ≡ told_nodes (plain new))
-    (can : CanMend P path old) (counted : IsCounted (mend_below path f old)) where
+    (can : CanUpdate P path old) (counted : IsCounted (update_below path f old)) where
   below-it : (get_or path 0 0 < length ks) ×
       Below P (take (length path - 1) (drop 1 path)) f old (get_or path 0 0) (plain kid)
   below-it = rw is_kid (first-below P path f old ks kid n taken can counted)
 
   is-changed : put ≡ change_below (get_or path 0 0 ∷ [])
-      (mend_below (take (length path - 1) (drop 1 path)) f) old
+      (update_below (take (length path - 1) (drop 1 path)) f) old
   is-changed =
       put_back old bare put (plain_all (slice_set ks (get_or path 0 0) new)) rest is_put
-      ∙ kid-put (mend_below (take (length path - 1) (drop 1 path)) f) (get_or path 0 0) old ks kid
+      ∙ kid-put (update_below (take (length path - 1) (drop 1 path)) f) (get_or path 0 0) old ks kid
       new taken below-it.0 is_kid made
 
   pub level-at-least : TellsAtLeast before put
   level-at-least =
       let same =
-      same-told (get_or path 0 0) (mend_below (take (length path - 1) (drop 1 path)) f) old in
+      same-told (get_or path 0 0) (update_below (take (length path - 1) (drop 1 path)) f) old in
       let l = below-it.1.at_least.0 in
       let m = below-it.1.at_least.1 in
       let p = ap told_left is-changed in
@@ -210,11 +210,11 @@ module _ (P : Tree Mark → Type 0) (path : List ℕ) (f : Tree Mark →
       let y = same.1 in
       (omega arith, omega arith)
 
-  pub level-again : with_told before after put ≡ mend_below path f old
+  pub level-again : with_told before after put ≡ update_below path f old
   level-again =
       ap (with_told before after) is-changed
       ∙ below-it.1.told_again before after bl bn (al ∙ ap told_left made) (an ∙ ap told_nodes made)
-      ∙ ap (λ (q : List ℕ). mend_below q f old) (sym (path-split path n))
+      ∙ ap (λ (q : List ℕ). update_below q f old) (sym (path-split path n))
 
   pub level-counted : IsCounted (with_told before after put)
   level-counted = subst IsCounted (sym level-again) counted

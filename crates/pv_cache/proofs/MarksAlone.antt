@@ -1,4 +1,4 @@
--- Mending changes marks alone.
+-- Updating changes marks alone.
 use Rattle.std.proofs.Common.{◌≡◌, ◌≤◌, ap, arith, sym, refl, ℕ, zero, suc, List, [], ◌∷◌, Option}
 use Rattle.std.proofs.Common.{Some, None, subst}
 use Rattle.pv_edit.specs.Changes.{change_kid}
@@ -10,9 +10,9 @@ use Rattle.pv_tree.specs.Plain.{map_marks_all, nodes_in, text_node, tree, withou
 use Rattle.pv_tree.specs.declared.nodes.Mark.{Mark}
 use Rattle.pv_tree.specs.declared.nodes.Verdict.{Verdict}
 use Rattle.pv_cache.specs.Accepting.{MAX_EDITED_NODES}
-use Rattle.pv_cache.specs.Mending.{mend_element, mend_below, mend_doc, mend_kids, mend_owner}
-use Rattle.pv_cache.specs.Mending.{mend_root}
-use Rattle.pv_cache.specs.declared.mending.InnerVerdict.{InnerVerdict}
+use Rattle.pv_cache.specs.Updates.{update_element, update_below, update_doc, update_kids, update_owner}
+use Rattle.pv_cache.specs.Updates.{update_root}
+use Rattle.pv_cache.specs.declared.updates.InnerVerdict.{InnerVerdict}
 use Rattle.pv_cache.proofs.OtherMarks.{nodes_unmarked}
 
 -- the function changes marks alone
@@ -28,20 +28,20 @@ kid-as f k i no_trees = refl
 kid-as f k zero (tree t rest) = ap (λ u. tree u (all_without_marks rest)) (k t)
 kid-as f k (suc i) (tree t rest) = ap (tree (without_marks t)) (kid-as f k i rest)
 
-pub mended-as : (v : Verdict) (stamp : ℕ) → KeepsTrees (mend_element v stamp)
-mended-as v stamp (element x a e kids m) = refl
-mended-as v stamp (text_node us) = refl
-mended-as v stamp (cdata_node b) = refl
-mended-as v stamp (misc_node b) = refl
+pub updated-as : (v : Verdict) (stamp : ℕ) → KeepsTrees (update_element v stamp)
+updated-as v stamp (element x a e kids m) = refl
+updated-as v stamp (text_node us) = refl
+updated-as v stamp (cdata_node b) = refl
+updated-as v stamp (misc_node b) = refl
 
 kids-as : (inner : Option InnerVerdict) (stamp : ℕ) (kids : Forest Mark) →
-    all_without_marks (mend_kids inner stamp kids) ≡ all_without_marks kids
+    all_without_marks (update_kids inner stamp kids) ≡ all_without_marks kids
 kids-as None stamp kids = refl
 kids-as (Some i) stamp kids =
-    kid-as (mend_element i.verdict stamp) (mended-as i.verdict stamp) i.place kids
+    kid-as (update_element i.verdict stamp) (updated-as i.verdict stamp) i.place kids
 
 pub owner-as : (v : Verdict) (inner : Option InnerVerdict) (stamp : ℕ) →
-    KeepsTrees (mend_owner v inner stamp)
+    KeepsTrees (update_owner v inner stamp)
 owner-as v inner stamp (element x a e kids m) =
     ap (λ k. element x a e k tt) (kids-as inner stamp kids)
 owner-as v inner stamp (text_node us) = refl
@@ -49,39 +49,39 @@ owner-as v inner stamp (cdata_node b) = refl
 owner-as v inner stamp (misc_node b) = refl
 
 pub below-as : (path : List ℕ) (f : Tree Mark → Tree Mark) → KeepsTrees f →
-    KeepsTrees (mend_below path f)
+    KeepsTrees (update_below path f)
 below-as [] f k t = k t
 below-as (i ∷ path) f k (element x a e kids m) =
-    ap (λ l. element x a e l tt) (kid-as (mend_below path f) (below-as path f k) i kids)
+    ap (λ l. element x a e l tt) (kid-as (update_below path f) (below-as path f k) i kids)
 below-as (i ∷ path) f k (text_node us) = refl
 below-as (i ∷ path) f k (cdata_node b) = refl
 below-as (i ∷ path) f k (misc_node b) = refl
 
-pub root-as : (inner : Option InnerVerdict) (stamp : ℕ) → KeepsTrees (mend_root inner stamp)
+pub root-as : (inner : Option InnerVerdict) (stamp : ℕ) → KeepsTrees (update_root inner stamp)
 root-as None stamp t = refl
-root-as (Some i) stamp t = mended-as i.verdict stamp t
+root-as (Some i) stamp t = updated-as i.verdict stamp t
 
--- a mended document is the same document
+-- a updated document is the same document
 pub doc-as : (path : List ℕ) (v : Verdict) (inner : Option InnerVerdict) (stamp : ℕ)
-    (doc : PlainDoc Mark) → unmarked_doc (mend_doc path v inner stamp doc) ≡ unmarked_doc doc
+    (doc : PlainDoc Mark) → unmarked_doc (update_doc path v inner stamp doc) ≡ unmarked_doc doc
 doc-as [] v inner stamp doc =
     ap (λ t. record { before = doc.before; root = t; after = doc.after; mark = tt })
     (root-as inner stamp doc.root)
 doc-as (i ∷ path) v inner stamp doc =
     ap (λ t. record { before = doc.before; root = t; after = doc.after; mark = tt })
-    (below-as path (mend_owner v inner stamp) (owner-as v inner stamp) doc.root)
+    (below-as path (update_owner v inner stamp) (owner-as v inner stamp) doc.root)
 
 -- and what a document keeps of its tree stays
 pub still-kept : (t u : Tree Mark) → without_marks u ≡ without_marks t → IsKept t → IsKept u
 still-kept t u e k =
     kept-from (λ _. tt) u (subst (λ (v : Tree Unit). IsKept v) (sym e) (kept-to (λ _. tt) t k))
 
--- nor does mending make nodes
-pub few-mended : (path : List ℕ) (v : Verdict) (inner : Option InnerVerdict) (stamp : ℕ)
+-- nor does updating make nodes
+pub few-updated : (path : List ℕ) (v : Verdict) (inner : Option InnerVerdict) (stamp : ℕ)
     (doc : PlainDoc Mark) → nodes_in doc.root ≤ MAX_EDITED_NODES →
-    nodes_in (mend_doc path v inner stamp doc).root ≤ MAX_EDITED_NODES
-few-mended path v inner stamp doc n =
+    nodes_in (update_doc path v inner stamp doc).root ≤ MAX_EDITED_NODES
+few-updated path v inner stamp doc n =
     let s = ap (λ (d : PlainDoc Unit). nodes_in d.root) (doc-as path v inner stamp doc) in
-    let a = nodes_unmarked (mend_doc path v inner stamp doc).root in
+    let a = nodes_unmarked (update_doc path v inner stamp doc).root in
     let b = nodes_unmarked doc.root in
     omega arith

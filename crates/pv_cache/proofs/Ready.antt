@@ -1,4 +1,4 @@
--- A changed document can be mended, and is well marked then.
+-- A changed document can be updated, and is well marked then.
 use Rattle.std.proofs.Common.{◌≡◌, ◌∙◌, ap, sym, refl, ℕ, zero, suc, ◌+◌, ◌<◌, ◌≤◌, ◌^◌, true, List}
 use Rattle.std.proofs.Common.{[], ◌∷◌, ◌++◌, length, take, drop, Option, Some, None, slice_get}
 use Rattle.std.proofs.Common.{arith, subst, IsTrue}
@@ -28,21 +28,21 @@ use Rattle.pv_tree.proofs.Levels.{trees-forest}
 use Rattle.pv_tree.specs.declared.nodes.Mark.{Mark}
 use Rattle.pv_tree.specs.declared.nodes.Verdict.{Verdict}
 use Rattle.pv_cache.specs.Changed.{AreJudged, IsInnerJudged, owner_at}
-use Rattle.pv_cache.specs.Mending.{CanMend, CanMendDoc, CanMendOwner, HasElement, IsDocCounted}
-use Rattle.pv_cache.specs.Mending.{IsExchange, OwnerTellsBefore, mend_doc, mend_inner}
+use Rattle.pv_cache.specs.Updates.{CanUpdate, CanUpdateDoc, CanUpdateOwner, HasElement, IsDocCounted}
+use Rattle.pv_cache.specs.Updates.{IsExchange, OwnerTellsBefore, update_doc, update_inner}
 use Rattle.pv_cache.specs.WellMarked.{IsWellMarked, TellsList, told_left, told_left_in, told_nodes}
 use Rattle.pv_cache.specs.WellMarked.{told_nodes_in}
-use Rattle.pv_cache.specs.declared.mending.Exchange.{Exchange}
-use Rattle.pv_cache.specs.declared.mending.InnerVerdict.{InnerVerdict}
+use Rattle.pv_cache.specs.declared.updates.Exchange.{Exchange}
+use Rattle.pv_cache.specs.declared.updates.InnerVerdict.{InnerVerdict}
 use Rattle.pv_cache.proofs.Around.{Around, below-shows, beside-kid, changed-around, further}
 use Rattle.pv_cache.proofs.Around.{right-here}
-use Rattle.pv_cache.proofs.Docs.{in-root, mended-marked, owner-shows}
+use Rattle.pv_cache.proofs.Docs.{in-root, updated-marked, owner-shows}
 use Rattle.pv_cache.proofs.ExchangedKids.{owner-tells}
 use Rattle.pv_cache.proofs.NodeLists.{node-has}
 use Rattle.pv_cache.proofs.TreeMarks.{doc-nodes, left-within, nodes-told, own-small}
 use Rattle.pv_cache.proofs.MarksAlone.{doc-as, still-kept}
 
--- that a document can be mended is a proposition
+-- that a document can be updated is a proposition
 no-prop : IsProp ⊥
 no-prop = λ a. absurd a
 
@@ -73,22 +73,22 @@ tells-prop e (cdata_node b) = no-prop
 tells-prop e (misc_node b) = no-prop
 
 owner-prop : (inner : Option InnerVerdict) (stamp : ℕ) (e : Exchange) (t : Tree Mark) →
-    IsProp (CanMendOwner inner stamp e t)
+    IsProp (CanUpdateOwner inner stamp e t)
 owner-prop inner stamp e t =
-    flat-prop (element-prop t) (inner-prop inner t) (tells-prop e (mend_inner inner stamp t))
+    flat-prop (element-prop t) (inner-prop inner t) (tells-prop e (update_inner inner stamp t))
 
 module _ (P : Tree Mark → Type 0) (p : (t : Tree Mark) → IsProp (P t)) where
-  can-prop : (path : List ℕ) (t : Tree Mark) → IsProp (CanMend P path t)
+  can-prop : (path : List ℕ) (t : Tree Mark) → IsProp (CanUpdate P path t)
   can-prop [] t = p t
   can-prop (i ∷ path) (element x a e kids m) =
       flat-prop (le_prop {n = told_left_in kids} {m = m.left})
       (le_prop {n = told_nodes_in kids} {m = m.nodes})
-      (some-prop (CanMend P path) (can-prop path) (slice_get (trees_of kids) i))
+      (some-prop (CanUpdate P path) (can-prop path) (slice_get (trees_of kids) i))
   can-prop (i ∷ path) (text_node us) = no-prop
   can-prop (i ∷ path) (cdata_node b) = no-prop
   can-prop (i ∷ path) (misc_node b) = no-prop
 
-  doc-prop : (path : List ℕ) (doc : PlainDoc Mark) → IsProp (CanMendDoc P path doc)
+  doc-prop : (path : List ℕ) (doc : PlainDoc Mark) → IsProp (CanUpdateDoc P path doc)
   doc-prop [] doc = Unit-prop
   doc-prop (i ∷ path) doc =
       flat-prop (le_prop {n = told_left doc.root} {m = doc.mark.left})
@@ -101,14 +101,14 @@ get-middle (x ∷ xs) ys n = get-middle xs ys n
 
 module _ (g : PlainDtd) (root : List ℕ) where
   around-can : (P : Tree Mark → Type 0) {path : List ℕ} {t u : Tree Mark} → Around g root path t u →
-      P u → CanMend P path t
+      P u → CanUpdate P path t
   around-can P right-here c = c
   around-can P (further {i = i} {path = path} {kids = kids} {m = m} h b a) c =
       let l = h.left in
       let n = h.nodes in (
         omega arith,
         omega arith,
-        subst (λ (o : Option (Tree Mark)). IsSomeAnd o (CanMend P path))
+        subst (λ (o : Option (Tree Mark)). IsSomeAnd o (CanUpdate P path))
             (sym (at_kid (beside-kid g root b))) (around-can P a c),
       )
 
@@ -131,14 +131,14 @@ module _ (g : PlainDtd) (root : List ℕ) where
 
   module _ (doc : PlainDoc Mark) (c : Change Mark) (v : Verdict) (inner : Option InnerVerdict)
       (stamp : ℕ) (ex : Exchange) where
-    abbrev Mendable : Tree Mark → Type 0
-    Mendable = CanMendOwner inner stamp ex
+    abbrev Updatable : Tree Mark → Type 0
+    Updatable = CanUpdateOwner inner stamp ex
 
     can-inside : IsWellMarked g root doc → (path : List ℕ) (ts : List (Tree Mark)) →
         Made doc.mark (zero ∷ path) c doc.root ts →
         IsInnerJudged g root c (in_place_of c.filling (between c.from c.to ts)) inner →
         IsExchange c ts ex →
-        CanMendDoc Mendable (zero ∷ path)
+        CanUpdateDoc Updatable (zero ∷ path)
         (record doc { root = root_after (zero ∷ path) c doc.root })
     can-inside w path ts d j x =
         let o = d.owner in
@@ -165,19 +165,19 @@ module _ (g : PlainDtd) (root : List ℕ) where
         let tells =
         owner-tells g root c o.name o.attrs o.ending o.kids o.mark stamp ex d.order within exchanged
         own.0 inner inner-judged in
-        let here : Mendable (owner_after c (element o.name o.attrs o.ending o.kids o.mark)) = (
+        let here : Updatable (owner_after c (element o.name o.attrs o.ending o.kids o.mark)) = (
           refl,
           subst (λ (ks : List (Tree Mark)). IfSome inner (λ i. HasElement ks i.place))
               (sym kids) stands,
           tells,
         ) in
-        (omega arith, omega arith, around-can Mendable a here)
+        (omega arith, omega arith, around-can Updatable a here)
 
     can-by : IsWellMarked g root doc → (list : List ℕ) (ts : List (Tree Mark)) →
         Made doc.mark list c doc.root ts →
         IsInnerJudged g root c (in_place_of c.filling (between c.from c.to ts)) inner →
         IsExchange c ts ex →
-        CanMendDoc Mendable list (record doc { root = root_after list c doc.root })
+        CanUpdateDoc Updatable list (record doc { root = root_after list c doc.root })
     can-by w [] ts d j x = tt
     can-by w (zero ∷ path) ts d j x = can-inside w path ts d j x
     can-by w (suc k ∷ path) ts d j x = let h = at_node d.owner.node in absurd cc
@@ -186,9 +186,9 @@ module _ (g : PlainDtd) (root : List ℕ) where
         c.shorten ≡ false) (bare : BringsBare c.filling)
         (j : AreJudged g root (owner_at c.list doc.root) (kids_at c.list doc.root) c v inner) where
       pub ready-can : ∥ IsWellMarked g root doc ∥₁ → IsExchange c (kids_at c.list doc.root) ex →
-          CanMendDoc Mendable c.list (doc_after c doc)
+          CanUpdateDoc Updatable c.list (doc_after c doc)
       ready-can m x =
-          ∥∥₁_elim m (doc-prop Mendable (owner-prop inner stamp ex) c.list (doc_after c doc)) (λ w.
+          ∥∥₁_elim m (doc-prop Updatable (owner-prop inner stamp ex) c.list (doc_after c doc)) (λ w.
           let d = can-made doc.mark c.list c doc.root can unshort in
           let same = owner-kids d.1.owner in
           can-by w c.list d.0 d.1
@@ -197,12 +197,12 @@ module _ (g : PlainDtd) (root : List ℕ) where
           j.within) (subst (λ (ts : List (Tree Mark)). IsExchange c ts ex) same x))
 
       pub ready-marked : ∥ IsWellMarked g root doc ∥₁ →
-          ∥ IsWellMarked g root (mend_doc c.list v inner stamp (doc_after c doc)) ∥₁
+          ∥ IsWellMarked g root (update_doc c.list v inner stamp (doc_after c doc)) ∥₁
       ready-marked m =
-          ∥∥₁_map m (λ w. mended-marked g root doc c v inner stamp w can unshort bare j)
+          ∥∥₁_map m (λ w. updated-marked g root doc c v inner stamp w can unshort bare j)
 
       abbrev pub new : PlainDoc Mark
-      new = mend_doc c.list v inner stamp (doc_after c doc)
+      new = update_doc c.list v inner stamp (doc_after c doc)
 
       -- the numbers that its mark tells are small
       module _ (kept : IsKept (root_after c.list c doc.root)) where

@@ -32,8 +32,8 @@ use Rattle.pv_cache.specs.BadLists.{bad_gained, bad_lost}
 use Rattle.pv_cache.specs.Changed.{AreJudged, IsFirstAmong, IsInnerJudged, owner_at}
 use Rattle.pv_cache.specs.Changing.{AreNarrowAfter, IsUnaccepted}
 use Rattle.pv_cache.specs.Judging.{AreFound, AreNarrow, AreWords, IsInnerWord, IsWordOf}
-use Rattle.pv_cache.specs.declared.mending.ChangedVerdicts.{ChangedVerdicts}
-use Rattle.pv_cache.specs.declared.mending.InnerVerdict.{InnerVerdict}
+use Rattle.pv_cache.specs.declared.updates.ChangedVerdicts.{ChangedVerdicts}
+use Rattle.pv_cache.specs.declared.updates.InnerVerdict.{InnerVerdict}
 use Rattle.pv_cache.specs.declared.words.InnerWord.{InnerWord}
 use Rattle.pv_cache.specs.declared.words.ListWord.{ListWord}
 use Rattle.pv_cache.specs.declared.words.Words.{Words}

@@ -41,7 +41,7 @@ use Rattle.pv_cache.specs.Laying.{lay_doc}
 use Rattle.pv_cache.specs.Moves.{HasGround}
 use Rattle.pv_cache.specs.Stamps.{doc_as}
 use Rattle.pv_cache.specs.WellMarked.{IsWellMarked, own_bad}
-use Rattle.pv_cache.specs.declared.mending.InnerVerdict.{InnerVerdict}
+use Rattle.pv_cache.specs.declared.updates.InnerVerdict.{InnerVerdict}
 use Rattle.pv_cache.proofs.Alike.{applied_as, first_at_from, first_at_to, outcome_as, unmarked_as}
 use Rattle.pv_cache.proofs.Alike.{within_from, within_to}
 use Rattle.pv_cache.proofs.FirstChanged.{first-is-first, owner_here, owner_stays}

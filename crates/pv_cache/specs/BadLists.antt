@@ -3,7 +3,7 @@
 use Rattle.std.specs.Prelude.{List, None, Option, Some, [], ℕ, ◌+◌, ◌∷◌}
 use Rattle.std.specs.List.{between}
 use Rattle.pv_cache.specs.WellMarked.{bad_in_all, own_bad}
-use Rattle.pv_cache.specs.declared.mending.InnerVerdict.{InnerVerdict}
+use Rattle.pv_cache.specs.declared.updates.InnerVerdict.{InnerVerdict}
 use Rattle.pv_edit.specs.Changes.{Change, Filling, around, inner, named, others}
 use Rattle.pv_edit.specs.Reasons.{kids_at}
 use Rattle.pv_tree.specs.Places.{Spot, at_document, at_node, spot_at}

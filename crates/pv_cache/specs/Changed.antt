@@ -2,7 +2,7 @@
 use Rattle.std.specs.Prelude.{List, [], None, Option, Some, false, length, true, ℕ, ◌++◌}
 use Rattle.std.specs.Prelude.{◌∷◌, ◌≡◌}
 use Rattle.std.specs.List.{AllByRecursion, between}
-use Rattle.pv_cache.specs.declared.mending.InnerVerdict.{InnerVerdict}
+use Rattle.pv_cache.specs.declared.updates.InnerVerdict.{InnerVerdict}
 use Rattle.pv_dtd.specs.Plain.{PlainDtd}
 use Rattle.pv_edit.specs.Brought.{brings_element}
 use Rattle.pv_edit.specs.Changes.{Change, in_place_of, list_after}

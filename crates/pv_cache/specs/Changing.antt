@@ -6,7 +6,7 @@ use Rattle.pv_cache.specs.BadLists.{bad_gained, bad_lost}
 use Rattle.pv_cache.specs.Changed.{AreJudged, IsFirstAmong, owner_at}
 use Rattle.pv_cache.specs.Judging.{AreListTokens}
 use Rattle.pv_cache.specs.PlainMarked.{PlainMarked}
-use Rattle.pv_cache.specs.declared.mending.InnerVerdict.{InnerVerdict}
+use Rattle.pv_cache.specs.declared.updates.InnerVerdict.{InnerVerdict}
 use Rattle.pv_cache.specs.declared.moving.JudgedEdit.{JudgedEdit}
 use Rattle.pv_cache.specs.Stamps.{stamp_lists, stamps_of}
 use Rattle.pv_dtd.specs.Plain.{PlainDtd}

@@ -26,8 +26,8 @@ use Rattle.pv_tree.specs.declared.nodes.Verdict.{Verdict}
 use Rattle.pv_tree.specs.Lists.{an_element}
 use Rattle.pv_rules.specs.Sites.{PlainSite}
 use Rattle.pv_missing.specs.Weighing.{site_of}
-use Rattle.pv_cache.specs.declared.mending.InnerVerdict.{InnerVerdict}
-use Rattle.pv_cache.specs.declared.mending.ChangedVerdicts.{ChangedVerdicts}
+use Rattle.pv_cache.specs.declared.updates.InnerVerdict.{InnerVerdict}
+use Rattle.pv_cache.specs.declared.updates.ChangedVerdicts.{ChangedVerdicts}
 
 -- the word of a list, and whether it has no kids of any kind
 pub record IsWordOf (g : PlainDtd) (kids : Forest Mark) (word : ListWord) : Type 0 where

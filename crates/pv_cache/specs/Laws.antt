@@ -3,12 +3,12 @@ use Rattle.std.specs.Prelude.{List, Option, true, false, ℕ, ◌+◌, ◌≡◌
 use Rattle.std.specs.List.{AllByRecursion}
 use Rattle.pv_cache.specs.BadLists.{bad_gained, bad_lost}
 use Rattle.pv_cache.specs.Changed.{AreJudged, IsFirstAmong, IsFirstImpossibleAt, owner_at}
-use Rattle.pv_cache.specs.Mending.{mend_doc}
+use Rattle.pv_cache.specs.Updates.{update_doc}
 use Rattle.pv_cache.specs.Moves.{HasBad, HasOpen}
 use Rattle.pv_cache.specs.Rows.{AreRows}
 use Rattle.pv_cache.specs.Stamps.{StampedDoc}
 use Rattle.pv_cache.specs.WellMarked.{IsWellMarked, told_bad, verdicts_told}
-use Rattle.pv_cache.specs.declared.mending.InnerVerdict.{InnerVerdict}
+use Rattle.pv_cache.specs.declared.updates.InnerVerdict.{InnerVerdict}
 use Rattle.pv_dtd.specs.Plain.{PlainDtd}
 use Rattle.pv_edit.specs.Brought.{BringsBare, lists_changed}
 use Rattle.pv_edit.specs.Changes.{Change, doc_after}
@@ -34,30 +34,30 @@ MarksTell = (g : PlainDtd) (root : List ℕ) (doc : PlainDoc Mark) → IsWellMar
     AllByRecursion (IsListForVerdict g) (lists_of doc)
 
 -- A well marked document, of which a list is changed so that the changed lists have these verdicts,
--- is well marked once its marks are mended.
-abbrev pub MendedIsMarked : Type 0
-MendedIsMarked = (g : PlainDtd) (root : List ℕ) (doc : PlainDoc Mark) (c : Change Mark)
+-- is well marked once its marks are updated.
+abbrev pub UpdatedIsMarked : Type 0
+UpdatedIsMarked = (g : PlainDtd) (root : List ℕ) (doc : PlainDoc Mark) (c : Change Mark)
     (v : Verdict)
     (i : Option InnerVerdict) (stamp : ℕ) → IsWellMarked g root doc → CanChange c.list c doc.root →
     (is_top c.list ≡ true → c.shorten ≡ false) → BringsBare c.filling →
     AreJudged g root (owner_at c.list doc.root) (kids_at c.list doc.root) c v i →
-    IsWellMarked g root (mend_doc c.list v i stamp (doc_after c doc))
+    IsWellMarked g root (update_doc c.list v i stamp (doc_after c doc))
 
--- a mended document is the same document
-abbrev pub MendingKeepsDocuments : Type 0
-MendingKeepsDocuments = (path : List ℕ) (v : Verdict) (i : Option InnerVerdict) (stamp : ℕ)
+-- a updated document is the same document
+abbrev pub UpdatesKeepDocuments : Type 0
+UpdatesKeepDocuments = (path : List ℕ) (v : Verdict) (i : Option InnerVerdict) (stamp : ℕ)
     (doc : PlainDoc Mark) →
-    unmarked_doc (mend_doc path v i stamp doc) ≡ unmarked_doc doc
+    unmarked_doc (update_doc path v i stamp doc) ≡ unmarked_doc doc
 
 -- The number of its Impossible lists is that from before, without those that the change takes away
 -- or changes, and with those of the changed lists.
-abbrev pub MendedIsCounted : Type 0
-MendedIsCounted = (g : PlainDtd) (root : List ℕ) (doc : PlainDoc Mark) (c : Change Mark)
+abbrev pub UpdatedIsCounted : Type 0
+UpdatedIsCounted = (g : PlainDtd) (root : List ℕ) (doc : PlainDoc Mark) (c : Change Mark)
     (v : Verdict)
     (i : Option InnerVerdict) (stamp : ℕ) → CanChange c.list c doc.root →
     (is_top c.list ≡ true → c.shorten ≡ false) → BringsBare c.filling →
     AreJudged g root (owner_at c.list doc.root) (kids_at c.list doc.root) c v i →
-    told_bad (mend_doc c.list v i stamp (doc_after c doc)) + bad_lost c doc
+    told_bad (update_doc c.list v i stamp (doc_after c doc)) + bad_lost c doc
     ≡ told_bad doc + bad_gained v i
 
 -- The first Impossible one of the lists that a change changes, as the changed document has them, is

@@ -1,6 +1,6 @@
 -- A document whose marks tell verdicts given in document order.
 use Rattle.std.specs.Prelude.{List, [], None, get_or, suc, ℕ, ◌+◌}
-use Rattle.pv_cache.specs.Mending.{mend_element, mend_doc}
+use Rattle.pv_cache.specs.Updates.{update_element, update_doc}
 use Rattle.pv_tree.specs.Plain.{Forest, PlainDoc, Tree, cdata_node, element, misc_node, no_trees}
 use Rattle.pv_tree.specs.Plain.{text_node, tree}
 use Rattle.pv_tree.specs.declared.nodes.Mark.{Mark}
@@ -27,7 +27,7 @@ nth_verdict vs at = get_or vs at verdict.Valid
 abbrev mutual
   pub lay_node : List Verdict → ℕ → Tree Mark → Tree Mark
   lay_node vs at (element x attrs ending kids mark) =
-      mend_element (nth_verdict vs at) 0 (element x attrs ending (lay_kids vs (suc at) kids) mark)
+      update_element (nth_verdict vs at) 0 (element x attrs ending (lay_kids vs (suc at) kids) mark)
   lay_node vs at (text_node units) = text_node units
   lay_node vs at (cdata_node bytes) = cdata_node bytes
   lay_node vs at (misc_node bytes) = misc_node bytes
@@ -38,5 +38,5 @@ abbrev mutual
 
 -- a document whose marks tell these verdicts
 abbrev pub lay_doc : List Verdict → PlainDoc Mark → PlainDoc Mark
-lay_doc vs doc = mend_doc [] (nth_verdict vs 0) None 0
+lay_doc vs doc = update_doc [] (nth_verdict vs 0) None 0
     (record doc { root = lay_node vs 1 doc.root })

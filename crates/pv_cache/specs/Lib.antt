@@ -1,6 +1,6 @@
 pub mod WellMarked
 pub mod BadLists
-pub mod Mending
+pub mod Updates
 pub mod Changed
 pub mod Shown
 pub mod Judging

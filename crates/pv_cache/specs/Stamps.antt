@@ -1,7 +1,7 @@
 -- Documents with a stamp beside each list: the number of the move that changed the list last, or
 -- made its element.
 use Rattle.std.specs.Prelude.{List, None, Option, Some, [], ℕ, ◌++◌, ◌∷◌}
-use Rattle.pv_cache.specs.declared.mending.InnerVerdict.{InnerVerdict}
+use Rattle.pv_cache.specs.declared.updates.InnerVerdict.{InnerVerdict}
 use Rattle.pv_dtd.specs.Plain.{PlainDtd}
 use Rattle.pv_edit.specs.Changes.{change_below}
 use Rattle.pv_tree.specs.Plain.{PlainDoc, Tree, cdata_node, element, map_marks, misc_node}

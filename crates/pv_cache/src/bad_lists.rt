@@ -11,7 +11,7 @@ ghost use Rattle.pv_tree.specs.Plain.{nodes_in, nodes_in_all};
 ghost use Rattle.pv_tree.specs.PlainDocs.{plain_doc};
 ghost use Rattle.pv_tree.specs.PlainForms.{forest, plain, plain_all};
 
-use crate::mending::InnerVerdict;
+use crate::updates::InnerVerdict;
 use pv_edit::{Change, Filling};
 use pv_missing::Verdicts;
 use pv_tree::{Doc, Node, Verdict};

@@ -8,7 +8,7 @@ ghost use Rattle.pv_cache.specs.BadLists.{bad_gained, bad_lost, own_at};
 ghost use Rattle.pv_cache.specs.Changed.{AreJudged, owner_at};
 ghost use Rattle.pv_cache.specs.Changing.{AreNarrowAfter, IsChanged, IsTaskFor};
 ghost use Rattle.pv_cache.specs.Judging.{AreListTokens, AreWords};
-ghost use Rattle.pv_cache.specs.Mending.{IsExchange};
+ghost use Rattle.pv_cache.specs.Updates.{IsExchange};
 ghost use Rattle.pv_cache.specs.PlainMarked.{plain_marked};
 ghost use Rattle.pv_cache.specs.Stamps.{changed_by};
 ghost use Rattle.pv_cache.specs.WellMarked.{told_left_in, told_nodes_in};
@@ -26,8 +26,8 @@ ghost use Rattle.pv_tree.specs.PlainForms.{plain_all};
 
 use crate::bad_lists::{bad_taken, own_bad, own_inner, own_of};
 use crate::judging::judge_words;
-use crate::mending::{ChangedVerdicts, Exchange, Mend, mend_doc};
 use crate::told::told_in;
+use crate::updates::{ChangedVerdicts, Exchange, Update, update_doc};
 use crate::well_marked::WellMarked;
 use crate::words::{KeptTokens, ListTokens, Words};
 use pv_chars::NoMemory;
@@ -39,10 +39,10 @@ use pv_tree::{Found, Node, Path};
 use std::sync::ledger::Ledger;
 
 // How many lists have a new verdict.
-fn number_of(mend: &Mend) -> u32
-    ensures { result ≡ length (changed_by [] mend.now.inner) }
+fn number_of(update: &Update) -> u32
+    ensures { result ≡ length (changed_by [] update.now.inner) }
 {
-    match mend.inner {
+    match update.inner {
         None => 1,
         Some(_) => 2,
     }
@@ -165,7 +165,7 @@ impl WellMarked {
         exchange_of(kids, &task.change)
     }
 
-    /// Makes a change whose lists have these verdicts, and mends the marks. Without memory the
+    /// Makes a change whose lists have these verdicts, and updates the marks. Without memory the
     /// document is left.
     ///
     /// The changed lists get the stamp; their number is given. The tokens are kept, which are those
@@ -190,7 +190,7 @@ impl WellMarked {
     {
         let owner = self.owner_of(&task.list);
         let again = self.again(&task, &tokens);
-        let mend = Mend {
+        let update = Update {
             verdict: verdicts.outer,
             inner: verdicts.inner,
             stamp,
@@ -199,10 +199,10 @@ impl WellMarked {
         let bad = self.bad_after(&task, &verdicts);
         let exchange = self.exchange(&task);
         make(self.alloc, &mut self.doc, task)?;
-        mend_doc(self.alloc, &mut self.doc, list.places(), &mend, &exchange);
+        update_doc(self.alloc, &mut self.doc, list.places(), &update, &exchange);
         self.bad = bad;
         self.kept = Some(KeptTokens { list, tokens });
         self.remember_kept(owner, again);
-        Ok(number_of(&mend))
+        Ok(number_of(&update))
     }
 }

@@ -6,7 +6,7 @@ ghost use Rattle.pv_cache.specs.BadLists.{bad_gained, bad_lost};
 ghost use Rattle.pv_cache.specs.Changed.{AreJudged, IsFirstAmong, owner_at};
 ghost use Rattle.pv_cache.specs.Changing.{IsTaskFor, IsUnaccepted};
 ghost use Rattle.pv_cache.specs.Judging.{AreListTokens, AreWords};
-ghost use Rattle.pv_cache.specs.declared.mending.InnerVerdict.{InnerVerdict};
+ghost use Rattle.pv_cache.specs.declared.updates.InnerVerdict.{InnerVerdict};
 ghost use Rattle.pv_edit.specs.Changes.{list_after};
 ghost use Rattle.pv_edit.specs.Fitting.{plain_task};
 ghost use Rattle.pv_edit.specs.Reasons.{kids_at};
@@ -14,7 +14,7 @@ ghost use Rattle.pv_tree.specs.Plain.{forest_of};
 ghost use Rattle.pv_tree.specs.PlainDocs.{plain_doc};
 ghost use Rattle.pv_tree.specs.declared.nodes.Verdict.TheVariants as verdict;
 
-use crate::mending::{ChangedVerdicts, InnerVerdict};
+use crate::updates::{ChangedVerdicts, InnerVerdict};
 use crate::well_marked::WellMarked;
 use crate::words::{ListTokens, Words};
 use pv_chars::NoMemory;

@@ -6,8 +6,8 @@ ghost use Rattle.pv_cache.specs.Judging.{AreFound, AreNarrow, IsInnerFound};
 ghost use Rattle.pv_missing.specs.PlainForms.{plain_of};
 ghost use Rattle.pv_reach.specs.declared.errors.ReachError.TheVariants.{TooWide as too_wide};
 
-use crate::mending::{ChangedVerdicts, InnerVerdict};
 use crate::planned::PlannedGrammar;
+use crate::updates::{ChangedVerdicts, InnerVerdict};
 use crate::words::Words;
 use pv_missing::{Of, element_owner};
 use pv_reach::ReachError;

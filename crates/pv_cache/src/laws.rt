@@ -4,8 +4,8 @@
 ghost use Rattle.pv_cache.specs.GroundLaws.{AcceptedExactlyWithoutGround, AcceptedHasNoGround};
 ghost use Rattle.pv_cache.specs.GroundLaws.{AcceptsThePossible, HasOneGround};
 ghost use Rattle.pv_cache.specs.Laws.{FirstIsFirstAmong, HasOneBad, HasOneOpen, HasOneRows};
-ghost use Rattle.pv_cache.specs.Laws.{MarksTell, MendedIsCounted, MendedIsMarked};
-ghost use Rattle.pv_cache.specs.Laws.{MendingKeepsDocuments};
+ghost use Rattle.pv_cache.specs.Laws.{MarksTell, UpdatedIsCounted, UpdatedIsMarked};
+ghost use Rattle.pv_cache.specs.Laws.{UpdatesKeepDocuments};
 ghost use Rattle.pv_cache.specs.MarkLaws.{HoldsByOtherMarks};
 
 use pv_edit::laws::{changed_lists_law, changes_law};
@@ -18,19 +18,19 @@ pub fn marks_tell_law()
     ensures { MarksTell }
 {}
 
-/// A well marked document is well marked after a change too, once its marks are mended.
-pub fn mended_law()
-    ensures { MendedIsMarked }
+/// A well marked document is well marked after a change too, once its marks are updated.
+pub fn updated_law()
+    ensures { UpdatedIsMarked }
 {}
 
 /// A change changes the number of Impossible lists by those alone that it takes away or changes.
-pub fn mended_count_law()
-    ensures { MendedIsCounted }
+pub fn updated_count_law()
+    ensures { UpdatedIsCounted }
 {}
 
-/// Mending changes marks alone.
-pub fn mending_keeps_documents_law()
-    ensures { MendingKeepsDocuments }
+/// Updating changes marks alone.
+pub fn updates_keep_documents_law()
+    ensures { UpdatesKeepDocuments }
 {}
 
 /// The rows of a document are one list.

@@ -8,7 +8,7 @@ ghost use Rattle.pv_tree.specs.Plain.{nodes_in, nodes_in_all};
 ghost use Rattle.pv_tree.specs.PlainDocs.{plain_doc};
 ghost use Rattle.pv_tree.specs.PlainForms.{forest, plain};
 
-use crate::mending::{Mend, mend_element, mend_top};
+use crate::updates::{Update, update_element, update_top};
 use pv_missing::Verdicts;
 use pv_tree::{Doc, Node, Nodes, Verdict};
 
@@ -34,7 +34,7 @@ fn lay_node(node: &mut Node, verdicts: &Verdicts, number: u64) -> u64
         return number;
     };
     let next = lay_kids(kids, verdicts, number + 1);
-    mend_element(node, nth_verdict(verdicts, number), 0);
+    update_element(node, nth_verdict(verdicts, number), 0);
     next
 }
 
@@ -60,10 +60,10 @@ pub(crate) fn lay_doc(doc: &mut Doc, verdicts: &Verdicts)
     ensures { plain_doc doc.new ≡ lay_doc verdicts.now.verdicts (plain_doc doc.old) }
 {
     lay_node(&mut doc.root, verdicts, 1);
-    let mend = Mend {
+    let update = Update {
         verdict: nth_verdict(verdicts, 0),
         inner: None,
         stamp: 0,
     };
-    mend_top(doc, &mend);
+    update_top(doc, &update);
 }

@@ -18,7 +18,7 @@ ghost use Rattle.pv_tree.specs.Marks.{blank_mark};
 ghost use Rattle.pv_tree.specs.Plain.{PlainDoc, forest_of};
 ghost use Rattle.pv_tree.specs.PlainDocs.{plain_doc};
 
-use crate::mending::ChangedVerdicts;
+use crate::updates::ChangedVerdicts;
 use crate::well_marked::WellMarked;
 use crate::words::ListTokens;
 use pv_chars::NoMemory;

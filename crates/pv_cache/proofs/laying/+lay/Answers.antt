@@ -4,7 +4,7 @@ use Rattle.pv_tree.specs.PlainForms.{forest, plain, plain_end}
 use Rattle.pv_tree.specs.declared.nodes.Node.{Node, the_lemmas}
 use Rattle.pv_tree.proofs.Levels.{plain-Elem}
 use Rattle.pv_cache.specs.Laying.{lay_kids}
-use Rattle.pv_cache.specs.Mending.{IsCounted, mend_element}
+use Rattle.pv_cache.specs.Updates.{IsCounted, update_element}
 use Rattle.pv_cache.proofs.LaidLevels.{few_kid, kid_smaller, laid_counted, more_laid}
 use Rattle.pv_cache.proofs.laying.+lay.Goals as goal
 
@@ -29,9 +29,9 @@ lay_kids-kids-preserved t c =
     c.kids.invariant c.index_mut.result.now (omega (arith, c.kids-test.true, c.len.ensures))
     c.index_mut.ensures.value c.lay_node-next.new.node c.lay_node-next.ensures.laid)
 
-pub lay_node-mend_element-requires-clause-counted :
-    goal.lay_node-mend_element-requires-clause-counted
-lay_node-mend_element-requires-clause-counted t c =
+pub lay_node-update_element-requires-clause-counted :
+    goal.lay_node-update_element-requires-clause-counted
+lay_node-update_element-requires-clause-counted t c =
     let vs = c.args.verdicts.now.verdicts in
     let kids = forest c.in-Elem.kids.items in
     let now = forest c.lay_kids-next.new.kids.items in
@@ -47,8 +47,8 @@ lay_node-mend_element-requires-clause-counted t c =
     element c.in-Elem.name c.in-Elem.attrs (plain_end c.in-Elem.end) kids c.in-Elem.mark in
     let after =
     element c.in-Elem.name c.in-Elem.attrs (plain_end c.in-Elem.end) now c.in-Elem.mark in
-    let counted : IsCounted (mend_element c.nth_verdict.result 0 after) =
+    let counted : IsCounted (update_element c.nth_verdict.result 0 after) =
     rw (c.nth_verdict.ensures, laid)
     (laid_counted vs c.args.number before (omega (arith, ap nodes_in is, c.requires.small))) in
-    subst (λ n. IsCounted (mend_element c.nth_verdict.result 0 n)) {x = after}
+    subst (λ n. IsCounted (update_element c.nth_verdict.result 0 n)) {x = after}
     (rw c.in-Elem.is (search (rules, the_lemmas))) counted

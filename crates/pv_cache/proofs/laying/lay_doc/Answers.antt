@@ -29,8 +29,8 @@ invariant_of-doc c =
       epilog = doc.epilog;
     }
 
-pub mend_top-requires : goal.mend_top-requires
-mend_top-requires c =
+pub update_top-requires : goal.update_top-requires
+update_top-requires c =
     let doc = plain_doc c.args.doc.now in
     root_counted c.args.verdicts.now.verdicts doc.root c.nth_verdict.result
     (record doc { root = plain c.lay_node.new.node }) c.args.doc.now.small

@@ -2,7 +2,7 @@ use Rattle.std.proofs.Common.{arith}
 use Rattle.pv_edit.specs.Fitting.{plain_task}
 use Rattle.pv_tree.specs.PlainDocs.{plain_doc}
 use Rattle.pv_tree.specs.PlainForms.{plain}
-use Rattle.pv_cache.proofs.ImpossibleCounts.{inner-small, mended-counted}
+use Rattle.pv_cache.proofs.ImpossibleCounts.{inner-small, updated-counted}
 use Rattle.pv_cache.proofs.TreeMarks.{bad-within, own-bad-small}
 use Rattle.pv_cache.proofs.well_marked.WellMarked.bad_after.Goals as goal
 
@@ -30,7 +30,7 @@ overflow_sub-result c =
     let doc = plain_doc c.args.self.now.doc in
     let task = c.requires.task in
     let counted =
-    mended-counted d root doc (plain_task c.args.task.now) vs.outer vs.inner 0 task.can task.unshort
+    updated-counted d root doc (plain_task c.args.task.now) vs.outer vs.inner 0 task.can task.unshort
     task.bare c.requires.judged in
     omega (
       arith,
@@ -49,7 +49,7 @@ returns c =
     let doc = plain_doc c.args.self.now.doc in
     let task = c.requires.task in
     let counted =
-    mended-counted d root doc (plain_task c.args.task.now) vs.outer vs.inner 0 task.can task.unshort
+    updated-counted d root doc (plain_task c.args.task.now) vs.outer vs.inner 0 task.can task.unshort
     task.bare c.requires.judged in
     omega (
       arith,

@@ -6,7 +6,7 @@ use Rattle.pv_tree.specs.Plain.{Tree, forest_of}
 use Rattle.pv_tree.specs.PlainDocs.{plain_doc}
 use Rattle.pv_tree.specs.PlainForms.{plain_all}
 use Rattle.pv_tree.specs.declared.nodes.Mark.{Mark}
-use Rattle.pv_cache.specs.Mending.{IsExchange}
+use Rattle.pv_cache.specs.Updates.{IsExchange}
 use Rattle.pv_cache.specs.WellMarked.{told_left_in, told_nodes_in}
 use Rattle.pv_cache.proofs.LostKids.{gone-left, gone-nodes}
 use Rattle.pv_cache.proofs.Tasks.{task-suits}

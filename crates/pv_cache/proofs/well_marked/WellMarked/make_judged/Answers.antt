@@ -14,17 +14,17 @@ use Rattle.pv_tree.specs.declared.nodes.Mark.{Mark}
 use Rattle.pv_cache.specs.Accepting.{MAX_EDITED_NODES}
 use Rattle.pv_cache.specs.Changing.{IsChanged}
 use Rattle.pv_cache.specs.Judging.{AreListTokens, AreKeptTokens}
-use Rattle.pv_cache.specs.Mending.{CanMendDoc, CanMendOwner, IsDocCounted, mend_doc}
+use Rattle.pv_cache.specs.Updates.{CanUpdateDoc, CanUpdateOwner, IsDocCounted, update_doc}
 use Rattle.pv_cache.specs.PlainMarked.{PlainMarked, plain_marked}
 use Rattle.pv_cache.specs.WellMarked.{IsWellMarked, told_bad}
 use Rattle.pv_cache.specs.declared.words.KeptTokens.{KeptTokens}
 use Rattle.pv_cache.specs.Stamps.{changed_by, stamp_lists, stamps_of}
-use Rattle.pv_cache.proofs.DocumentStamps.{changed_are, same_number, stamps_mended}
-use Rattle.pv_cache.proofs.ImpossibleCounts.{mended-counted}
+use Rattle.pv_cache.proofs.DocumentStamps.{changed_are, same_number, stamps_updated}
+use Rattle.pv_cache.proofs.ImpossibleCounts.{updated-counted}
 use Rattle.pv_cache.proofs.Kept.{kept-after, kept-of}
 use Rattle.pv_cache.proofs.Ready.{ready-can, ready-counted, ready-marked}
 use Rattle.pv_cache.proofs.Tasks.{task-list}
-use Rattle.pv_cache.proofs.MarksAlone.{doc-as, few-mended}
+use Rattle.pv_cache.proofs.MarksAlone.{doc-as, few-updated}
 use Rattle.pv_cache.proofs.well_marked.WellMarked.make_judged.Goals as goal
 
 pub owner_of-owner-requires : goal.owner_of-owner-requires
@@ -32,8 +32,8 @@ owner_of-owner-requires c =
     let doc = plain_doc c.args.self.now.doc in
     task-list doc.root (plain_task c.args.task) c.requires.task.can c.requires.task.unshort doc.mark
 
-pub mend_doc-requires-clause-can : goal.mend_doc-requires-clause-can
-mend_doc-requires-clause-can c =
+pub update_doc-requires-clause-can : goal.update_doc-requires-clause-can
+update_doc-requires-clause-can c =
     let t = c.args.task in
     let m = c.args.verdicts in
     let ch = plain_task t in
@@ -46,12 +46,12 @@ mend_doc-requires-clause-can c =
     c.requires.task.can c.requires.task.unshort c.requires.task.bare c.requires.judged
     c.args.self.now.marked c.exchange-exchange.ensures in
     subst (λ (q : List ℕ).
-    CanMendDoc (CanMendOwner m.inner c.args.stamp ex) q (plain_doc c.make.new.doc)) (sym l)
+    CanUpdateDoc (CanUpdateOwner m.inner c.args.stamp ex) q (plain_doc c.make.new.doc)) (sym l)
     (subst (λ (d : PlainDoc Mark).
-    CanMendDoc (CanMendOwner m.inner c.args.stamp ex) t.list d) (sym made) r)
+    CanUpdateDoc (CanUpdateOwner m.inner c.args.stamp ex) t.list d) (sym made) r)
 
-pub mend_doc-requires-clause-counted : goal.mend_doc-requires-clause-counted
-mend_doc-requires-clause-counted c =
+pub update_doc-requires-clause-counted : goal.update_doc-requires-clause-counted
+update_doc-requires-clause-counted c =
     let t = c.args.task in
     let m = c.args.verdicts in
     let ch = plain_task t in
@@ -63,9 +63,9 @@ mend_doc-requires-clause-counted c =
     c.exchange-exchange.result c.requires.task.can c.requires.task.unshort c.requires.task.bare
     c.requires.judged c.requires.task.kept c.args.self.now.marked in
     subst (λ (q : List ℕ).
-    IsDocCounted (mend_doc q m.outer m.inner c.args.stamp (plain_doc c.make.new.doc))) (sym l)
+    IsDocCounted (update_doc q m.outer m.inner c.args.stamp (plain_doc c.make.new.doc))) (sym l)
     (subst (λ (d : PlainDoc Mark).
-    IsDocCounted (mend_doc t.list m.outer m.inner c.args.stamp d)) (sym made) r)
+    IsDocCounted (update_doc t.list m.outer m.inner c.args.stamp d)) (sym made) r)
 
 abbrev Marked_ : PlainDtd → List ℕ → PlainDoc Mark → Type 0
 Marked_ d root doc = ∥ IsWellMarked d root doc ∥₁
@@ -102,19 +102,19 @@ invariant_of-self-2 c =
     ready-marked d root old ch m.outer m.inner c.args.stamp c.exchange-exchange.result
     c.requires.task.can c.requires.task.unshort c.requires.task.bare c.requires.judged
     c.args.self.now.marked in
-    let is : plain_doc c.mend_doc.new.doc ≡ mend_doc t.list m.outer m.inner c.args.stamp
+    let is : plain_doc c.update_doc.new.doc ≡ update_doc t.list m.outer m.inner c.args.stamp
     (doc_after ch old) =
-    c.mend_doc.ensures
-    ∙ ap (λ (q : List ℕ). mend_doc q m.outer m.inner c.args.stamp (plain_doc c.make.new.doc)) l
-    ∙ ap (mend_doc t.list m.outer m.inner c.args.stamp) made in
+    c.update_doc.ensures
+    ∙ ap (λ (q : List ℕ). update_doc q m.outer m.inner c.args.stamp (plain_doc c.make.new.doc)) l
+    ∙ ap (update_doc t.list m.outer m.inner c.args.stamp) made in
     let count =
-    mended-counted d root old ch m.outer m.inner c.args.stamp c.requires.task.can
+    updated-counted d root old ch m.outer m.inner c.args.stamp c.requires.task.can
     c.requires.task.unshort c.requires.task.bare c.requires.judged in
     let after = c.bad_after-bad.ensures in
     let before = c.args.self.now.counted in
     let told = ap told_bad is in
     let k : c.in_ok-list.list ≡ t.list = search rules in
-    let new = mend_doc t.list m.outer m.inner c.args.stamp (doc_after ch old) in
+    let new = update_doc t.list m.outer m.inner c.args.stamp (doc_after ch old) in
     let kept : KeptTokens = record { list = c.in_ok-list.list; tokens = c.args.tokens } in
     let tokens =
     kept-after d old ch c.requires.task.can c.requires.task.unshort m.outer m.inner c.args.stamp
@@ -124,7 +124,7 @@ invariant_of-self-2 c =
       counted = omega arith;
       few =
           subst (λ (e : PlainDoc Mark). nodes_in e.root ≤ MAX_EDITED_NODES) (sym is)
-          (few-mended t.list m.outer m.inner c.args.stamp (doc_after ch old) c.requires.task.few);
+          (few-updated t.list m.outer m.inner c.args.stamp (doc_after ch old) c.requires.task.few);
       held =
           subst (λ (e : PlainDoc Mark). ForSome (Some kept) (AreKeptTokens d e)) (sym is)
           (kept-of d new kept
@@ -149,12 +149,12 @@ returns-clause-changed c =
       same_dtd = refl;
       same_root = refl;
       made =
-          ap unmarked_doc c.mend_doc.ensures
+          ap unmarked_doc c.update_doc.ensures
           ∙ doc-as c.places-2.result.now m.outer m.inner c.args.stamp (plain_doc c.make.new.doc)
           ∙ ap unmarked_doc made;
       stamps =
-          ap stamps_of c.mend_doc.ensures
-          ∙ stamps_mended c.places-2.result.now m.outer m.inner c.args.stamp
+          ap stamps_of c.update_doc.ensures
+          ∙ stamps_updated c.places-2.result.now m.outer m.inner c.args.stamp
           (plain_doc c.make.new.doc)
           ∙ ap (λ (q : List ℕ).
           stamp_lists c.args.stamp (changed_by q m.inner)

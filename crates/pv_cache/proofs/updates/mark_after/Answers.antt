@@ -1,6 +1,6 @@
 use Rattle.std.proofs.Common.{arith}
 use Rattle.pv_cache.proofs.ExchangedKids.{came-told, marks-same}
-use Rattle.pv_cache.proofs.mending.mark_after.Goals as goal
+use Rattle.pv_cache.proofs.updates.mark_after.Goals as goal
 
 pub told_in-came-requires-clause-left : goal.told_in-came-requires-clause-left
 told_in-came-requires-clause-left c =
@@ -51,7 +51,7 @@ overflow_add-result-2 c =
 pub returns : goal.returns
 returns c =
     let t = came-told c.args.exchange.now c.args.kids.now c.requires.tells.0 in
-    marks-same c.args.mend.now.verdict c.args.mend.now.stamp _ _ _ _
+    marks-same c.args.update.now.verdict c.args.update.now.stamp _ _ _ _
     (omega (
       arith,
       t.in_left,

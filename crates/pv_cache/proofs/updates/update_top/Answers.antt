@@ -2,20 +2,17 @@ use Rattle.std.proofs.Common.{◌∙◌, ap}
 use Rattle.pv_tree.specs.Plain.{without_marks}
 use Rattle.pv_tree.specs.PlainForms.{plain}
 use Rattle.pv_edit.specs.Inverses.{IsKept}
-use Rattle.pv_cache.specs.Mending.{mend_owner}
 use Rattle.pv_edit.proofs.PreparedChanges.{doc-kept}
-use Rattle.pv_cache.proofs.MarksAlone.{below-as, owner-as, still-kept}
-use Rattle.pv_cache.proofs.mending.mend_inside.Goals as goal
+use Rattle.pv_cache.proofs.MarksAlone.{root-as, still-kept}
+use Rattle.pv_cache.proofs.updates.update_top.Goals as goal
 
 pub invariant_of-doc : goal.invariant_of-doc
 invariant_of-doc c =
-    let m = c.args.mend.now in
+    let m = c.args.update.now in
     let doc = c.args.doc.now in
-    let k : IsKept (plain c.mend_below.new.node) =
-    still-kept (plain doc.root) (plain c.mend_below.new.node)
-    (ap without_marks c.mend_below.ensures
-    ∙ below-as c.args.below.now (mend_owner m.verdict m.inner m.stamp)
-    (owner-as m.verdict m.inner m.stamp) (plain doc.root)) (doc-kept doc) in
+    let k : IsKept (plain c.update_root.new.root) =
+    still-kept (plain doc.root) (plain c.update_root.new.root) (ap without_marks c.update_root.ensures
+    ∙ root-as m.inner m.stamp (plain doc.root)) (doc-kept doc) in
     record {
       rooted = k.rooted;
       formed = k.formed;

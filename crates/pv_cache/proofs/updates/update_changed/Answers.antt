@@ -3,9 +3,9 @@ use Rattle.pv_tree.specs.Plain.{Tree}
 use Rattle.pv_tree.specs.PlainForms.{plain, plain_all}
 use Rattle.pv_tree.proofs.Levels.{plain-Elem, trees-forest}
 use Rattle.pv_tree.specs.declared.nodes.Mark.{Mark}
-use Rattle.pv_cache.specs.Mending.{OwnerTellsBefore, TellsBefore}
+use Rattle.pv_cache.specs.Updates.{OwnerTellsBefore, TellsBefore}
 use Rattle.pv_cache.proofs.ExchangedKids.{tells-there}
-use Rattle.pv_cache.proofs.mending.mend_changed.Goals as goal
+use Rattle.pv_cache.proofs.updates.update_changed.Goals as goal
 
 pub mark_after-requires-clause-tells : goal.mark_after-requires-clause-tells
 mark_after-requires-clause-tells c =

@@ -1,4 +1,4 @@
--- Marks mended where a list has changed, and above it.
+-- Marks updated where a list has changed, and above it.
 use Rattle.std.specs.Prelude.{IfSome, IsSomeAnd, IsTrue, List, [], Option, Some, None, drop, length}
 use Rattle.std.specs.Prelude.{slice_get, take, ℕ, ◌+◌, ◌++◌, ◌-◌, ◌<◌, ◌≡◌, ◌≤◌, ◌^◌, ◌∷◌}
 use Rattle.std.specs.List.{between}
@@ -11,8 +11,8 @@ use Rattle.pv_tree.specs.Plain.{Forest, PlainDoc, Tree, cdata_node, element, for
 use Rattle.pv_tree.specs.Plain.{misc_node, no_trees, text_node, tree, trees_of}
 use Rattle.pv_tree.specs.declared.nodes.Mark.{Mark}
 use Rattle.pv_tree.specs.declared.nodes.Verdict.{Verdict}
-use Rattle.pv_cache.specs.declared.mending.Exchange.{Exchange}
-use Rattle.pv_cache.specs.declared.mending.InnerVerdict.{InnerVerdict}
+use Rattle.pv_cache.specs.declared.updates.Exchange.{Exchange}
+use Rattle.pv_cache.specs.declared.updates.InnerVerdict.{InnerVerdict}
 use Rattle.pv_cache.specs.declared.told.Told.{Told}
 
 -- the mark of a list of this verdict that was changed by the move of this number
@@ -25,38 +25,38 @@ fresh_mark owner kids v stamp = record {
 }
 
 -- an element whose own list has changed
-abbrev pub mend_element : Verdict → ℕ → Tree Mark → Tree Mark
-mend_element v stamp (element x attrs ending kids mark) =
+abbrev pub update_element : Verdict → ℕ → Tree Mark → Tree Mark
+update_element v stamp (element x attrs ending kids mark) =
     element x attrs ending kids (fresh_mark (an_element x) kids v stamp)
-mend_element v stamp (text_node units) = text_node units
-mend_element v stamp (cdata_node bytes) = cdata_node bytes
-mend_element v stamp (misc_node bytes) = misc_node bytes
+update_element v stamp (text_node units) = text_node units
+update_element v stamp (cdata_node bytes) = cdata_node bytes
+update_element v stamp (misc_node bytes) = misc_node bytes
 
 -- the kids of a changed list, of which one may have a changed list too
-abbrev pub mend_kids : Option InnerVerdict → ℕ → Forest Mark → Forest Mark
-mend_kids None stamp kids = kids
-mend_kids (Some inner) stamp kids = change_kid (mend_element inner.verdict stamp) inner.place kids
+abbrev pub update_kids : Option InnerVerdict → ℕ → Forest Mark → Forest Mark
+update_kids None stamp kids = kids
+update_kids (Some inner) stamp kids = change_kid (update_element inner.verdict stamp) inner.place kids
 
 -- the owner of a changed list
-abbrev pub mend_owner : Verdict → Option InnerVerdict → ℕ → Tree Mark → Tree Mark
-mend_owner v inner stamp (element x attrs ending kids mark) =
-    mend_element v stamp (element x attrs ending (mend_kids inner stamp kids) mark)
-mend_owner v inner stamp (text_node units) = text_node units
-mend_owner v inner stamp (cdata_node bytes) = cdata_node bytes
-mend_owner v inner stamp (misc_node bytes) = misc_node bytes
+abbrev pub update_owner : Verdict → Option InnerVerdict → ℕ → Tree Mark → Tree Mark
+update_owner v inner stamp (element x attrs ending kids mark) =
+    update_element v stamp (element x attrs ending (update_kids inner stamp kids) mark)
+update_owner v inner stamp (text_node units) = text_node units
+update_owner v inner stamp (cdata_node bytes) = cdata_node bytes
+update_owner v inner stamp (misc_node bytes) = misc_node bytes
 
 -- an element with a kid whose own list has changed
-abbrev pub mend_kid : InnerVerdict → ℕ → Tree Mark → Tree Mark
-mend_kid inner stamp (element x attrs ending kids mark) =
-    element x attrs ending (change_kid (mend_element inner.verdict stamp) inner.place kids) mark
-mend_kid inner stamp (text_node units) = text_node units
-mend_kid inner stamp (cdata_node bytes) = cdata_node bytes
-mend_kid inner stamp (misc_node bytes) = misc_node bytes
+abbrev pub update_kid : InnerVerdict → ℕ → Tree Mark → Tree Mark
+update_kid inner stamp (element x attrs ending kids mark) =
+    element x attrs ending (change_kid (update_element inner.verdict stamp) inner.place kids) mark
+update_kid inner stamp (text_node units) = text_node units
+update_kid inner stamp (cdata_node bytes) = cdata_node bytes
+update_kid inner stamp (misc_node bytes) = misc_node bytes
 
 -- the same, where there is such a kid
-abbrev pub mend_inner : Option InnerVerdict → ℕ → Tree Mark → Tree Mark
-mend_inner None stamp t = t
-mend_inner (Some inner) stamp t = mend_kid inner stamp t
+abbrev pub update_inner : Option InnerVerdict → ℕ → Tree Mark → Tree Mark
+update_inner None stamp t = t
+update_inner (Some inner) stamp t = update_kid inner stamp t
 
 -- the mark of a list whose kids tell other numbers than before
 abbrev pub count_again : Forest Mark → Forest Mark → Mark → Mark
@@ -73,29 +73,29 @@ with_kid_changed f i (text_node units) = text_node units
 with_kid_changed f i (cdata_node bytes) = cdata_node bytes
 with_kid_changed f i (misc_node bytes) = misc_node bytes
 
--- a tree, mended at a path and above
-abbrev pub mend_below : List ℕ → (Tree Mark → Tree Mark) → Tree Mark → Tree Mark
-mend_below [] f t = f t
-mend_below (i ∷ path) f t = with_kid_changed (mend_below path f) i t
+-- a tree, updated at a path and above
+abbrev pub update_below : List ℕ → (Tree Mark → Tree Mark) → Tree Mark → Tree Mark
+update_below [] f t = f t
+update_below (i ∷ path) f t = with_kid_changed (update_below path f) i t
 
 -- the root, where its own list has changed
-abbrev pub mend_root : Option InnerVerdict → ℕ → Tree Mark → Tree Mark
-mend_root None stamp t = t
-mend_root (Some inner) stamp t = mend_element inner.verdict stamp t
+abbrev pub update_root : Option InnerVerdict → ℕ → Tree Mark → Tree Mark
+update_root None stamp t = t
+update_root (Some inner) stamp t = update_element inner.verdict stamp t
 
 -- The document has this root, and its own mark tells of it.
 abbrev pub with_root : Tree Mark → Mark → PlainDoc Mark → PlainDoc Mark
 with_root t mark doc = record { before = doc.before; root = t; after = doc.after; mark = mark }
 
--- a document, mended at the list at a path and above
-abbrev pub mend_doc : List ℕ → Verdict → Option InnerVerdict → ℕ → PlainDoc Mark → PlainDoc Mark
-mend_doc [] v inner stamp doc =
-    with_root (mend_root inner stamp doc.root)
-    (fresh_mark the_document (tree (mend_root inner stamp doc.root) no_trees) v stamp) doc
-mend_doc (i ∷ path) v inner stamp doc =
-    with_root (mend_below path (mend_owner v inner stamp) doc.root)
+-- a document, updated at the list at a path and above
+abbrev pub update_doc : List ℕ → Verdict → Option InnerVerdict → ℕ → PlainDoc Mark → PlainDoc Mark
+update_doc [] v inner stamp doc =
+    with_root (update_root inner stamp doc.root)
+    (fresh_mark the_document (tree (update_root inner stamp doc.root) no_trees) v stamp) doc
+update_doc (i ∷ path) v inner stamp doc =
+    with_root (update_below path (update_owner v inner stamp) doc.root)
     (count_again (tree doc.root no_trees)
-    (tree (mend_below path (mend_owner v inner stamp) doc.root) no_trees) doc.mark) doc
+    (tree (update_below path (update_owner v inner stamp) doc.root) no_trees) doc.mark) doc
 
 -- an element stands at this place of a list
 abbrev pub HasElement : List (Tree Mark) → ℕ → Type 0
@@ -128,23 +128,23 @@ pub record IsExchange (c : Change Mark) (kids : List (Tree Mark)) (e : Exchange)
   pub left : e.gone.left ≡ told_left_in (forest_of (between c.from c.to kids))
   pub nodes : e.gone.nodes ≡ told_nodes_in (forest_of (between c.from c.to kids))
 
--- The owner of a changed list can be mended: an element stands where the list has an inner one, and
+-- The owner of a changed list can be updated: an element stands where the list has an inner one, and
 -- the mark tells of the list before.
-abbrev pub CanMendOwner : Option InnerVerdict → ℕ → Exchange → Tree Mark → Type 0
-CanMendOwner inner stamp e t = IsTrue (is_element t) ×
+abbrev pub CanUpdateOwner : Option InnerVerdict → ℕ → Exchange → Tree Mark → Type 0
+CanUpdateOwner inner stamp e t = IsTrue (is_element t) ×
     IfSome inner (λ i. HasElement (kids_of t) i.place) ×
-    OwnerTellsBefore e (mend_inner inner stamp t)
+    OwnerTellsBefore e (update_inner inner stamp t)
 
 -- The marks on the way to a list tell no less than those of their kids, so that they can be told
 -- again, and this holds of its owner.
-abbrev pub CanMend : (Tree Mark → Type 0) → List ℕ → Tree Mark → Type 0
-CanMend P [] t = P t
-CanMend P (i ∷ path) (element x attrs ending kids mark) =
+abbrev pub CanUpdate : (Tree Mark → Type 0) → List ℕ → Tree Mark → Type 0
+CanUpdate P [] t = P t
+CanUpdate P (i ∷ path) (element x attrs ending kids mark) =
     (told_left_in kids ≤ mark.left) × (told_nodes_in kids ≤ mark.nodes) ×
-    IsSomeAnd (slice_get (trees_of kids) i) (CanMend P path)
-CanMend P (i ∷ path) (text_node units) = ⊥
-CanMend P (i ∷ path) (cdata_node bytes) = ⊥
-CanMend P (i ∷ path) (misc_node bytes) = ⊥
+    IsSomeAnd (slice_get (trees_of kids) i) (CanUpdate P path)
+CanUpdate P (i ∷ path) (text_node units) = ⊥
+CanUpdate P (i ∷ path) (cdata_node bytes) = ⊥
+CanUpdate P (i ∷ path) (misc_node bytes) = ⊥
 
 -- an element, of which another number is told
 abbrev pub with_told : Told → Told → Tree Mark → Tree Mark
@@ -171,18 +171,18 @@ pub record IsCounted (t : Tree Mark) : Type 0 where
   pub left : told_left t < 2 ^ 64
   pub nodes : told_nodes t < 2 ^ 64
 
--- what is told of a kid, once it is mended, can be counted
+-- what is told of a kid, once it is updated, can be counted
 abbrev pub KidIsCounted : InnerVerdict → ℕ → Tree Mark → Type 0
 KidIsCounted inner stamp t =
     IsSomeAnd (slice_get (kids_of t) inner.place)
-    (λ k. IsCounted (mend_element inner.verdict stamp k))
+    (λ k. IsCounted (update_element inner.verdict stamp k))
 
 -- the same of a document
-abbrev pub CanMendDoc : (Tree Mark → Type 0) → List ℕ → PlainDoc Mark → Type 0
-CanMendDoc P [] doc = Unit {0}
-CanMendDoc P (i ∷ path) doc =
+abbrev pub CanUpdateDoc : (Tree Mark → Type 0) → List ℕ → PlainDoc Mark → Type 0
+CanUpdateDoc P [] doc = Unit {0}
+CanUpdateDoc P (i ∷ path) doc =
     (told_left doc.root ≤ doc.mark.left) × (told_nodes doc.root ≤ doc.mark.nodes) ×
-    CanMend P path doc.root
+    CanUpdate P path doc.root
 
 -- what the mark of a document tells can be counted
 pub record IsDocCounted (doc : PlainDoc Mark) : Type 0 where

@@ -1,4 +1,4 @@
-//! Marks mended where a list has changed, and above it.
+//! Marks updated where a list has changed, and above it.
 
 ghost use Rattle.std.specs.Prelude.{◌≡◌, ◌∷◌, [], ◌<◌, ◌^◌, IfSome, IsTrue, length};
 ghost use Rattle.pv_tree.specs.Lists.{an_element};
@@ -6,11 +6,11 @@ ghost use Rattle.pv_tree.specs.Plain.{is_element};
 ghost use Rattle.pv_tree.specs.Places.{kids_of};
 ghost use Rattle.pv_tree.specs.PlainDocs.{plain_doc};
 ghost use Rattle.pv_tree.specs.PlainForms.{forest, plain, plain_all};
-ghost use Rattle.pv_cache.specs.Mending.{CanMend, CanMendDoc, CanMendOwner, HasElement, IsCounted};
-ghost use Rattle.pv_cache.specs.Mending.{IsDocCounted, IsMarkCounted, KidIsCounted};
-ghost use Rattle.pv_cache.specs.Mending.{OwnerTellsBefore, TellsAtLeast, TellsBefore, fresh_mark};
-ghost use Rattle.pv_cache.specs.Mending.{mend_below, mend_doc, mend_element, mend_inner, mend_kid};
-ghost use Rattle.pv_cache.specs.Mending.{mend_owner, mend_root, with_told};
+ghost use Rattle.pv_cache.specs.Updates.{CanUpdate, CanUpdateDoc, CanUpdateOwner, HasElement, IsCounted};
+ghost use Rattle.pv_cache.specs.Updates.{IsDocCounted, IsMarkCounted, KidIsCounted};
+ghost use Rattle.pv_cache.specs.Updates.{OwnerTellsBefore, TellsAtLeast, TellsBefore, fresh_mark};
+ghost use Rattle.pv_cache.specs.Updates.{update_below, update_doc, update_element, update_inner};
+ghost use Rattle.pv_cache.specs.Updates.{update_kid, update_owner, update_root, with_told};
 
 use crate::told::{Told, own_left, told_in, told_of};
 use pv_edit::{put_kids, take_kids};
@@ -33,7 +33,7 @@ pub(crate) struct ChangedVerdicts {
 
 /// The verdicts of the lists that a move changes, and its number.
 #[derive(Clone, Copy, Debug)]
-pub(crate) struct Mend {
+pub(crate) struct Update {
     pub verdict: Verdict,
     pub inner: Option<InnerVerdict>,
     pub stamp: u64,
@@ -49,10 +49,10 @@ pub(crate) struct Exchange {
 }
 
 /// Marks an element whose list has changed, by all its kids.
-pub(crate) fn mend_element(node: &mut Node, verdict: Verdict, stamp: u64)
+pub(crate) fn update_element(node: &mut Node, verdict: Verdict, stamp: u64)
     requires elem { IsTrue (is_element (plain node.old)) }
-    requires counted { IsCounted (mend_element verdict stamp (plain node.old)) }
-    ensures { plain node.new ≡ mend_element verdict stamp (plain node.old) }
+    requires counted { IsCounted (update_element verdict stamp (plain node.old)) }
+    ensures { plain node.new ≡ update_element verdict stamp (plain node.old) }
 {
     let Node::Elem { kids, mark, .. } = node else {
         unreachable!()
@@ -67,151 +67,157 @@ pub(crate) fn mend_element(node: &mut Node, verdict: Verdict, stamp: u64)
 }
 
 // The mark of an element among whose kids others came, by the mark that it had before.
-fn mark_after(kids: &[Node], mark: Mark, mend: &Mend, exchange: &Exchange) -> Mark
+fn mark_after(kids: &[Node], mark: Mark, update: &Update, exchange: &Exchange) -> Mark
     requires tells { TellsBefore exchange.now (plain_all kids.now) mark }
     requires counted { IsMarkCounted (fresh_mark (an_element []) (forest kids.now)
-        mend.now.verdict mend.now.stamp) }
-    ensures { result ≡ fresh_mark (an_element []) (forest kids.now) mend.now.verdict
-        mend.now.stamp }
+        update.now.verdict update.now.stamp) }
+    ensures { result ≡ fresh_mark (an_element []) (forest kids.now) update.now.verdict
+        update.now.stamp }
 {
     let to = kids.len() - exchange.behind;
     let came = told_in(&kids[exchange.from..to]);
     let left = mark.left - own_left(mark.verdict) - exchange.gone.left + came.left;
     Mark {
-        verdict: mend.verdict,
-        stamp: mend.stamp,
-        left: left + own_left(mend.verdict),
+        verdict: update.verdict,
+        stamp: update.stamp,
+        left: left + own_left(update.verdict),
         nodes: mark.nodes - exchange.gone.nodes + came.nodes,
     }
 }
 
 // Marks an element among whose kids others came.
-fn mend_changed(node: &mut Node, mend: &Mend, exchange: &Exchange)
+fn update_changed(node: &mut Node, update: &Update, exchange: &Exchange)
     requires tells { OwnerTellsBefore exchange.now (plain node.old) }
-    requires counted { IsCounted (mend_element mend.now.verdict mend.now.stamp
+    requires counted { IsCounted (update_element update.now.verdict update.now.stamp
         (plain node.old)) }
-    ensures { plain node.new ≡ mend_element mend.now.verdict mend.now.stamp (plain node.old) }
+    ensures { plain node.new ≡ update_element update.now.verdict update.now.stamp (plain node.old) }
 {
     let Node::Elem { kids, mark, .. } = node else {
         unreachable!()
     };
-    *mark = mark_after(kids, *mark, mend, exchange);
+    *mark = mark_after(kids, *mark, update, exchange);
 }
 
 /// Marks the owner of a changed list, wherever it stands, and tells the marks above it again.
-pub(crate) fn mend_doc(alloc: Global, doc: &mut Doc, list: &[u32], mend: &Mend, exchange: &Exchange)
-    requires can { CanMendDoc (CanMendOwner mend.now.inner mend.now.stamp exchange.now) list.now
+pub(crate) fn update_doc(
+    alloc: Global,
+    doc: &mut Doc,
+    list: &[u32],
+    update: &Update,
+    exchange: &Exchange,
+)
+    requires can { CanUpdateDoc (CanUpdateOwner update.now.inner update.now.stamp exchange.now) list.now
         (plain_doc doc.old) }
-    requires counted { IsDocCounted (mend_doc list.now mend.now.verdict mend.now.inner
-        mend.now.stamp (plain_doc doc.old)) }
+    requires counted { IsDocCounted (update_doc list.now update.now.verdict update.now.inner
+        update.now.stamp (plain_doc doc.old)) }
     ensures { plain_doc doc.new
-        ≡ mend_doc list.now mend.now.verdict mend.now.inner mend.now.stamp (plain_doc doc.old) }
+        ≡ update_doc list.now update.now.verdict update.now.inner update.now.stamp (plain_doc doc.old) }
 {
     match list {
-        [] => mend_top(doc, mend),
-        [_, below @ ..] => mend_inside(alloc, doc, below, mend, exchange),
+        [] => update_top(doc, update),
+        [_, below @ ..] => update_inside(alloc, doc, below, update, exchange),
     }
 }
 
 /// Marks the document node, whose list has changed, and the root, whose list may have changed too.
-pub(crate) fn mend_top(doc: &mut Doc, mend: &Mend)
-    requires { IsDocCounted (mend_doc [] mend.now.verdict mend.now.inner mend.now.stamp
+pub(crate) fn update_top(doc: &mut Doc, update: &Update)
+    requires { IsDocCounted (update_doc [] update.now.verdict update.now.inner update.now.stamp
         (plain_doc doc.old)) }
-    ensures { plain_doc doc.new ≡ mend_doc [] mend.now.verdict mend.now.inner mend.now.stamp
+    ensures { plain_doc doc.new ≡ update_doc [] update.now.verdict update.now.inner update.now.stamp
         (plain_doc doc.old) }
 {
-    mend_root(&mut doc.root, mend);
+    update_root(&mut doc.root, update);
     let told = told_of(&doc.root);
     doc.mark = Mark {
-        verdict: mend.verdict,
-        stamp: mend.stamp,
-        left: own_left(mend.verdict) + told.left,
+        verdict: update.verdict,
+        stamp: update.stamp,
+        left: own_left(update.verdict) + told.left,
         nodes: told.nodes,
     };
 }
 
 // Marks the root, where its list has changed.
-fn mend_root(root: &mut Node, mend: &Mend)
+fn update_root(root: &mut Node, update: &Update)
     requires elem { IsTrue (is_element (plain root.old)) }
-    requires counted { IsCounted (mend_root mend.now.inner mend.now.stamp (plain root.old)) }
-    ensures { plain root.new ≡ mend_root mend.now.inner mend.now.stamp (plain root.old) }
+    requires counted { IsCounted (update_root update.now.inner update.now.stamp (plain root.old)) }
+    ensures { plain root.new ≡ update_root update.now.inner update.now.stamp (plain root.old) }
 {
-    if let Some(inner) = mend.inner {
-        mend_element(root, inner.verdict, mend.stamp)
+    if let Some(inner) = update.inner {
+        update_element(root, inner.verdict, update.stamp)
     }
 }
 
 // Marks the owner of a changed list below the root.
-fn mend_inside(alloc: Global, doc: &mut Doc, below: &[u32], mend: &Mend, exchange: &Exchange)
-    requires can { CanMendDoc (CanMendOwner mend.now.inner mend.now.stamp exchange.now)
+fn update_inside(alloc: Global, doc: &mut Doc, below: &[u32], update: &Update, exchange: &Exchange)
+    requires can { CanUpdateDoc (CanUpdateOwner update.now.inner update.now.stamp exchange.now)
         (0 ∷ below.now) (plain_doc doc.old) }
-    requires counted { IsDocCounted (mend_doc (0 ∷ below.now) mend.now.verdict mend.now.inner
-        mend.now.stamp (plain_doc doc.old)) }
-    ensures { plain_doc doc.new ≡ mend_doc (0 ∷ below.now) mend.now.verdict mend.now.inner
-        mend.now.stamp (plain_doc doc.old) }
+    requires counted { IsDocCounted (update_doc (0 ∷ below.now) update.now.verdict update.now.inner
+        update.now.stamp (plain_doc doc.old)) }
+    ensures { plain_doc doc.new ≡ update_doc (0 ∷ below.now) update.now.verdict update.now.inner
+        update.now.stamp (plain_doc doc.old) }
 {
     let before = told_of(&doc.root);
-    mend_below(alloc, &mut doc.root, below, mend, exchange);
+    update_below(alloc, &mut doc.root, below, update, exchange);
     let after = told_of(&doc.root);
     doc.mark.left = doc.mark.left - before.left + after.left;
     doc.mark.nodes = doc.mark.nodes - before.nodes + after.nodes;
 }
 
 /// Marks the owner of a changed list, and the element in it whose list has changed too.
-pub(crate) fn mend_owner(alloc: Global, node: &mut Node, mend: &Mend, exchange: &Exchange)
+pub(crate) fn update_owner(alloc: Global, node: &mut Node, update: &Update, exchange: &Exchange)
     requires elem { IsTrue (is_element (plain node.old)) }
-    requires within { IfSome mend.now.inner (λ inner.
+    requires within { IfSome update.now.inner (λ inner.
         HasElement (kids_of (plain node.old)) inner.place) }
     requires tells { OwnerTellsBefore exchange.now
-        (mend_inner mend.now.inner mend.now.stamp (plain node.old)) }
-    requires counted { IsCounted (mend_owner mend.now.verdict mend.now.inner mend.now.stamp
+        (update_inner update.now.inner update.now.stamp (plain node.old)) }
+    requires counted { IsCounted (update_owner update.now.verdict update.now.inner update.now.stamp
         (plain node.old)) }
     ensures { plain node.new
-        ≡ mend_owner mend.now.verdict mend.now.inner mend.now.stamp (plain node.old) }
+        ≡ update_owner update.now.verdict update.now.inner update.now.stamp (plain node.old) }
 {
-    match mend.inner {
-        None => mend_changed(node, mend, exchange),
+    match update.inner {
+        None => update_changed(node, update, exchange),
         Some(inner) => {
-            mend_kid(alloc, node, inner, mend.stamp);
-            mend_changed(node, mend, exchange)
+            update_kid(alloc, node, inner, update.stamp);
+            update_changed(node, update, exchange)
         }
     }
 }
 
 // Marks an element's kid whose list has changed.
-fn mend_kid(alloc: Global, node: &mut Node, inner: InnerVerdict, stamp: u64)
+fn update_kid(alloc: Global, node: &mut Node, inner: InnerVerdict, stamp: u64)
     requires elem { IsTrue (is_element (plain node.old)) }
     requires within { HasElement (kids_of (plain node.old)) inner.place }
     requires counted { KidIsCounted inner stamp (plain node.old) }
-    ensures { plain node.new ≡ mend_kid inner stamp (plain node.old) }
+    ensures { plain node.new ≡ update_kid inner stamp (plain node.old) }
 {
     let mut kids = take_kids(alloc, node);
-    mend_element(&mut kids[inner.place], inner.verdict, stamp);
+    update_element(&mut kids[inner.place], inner.verdict, stamp);
     put_kids(alloc, node, kids);
 }
 
 /// Marks the owner of a changed list below a node, and tells the marks above it again.
-pub(crate) fn mend_below(
+pub(crate) fn update_below(
     alloc: Global,
     node: &mut Node,
     path: &[u32],
-    mend: &Mend,
+    update: &Update,
     exchange: &Exchange,
 )
-    requires can { CanMend (CanMendOwner mend.now.inner mend.now.stamp exchange.now) path.now
+    requires can { CanUpdate (CanUpdateOwner update.now.inner update.now.stamp exchange.now) path.now
         (plain node.old) }
-    requires counted { IsCounted (mend_below path.now
-        (mend_owner mend.now.verdict mend.now.inner mend.now.stamp) (plain node.old)) }
-    ensures { plain node.new ≡ mend_below path.now
-        (mend_owner mend.now.verdict mend.now.inner mend.now.stamp) (plain node.old) }
+    requires counted { IsCounted (update_below path.now
+        (update_owner update.now.verdict update.now.inner update.now.stamp) (plain node.old)) }
+    ensures { plain node.new ≡ update_below path.now
+        (update_owner update.now.verdict update.now.inner update.now.stamp) (plain node.old) }
 {
     match path {
-        [] => mend_owner(alloc, node, mend, exchange),
+        [] => update_owner(alloc, node, update, exchange),
         [first, rest @ ..] => {
             let mut kids = take_kids(alloc, node);
             let kid = &mut kids[*first as usize];
             let before = told_of(kid);
-            mend_below(alloc, kid, rest, mend, exchange);
+            update_below(alloc, kid, rest, update, exchange);
             let after = told_of(kid);
             put_kids(alloc, node, kids);
             tell_again(node, before, after);
