@@ -43,7 +43,12 @@ mutual
 
   verdicts_by_from : (path : List ℕ) (i : ℕ) (kids : Forest Mark) → map verdict_by (marked_from path i kids) ≡ told_verdicts_in kids
   verdicts_by_from path i no_trees = refl
-  verdicts_by_from path i (tree t rest) = rw (map-append verdict_by (marked_at (path ++ i ∷ []) t) (marked_from path (suc i) rest), verdicts_by_at (path ++ i ∷ []) t, verdicts_by_from path (suc i) rest) refl
+  verdicts_by_from path i (tree t rest) =
+      rw (
+        map-append verdict_by (marked_at (path ++ i ∷ []) t) (marked_from path (suc i) rest),
+        verdicts_by_at (path ++ i ∷ []) t,
+        verdicts_by_from path (suc i) rest,
+      ) refl
 
 pub verdicts_by : (doc : PlainDoc Mark) → map verdict_by (marked_of doc) ≡ verdicts_told doc
 verdicts_by doc = ap (λ vs. doc.mark.verdict ∷ vs) (verdicts_by_at (0 ∷ []) doc.root)
