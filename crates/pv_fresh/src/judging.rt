@@ -16,19 +16,28 @@ ghost use Rattle.pv_missing.specs.WordVerdicts.{HoldsOne};
 
 use pv_chars::NoMemory;
 use pv_missing::{Of, element_owner, root_owner};
+use pv_productive::Grammar;
 use pv_reach::{Judge, ReachError, judge_kids};
 use pv_tree::{Doc, DocList, Lists, OwnerName, Verdict};
+
+/// Whose list it is, as a grammar knows it.
+pub fn owner_under(grammar: &Grammar, root: &[u8], owner: OwnerName<'_>) -> Option<Of>
+    ensures { (list : Listed Mark) → list.owner ≡ owner_named owner.entry →
+        IsOwner (dtd_of grammar.now) root.now list result }
+{
+    let dtd = grammar.dtd();
+    match owner {
+        OwnerName::Document => root_owner(dtd, root),
+        OwnerName::Element(name) => element_owner(dtd, name),
+    }
+}
 
 /// Whose list it is, as the grammar knows it.
 pub fn owner_in(judge: &Judge<'_>, root: &[u8], owner: OwnerName<'_>) -> Option<Of>
     ensures { (list : Listed Mark) → list.owner ≡ owner_named owner.entry →
         IsOwner (dtd_of judge.now) root.now list result }
 {
-    let dtd = judge.grammar().dtd();
-    match owner {
-        OwnerName::Document => root_owner(dtd, root),
-        OwnerName::Element(name) => element_owner(dtd, name),
-    }
+    owner_under(judge.grammar(), root, owner)
 }
 
 // The verdict of a list that isn't too wide.

@@ -18,6 +18,6 @@ pub use check::count_lists;
 pub use errors::{FreshError, PossibleError};
 pub use firsts::with_first;
 pub use fixed::check_doc;
-pub use judging::owner_in;
+pub use judging::{owner_in, owner_under};
 pub use possible::possible_verdicts;
 pub use widths::first_too_wide;
