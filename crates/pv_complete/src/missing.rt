@@ -4,7 +4,6 @@ pub mod known;
 pub mod lists;
 pub mod load;
 pub mod needing;
-pub mod owners;
 pub mod remembering;
 pub mod weighing;
 pub mod widths;

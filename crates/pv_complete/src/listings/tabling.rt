@@ -24,7 +24,7 @@ use crate::listings::entries::entries_of;
 use crate::listings::made::Made;
 use crate::missing::known::KnownWeights;
 use crate::missing::load::next_is_possible;
-use crate::missing::owners::owner_in;
+use pv_fresh::owner_under;
 use pv_missing::{Of, Verdicts, live_word};
 use pv_model::Token;
 use pv_span::{ColumnLayout, Entry, ListOwner, SpanError, is_known_owner, weights_by};
@@ -167,7 +167,7 @@ pub fn table_doc(
 {
     let mut lists = Lists::of(alloc, doc);
     while let Some(list) = lists.next()? {
-        let owner = owner_in(layout.grammar, root, list.owner);
+        let owner = owner_under(layout.grammar, root, list.owner);
         table_list(
             alloc, layout, owner, &lists, list.kids, verdicts, known, made,
         )?;

@@ -9,11 +9,10 @@ ghost use Rattle.pv_complete.specs.Needing.{AreLiveVerdicts, HasCause, Needs, We
 use crate::errors::NeedError;
 use crate::missing::known::KnownWeights;
 use crate::missing::load::Load;
-use crate::missing::owners::owner_in;
 use crate::missing::weighing::weigh_list;
 use crate::missing::widths::first_wide_list;
 use pv_dtd::laws::proper_dtd_law;
-use pv_fresh::{PossibleError, possible_verdicts};
+use pv_fresh::{PossibleError, owner_under, possible_verdicts};
 use pv_missing::Verdicts;
 use pv_missing::laws::proper::proper_doc_law;
 use pv_productive::Grammar;
@@ -70,7 +69,7 @@ fn total_weight(
     let mut load = Load::new();
     let mut lists = Lists::of(alloc, doc);
     while let Some(list) = lists.next()? {
-        let owner = owner_in(layout.grammar, root, list.owner);
+        let owner = owner_under(layout.grammar, root, list.owner);
         match weigh_list(alloc, layout, owner, list.kids, verdicts, known, &mut load) {
             Ok(()) => {}
             Err(SpanError::TooWide) => return Err(NeedError::TooWide(lists.path(alloc)?)),

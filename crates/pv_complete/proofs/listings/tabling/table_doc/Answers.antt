@@ -26,7 +26,7 @@ loop-lists-preserved c =
     let old = made_of c.loop-lists.made in
     let new = made_of c.table_list.new.made in
     let left = come_to c.loop-lists.lists c.next.new.self _ c.in-Some.list c.in-Some.is c.in_ok-list.ensures.given in
-    let one : MakesTables d root (list ∷ []) vs old new = c.in_ok-table_list.ensures.tabled root list refl refl (c.owner_in-owner.ensures list refl) in
+    let one : MakesTables d root (list ∷ []) vs old new = c.in_ok-table_list.ensures.tabled root list refl refl (c.owner_under-owner.ensures list refl) in
     record {
       makes = λ last f. c.loop-lists.invariant.makes last (rw left (makes_on d root vs (list ∷ []) rest old new last one f));
       stops = λ e f. c.loop-lists.invariant.stops e (rw left (tables_behind d root vs (list ∷ []) rest old new e one f));
@@ -45,7 +45,7 @@ returns-in_err-table_list-clause-refused c =
     rw p.1 (
     let q = p.2 in
     let same : c.in_err-table_list.field-0.0 ≡ p.0 = cc in
-    let stop : StopsTables d root (list ∷ []) vs old c.in_err-table_list.field-0.0 = c.in_err-table_list.ensures.refused root list refl refl (c.owner_in-owner.ensures list refl) in
+    let stop : StopsTables d root (list ∷ []) vs old c.in_err-table_list.field-0.0 = c.in_err-table_list.ensures.refused root list refl refl (c.owner_under-owner.ensures list refl) in
     c.loop-lists.invariant.stops p.0 (rw left (tables_before d root vs (list ∷ []) rest old p.0
     (subst (λ (e : NeedError). StopsTables d root (list ∷ []) vs old e) same stop))))
 

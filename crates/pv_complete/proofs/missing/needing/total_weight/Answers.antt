@@ -30,7 +30,7 @@ loop-lists-preserved c =
     let old = load_of c.loop-lists.load in
     let new = load_of c.weigh_list.new.load in
     let left = come_to c.loop-lists.lists c.next.new.self _ c.in-Some-2.list c.in-Some-2.is c.in_ok-list.ensures.given in
-    let one : AddsUp d root (list ∷ []) vs old new = c.in-Ok.ensures.weighed root list refl (c.owner_in-owner.ensures list refl) in
+    let one : AddsUp d root (list ∷ []) vs old new = c.in-Ok.ensures.weighed root list refl (c.owner_under-owner.ensures list refl) in
     record {
       known = c.weigh_list.ensures.known;
       adds = λ last f. c.loop-lists.invariant.adds last (rw left (adds_on d root vs (list ∷ []) rest old new last one f));
@@ -47,7 +47,7 @@ returns-in-Err-TooWide-clause-refused c = λ live.
     let rest = left_by c.next.new.self in
     let old = load_of c.loop-lists.load in
     let left = come_to c.loop-lists.lists c.next.new.self _ c.in-Some-2.list c.in-Some-2.is c.in_ok-list.ensures.given in
-    let here : StopsAtList d root (list ∷ []) vs old path = c.in-Err-TooWide.ensures.wide c.in-Err-TooWide.field-0-is root list refl (c.owner_in-owner.ensures list refl) in
+    let here : StopsAtList d root (list ∷ []) vs old path = c.in-Err-TooWide.ensures.wide c.in-Err-TooWide.field-0-is root list refl (c.owner_under-owner.ensures list refl) in
     inr (record {
       narrow = live.narrow;
       possible = live.possible;
