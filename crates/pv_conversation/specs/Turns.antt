@@ -31,3 +31,8 @@ IsTurn before line after (Some answer) =
 abbrev pub IsReplyBy : PlainSession → Command → PlainSession → Answer → Type 0
 IsReplyBy before command after answer =
     (told : Reply) × RepliesBy before command told after × IsAnswerOf told answer
+
+-- the reply to a command and the session after it, or the end, which leaves the session
+abbrev pub IsFollowed : PlainSession → Command → PlainSession → Option Answer → Type 0
+IsFollowed before told after None = (told ≡ command.Quit) × (after ≡ before)
+IsFollowed before told after (Some answer) = IsReplyBy before told after answer

@@ -1,10 +1,10 @@
 //! The reply to a line of a session's script.
 
-ghost use Rattle.std.specs.Prelude.{◌≡◌, ◌≤◌, ◌+◌, IfOk, MatchOption, OnErr, vec_len};
+ghost use Rattle.std.specs.Prelude.{◌≡◌, ◌≤◌, ◌+◌, false, IfOk, MatchOption, OnErr, vec_len};
 ghost use Rattle.pv_cache.specs.Moves.{HasBad};
-ghost use Rattle.pv_conversation.specs.Counting.{CountsOneLine};
+ghost use Rattle.pv_conversation.specs.Counting.{CountsOneLine, is_move};
 ghost use Rattle.pv_conversation.specs.Session.{TellsMove};
-ghost use Rattle.pv_conversation.specs.Turns.{IsAnswerOf, IsReplyBy, IsTurn};
+ghost use Rattle.pv_conversation.specs.Turns.{IsAnswerOf, IsFollowed, IsReplyBy, IsTurn};
 ghost use Rattle.pv_session.specs.Sessions.{stamped_document};
 
 use crate::answers::{Answer, no_command, okay, other, shown, take_room};
@@ -125,6 +125,36 @@ fn verdicts(alloc: Global, session: &Session) -> Result<Answer, NoMemory>
     other(alloc, &Reply::Verdicts(rows))
 }
 
+// The reply to a command, or none where it ends the session.
+fn follow<L: Ledger>(
+    rt: &(impl Threads + Sync),
+    alloc: Global,
+    session: &mut OpenedSession,
+    command: &Command,
+    steps: &mut Steps<L>,
+) -> Result<Option<Answer>, NoMemory>
+    ensures followed { IfOk result (IsFollowed session.old command.now session.new) }
+    ensures stays { OnErr result (session.new ≡ session.old) }
+    ensures counts { is_move command.now ≡ false → steps.new ≡ steps.old }
+    ensures uncounted { IfOk result (λ answer. MatchOption answer (steps.new ≡ steps.old)
+        (λ _. Unit {0})) }
+    ensures steps { steps.new ≤ steps.old + 2 }
+    ensures later { steps.old ≤ steps.new }
+{
+    match command {
+        Command::Edit(change) => Ok(Some(edit(alloc, session, change, steps)?)),
+        Command::Undo => Ok(Some(undo(alloc, session, steps)?)),
+        Command::Redo => Ok(Some(redo(alloc, session, steps)?)),
+        Command::History => Ok(Some(history(alloc, session.session())?)),
+        Command::Show => Ok(Some(show(alloc, session.session())?)),
+        Command::Verdicts => Ok(Some(verdicts(alloc, session.session())?)),
+        Command::Need => Ok(Some(need(alloc, session)?)),
+        Command::Complete => Ok(Some(complete(alloc, session)?)),
+        Command::Offer(ask) => Ok(Some(offer(rt, alloc, session.session(), ask)?)),
+        Command::Quit => Ok(None),
+    }
+}
+
 /// The reply to a line, or none where it ends the session.
 pub fn turn<L: Ledger>(
     rt: &(impl Threads + Sync),
@@ -142,16 +172,7 @@ pub fn turn<L: Ledger>(
     ensures later { steps.old ≤ steps.new }
 {
     match read_command(alloc, line) {
-        Ok(Command::Edit(change)) => Ok(Some(edit(alloc, session, &change, steps)?)),
-        Ok(Command::Undo) => Ok(Some(undo(alloc, session, steps)?)),
-        Ok(Command::Redo) => Ok(Some(redo(alloc, session, steps)?)),
-        Ok(Command::History) => Ok(Some(history(alloc, session.session())?)),
-        Ok(Command::Show) => Ok(Some(show(alloc, session.session())?)),
-        Ok(Command::Verdicts) => Ok(Some(verdicts(alloc, session.session())?)),
-        Ok(Command::Need) => Ok(Some(need(alloc, session)?)),
-        Ok(Command::Complete) => Ok(Some(complete(alloc, session)?)),
-        Ok(Command::Offer(ask)) => Ok(Some(offer(rt, alloc, session.session(), &ask)?)),
-        Ok(Command::Quit) => Ok(None),
+        Ok(command) => follow(rt, alloc, session, &command, steps),
         Err(CommandError::Unknown) => Ok(Some(no_command())),
         Err(CommandError::NoMemory) => Err(NoMemory),
     }
