@@ -8,7 +8,7 @@ ghost use Rattle.pv_offer.specs.Offers.{TellsOf, added, declared_names};
 
 use crate::errors::OfferError;
 use crate::laws::renames_law;
-use crate::trying::{Tried, edit_of, judge_alone, try_names};
+use crate::trying::{Tried, judge_name, try_names};
 use pv_cache::Marked;
 use pv_chars::{Bytes, Labels, NoMemory, bytes_of};
 use pv_dtd::Dtd;
@@ -46,8 +46,7 @@ fn ask_first(alloc: Global, marked: &Marked, ask: &Ask) -> Result<(), OfferError
 {
     marked.holdable_law();
     renames_law::<u64>();
-    let edit = edit_of(alloc, ask, b"a")?;
-    match judge_alone(marked, &edit) {
+    match judge_name(alloc, marked, ask, b"a") {
         Ok(()) => Ok(()),
         Err(EditAnswer::Impossible(_)) => Ok(()),
         Err(EditAnswer::Shape(reason)) => Err(OfferError::Shape(reason)),

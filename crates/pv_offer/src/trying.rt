@@ -25,8 +25,8 @@ pub(crate) type Tried = Result<bool, NoMemory>;
 // Names, at least, that are worth a thread.
 const NAMES_BY_ONE_THREAD: usize = 4;
 
-/// The edit that is asked of, with this name.
-pub(crate) fn edit_of(alloc: Global, ask: &Ask, name: &[u8]) -> Result<Edit, NoMemory>
+// The edit that is asked of, with this name.
+fn edit_of(alloc: Global, ask: &Ask, name: &[u8]) -> Result<Edit, NoMemory>
     ensures { IfOk result (λ edit. edit ≡ edit_with ask.now name.now) }
 {
     let name = bytes_of(alloc, name)?;
@@ -61,8 +61,8 @@ fn judge_on<L: Ledger>(marked: &Marked, edit: &Edit, blank: Blank) -> Result<(),
     marked.judge(edit, &mut steps)
 }
 
-/// Judges an edit: Ok where it is accepted, else the ground on which it is refused.
-pub(crate) fn judge_alone(marked: &Marked, edit: &Edit) -> Result<(), EditAnswer>
+// Judges an edit: Ok where it is accepted, else the ground on which it is refused.
+fn judge_alone(marked: &Marked, edit: &Edit) -> Result<(), EditAnswer>
     ensures accepted { OnOk result ((edited : PlainDoc ℕ) ×
         IsAccepted 0 marked.now.dtd marked.now.root marked.now.doc edit.now edited) }
     ensures refused { IfErr result (HasGround 0 marked.now.dtd marked.now.root marked.now.doc
@@ -71,13 +71,30 @@ pub(crate) fn judge_alone(marked: &Marked, edit: &Edit) -> Result<(), EditAnswer
     judge_on::<Brand>(marked, edit, Blank::new(1))
 }
 
+/// Judges the edit that is asked of, with this name: Ok where it is accepted, else the ground on
+/// which it is refused.
+pub(crate) fn judge_name(
+    alloc: Global,
+    marked: &Marked,
+    ask: &Ask,
+    name: &[u8],
+) -> Result<(), EditAnswer>
+    ensures accepted { OnOk result ((edited : PlainDoc ℕ) ×
+        IsAccepted 0 marked.now.dtd marked.now.root marked.now.doc
+        (edit_with ask.now name.now) edited) }
+    ensures refused { IfErr result (HasGround 0 marked.now.dtd marked.now.root marked.now.doc
+        (edit_with ask.now name.now)) }
+{
+    let edit = edit_of(alloc, ask, name)?;
+    judge_alone(marked, &edit)
+}
+
 // Whether this name may be put there.
 fn try_name(alloc: Global, marked: &Marked, ask: &Ask, name: &[u8]) -> Tried
     ensures { TellsOf marked.now ask.now name.now result }
 {
     accepted_law::<u64, u64>();
-    let edit = edit_of(alloc, ask, name)?;
-    match judge_alone(marked, &edit) {
+    match judge_name(alloc, marked, ask, name) {
         Ok(()) => Ok(true),
         Err(EditAnswer::NoMemory) => Err(NoMemory),
         Err(EditAnswer::Shape(_)) => Ok(false),
