@@ -4,9 +4,9 @@ ghost use Rattle.std.specs.Prelude.{◌≡◌, ◌∷◌, [], IfOk, List, ℕ, O
 ghost use Rattle.pv_model.specs.PlainForms.{plain_token};
 ghost use Rattle.pv_productive.specs.PlainForms.{dtd_of};
 ghost use Rattle.pv_rules.specs.PlainForms.{plain_site};
-ghost use Rattle.pv_tree.specs.Lists.{Listed, lists_at, lists_from, lists_of};
+ghost use Rattle.pv_tree.specs.Lists.{Listed, lists_of};
 ghost use Rattle.pv_tree.specs.PlainDocs.{plain_doc};
-ghost use Rattle.pv_tree.specs.PlainForms.{forest, plain};
+ghost use Rattle.pv_tree.specs.PlainForms.{forest};
 ghost use Rattle.pv_tree.specs.Words.{word_of};
 ghost use Rattle.pv_tree.specs.declared.nodes.Mark.{Mark};
 ghost use Rattle.pv_missing.specs.Owners.{IsOwner};
@@ -22,11 +22,12 @@ use crate::pieces::Piece;
 use pv_bounds::laws::below_sites_law;
 use pv_bounds::{Fronts, are_closed, bound};
 use pv_chars::NoMemory;
+use pv_fresh::owner_under;
 use pv_layout::ColumnLayout;
-use pv_missing::{Of, Verdicts, element_owner, root_owner};
+use pv_missing::{Of, Verdicts};
 use pv_model::Token;
 use pv_rules::Site;
-use pv_tree::{Doc, Mark, Node, Verdict, word};
+use pv_tree::{Doc, Lists, Mark, Node, Verdict, word};
 use std::alloc::Global;
 
 /// What is found of the lists so far: how many there were, a number that their bounds add up to at
@@ -155,46 +156,6 @@ fn bound_list(
     Ok(())
 }
 
-// Bounds the lists of this subtree.
-#[cycle(bounding)]
-fn bound_node(
-    alloc: Global,
-    plan: &Plan<'_>,
-    node: &Node,
-    verdicts: &Verdicts,
-    found: &mut Found,
-) -> Result<(), MakeError>
-    ensures { OnOk result ((root path : List ℕ) →
-        AreBounded (dtd_of plan.now.layout.now.grammar.now) root
-        (lists_at path (plain node.now)) found.old.least found.new.least) }
-{
-    let Node::Elem { name, kids, .. } = node else {
-        return Ok(());
-    };
-    let owner = element_owner(plan.layout.grammar.dtd(), name.as_slice());
-    bound_list(alloc, plan, owner, kids, verdicts, found)?;
-    bound_below(alloc, plan, kids, verdicts, found)
-}
-
-// Bounds the lists of nodes side by side.
-#[cycle(bounding)]
-fn bound_below(
-    alloc: Global,
-    plan: &Plan<'_>,
-    kids: &[Node],
-    verdicts: &Verdicts,
-    found: &mut Found,
-) -> Result<(), MakeError>
-    ensures { OnOk result ((root path : List ℕ) →
-        AreBounded (dtd_of plan.now.layout.now.grammar.now) root
-        (lists_from path 0 (forest kids.now)) found.old.least found.new.least) }
-{
-    for kid in kids {
-        bound_node(alloc, plan, kid, verdicts, found)?;
-    }
-    Ok(())
-}
-
 /// Bounds the lists of a document: a number that their bounds add up to at least, and pieces of the
 /// Possible ones, by the verdicts.
 pub fn bound_doc(
@@ -208,9 +169,10 @@ pub fn bound_doc(
         (lists_of (plain_doc doc.now)) 0 found.least) }
 {
     let mut found = Found::none(alloc);
-    let owner = root_owner(plan.layout.grammar.dtd(), root);
-    let kids = std::slice::from_ref(&doc.root);
-    bound_list(alloc, plan, owner, kids, verdicts, &mut found)?;
-    bound_node(alloc, plan, &doc.root, verdicts, &mut found)?;
+    let mut lists = Lists::of(alloc, doc);
+    while let Some(list) = lists.next()? {
+        let owner = owner_under(plan.layout.grammar, root, list.owner);
+        bound_list(alloc, plan, owner, list.kids, verdicts, &mut found)?;
+    }
     Ok(found)
 }
