@@ -10,6 +10,7 @@ import random
 import re
 import sys
 import tempfile
+import tracemalloc
 
 sys.dont_write_bytecode = True
 sys.path.insert(0, os.path.join(os.path.dirname(os.path.dirname(os.path.abspath(__file__))), "clients"))
@@ -663,6 +664,37 @@ def finds_tags(_):
             same(shown(whole.tag(offset)), shown(Tree.tag(whole, offset)), f"the tag at {offset} of {data!r}")
 
 
+def reads_nodes(_):
+    """The nodes of a document are the same whether it is known to be one or not; a list of many takes little memory."""
+    sys.path.insert(0, os.path.join(TOP, "clients", "lsp"))
+    from lists import cut, kids_of
+    from reading import Typed, Whole
+
+    def shown(node):
+        if node.kind != "element":
+            return tuple(node)
+        return node.name, node.start, node.inside, node.closes, node.end, node.at, [shown(kid) for kid in node.kids]
+
+    dice = random.Random(6)
+    for _ in range(60):
+        data = (dice.choice(["", "<!DOCTYPE a>\n"]) + random_element(dice) + dice.choice(["", "\n"])).encode()
+        typed, whole = Typed(data), Whole(data)
+        same(shown(typed.top), shown(whole.top), f"the nodes of {data!r}")
+        for _ in range(20):
+            start, end = sorted(dice.randint(0, len(data)) for _ in range(2))
+            one, other = (tree.around(start) for tree in (typed, whole))
+            need(one.is_same(other) and one is typed.around(start), f"the element at {start} of {data!r}")
+            same(cut(one, data, start, end), cut(other, data, start, end), f"{start} to {end} of {data!r}")
+    data = b"<a>%b</a>" % (b"<p>some words</p>" * 50_000)
+    for read in (Typed, Whole):
+        tracemalloc.start()
+        tree = read(data)
+        same((len(tree.root.kids), len(kids_of(tree.root, data))), (50_000, 50_000), "kids")
+        peak = tracemalloc.get_traced_memory()[1]
+        tracemalloc.stop()
+        need(peak < 6 * len(data), f"{read.__name__}: {peak / len(data):.1f} times the text")
+
+
 # Positions.
 def counts_positions(program):
     """Characters outside the BMP, all line ends, UTF-16 and UTF-8; all other bytes stay."""
@@ -751,6 +783,7 @@ CASES = [
     tells_what_is_no_xml,
     reads_rows_as_they_come,
     finds_tags,
+    reads_nodes,
     renames,
     counts_positions,
     takes_changes_in_order,

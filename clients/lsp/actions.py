@@ -61,7 +61,7 @@ def wrapping(asked: Asked, work: Work, start: int, end: int) -> list[Json]:
     document = asked.document
     start, end = trimmed(document.data, start, end)
     owner = document.tree.around(start)
-    if start >= end or document.tree.around(end) is not owner:
+    if start >= end or not document.tree.around(end).is_same(owner):
         return []
     found = cut(owner, document.data, start, end)
     if found is None or found.start >= found.end or is_too_deep(owner, start, end, document.data):

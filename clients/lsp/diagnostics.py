@@ -1,5 +1,6 @@
 """Diagnostics: what is wrong with a text, and what is missing in it, judged anew once typing has paused."""
 import contextlib
+import gc
 import threading
 import time
 from collections.abc import Callable
@@ -11,6 +12,7 @@ from grammar import Finder, Grammar, NoDtd
 from lists import WHITE, kids_of
 from moving import Change
 from nodes import Element, Node, Tree
+from order import refresh
 from pvtag.faults import fault_of
 from pvtag.long import Counted
 from pvtag.places import Source
@@ -23,6 +25,8 @@ from work import Cancelled, Work
 
 # So long a pause in typing, in seconds, before a text is judged, and so long until what is known by then is told.
 PAUSE, FIRST = 0.04, 0.12
+# The nodes of a text refer to one another; of one of so many bytes they aren't left to be found some time.
+LARGE = 1 << 20
 # At most so many lists are told of, and so many that nothing can mend.
 MOST, MOST_BAD = 500, 50
 ERROR, INFORMATION, HINT = 1, 3, 4
@@ -85,6 +89,15 @@ class Watch:
                 self.say(document.uri, f"{type(fault).__name__}: {fault}", False)
             finally:
                 document.settled.set()
+            self.tidy(document)
+
+    def tidy(self, document: Document) -> None:
+        """What can be done after a judgement, while nobody waits: how often names are used is counted anew, and large texts that
+        nobody refers to any more are let go."""
+        if self.newest is None:
+            refresh(document)
+            if len(document.text.data) > LARGE:
+                gc.collect()
 
     def publish(self, document: Document, work: Work, diagnostics: list[Json]) -> None:
         """Tells them, but for a text that is no longer the newest."""

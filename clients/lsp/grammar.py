@@ -1,6 +1,7 @@
 """Which DTD and which root a document has, and that DTD as one plain file."""
 import contextlib
 import fnmatch
+import hashlib
 import os
 import re
 import subprocess
@@ -48,10 +49,10 @@ MODULAR = re.compile(rb"<!ENTITY\s+%\s+\S+\s+(?:SYSTEM|PUBLIC)\s|<!\[")
 # What the program doesn't read of XML, and `tools/flatten` does.
 MODULES = re.compile(r"dtd param (conditional|external)|dtd parameter \d")
 
-# A list: its path, its element's name, its kids; and what tells it from others of the same kids: for the document node
-# the name of the root too.
+# A list: its path, its element's name, its kids; and what tells it from others, its kids as a digest: for the document
+# node the name of the root too.
 List = tuple[str, str, Sequence[Kid]]
-Key = tuple[str, str, tuple[Kid, ...]]
+Key = tuple[str, str, bytes]
 MOST_KEPT = 500
 # So long, in seconds, an insertion waits for what a DTD declares of attributes.
 SOON = 1.0
@@ -178,7 +179,8 @@ class Grammar:
 
     def key_of(self, each: List) -> Key:
         path, owner, kids = each
-        return self.root if path == "." else "", owner, tuple(kids)
+        told = "\0".join(map(" ".join, kids)).encode()
+        return self.root if path == "." else "", owner, hashlib.blake2b(told, digest_size=16).digest()
 
     def find_reasons(self, lists: Sequence[List], runs: Running = RUNNING) -> None:
         """Finds why these lists are impossible, in runs that end with these. It isn't asked twice of lists with the same

@@ -4,11 +4,14 @@ The document that a session is opened on has the list's element for its root, it
 letter for each text. Two texts that a cut makes of one stand with a comment between them, which is none of a list's
 tokens.
 """
+import itertools
+import re
+from array import array
 from collections.abc import Sequence
 from typing import NamedTuple
 
 from grammar import Grammar
-from nodes import Element, Node
+from nodes import END, ITEM, NAME, SLASH, START, Element, Kids
 from pvtag.session import Refused, Session
 from pvtag.tries import STUBS, Kid
 
@@ -18,19 +21,33 @@ TEXTS = ("text", "white")
 DEEPEST = 512
 
 
+TEXT, BLANK = Kid("text"), Kid("white")
+# A kid, by what it begins with.
+BEGUN = re.compile(rb"<(?:(" + NAME + rb")|!\[)?")
+
+
 def text_kid(data: bytes) -> Kid:
-    return Kid("text" if data.strip(WHITE) else "white")
-
-
-def kid_of(node: Node, data: bytes) -> Kid:
-    """A node as far as its owner's content model goes."""
-    if isinstance(node, Element):
-        return Kid("element", node.label)
-    return text_kid(data[node.start : node.end]) if node.kind == "text" else Kid(node.kind)
+    return TEXT if data.strip(WHITE) else BLANK
 
 
 def kids_of(owner: Element, data: bytes) -> list[Kid]:
-    return [kid_of(node, data) for node in owner.kids]
+    """The kids of an element, as far as its content model goes. Those that are alike are one value."""
+    kids, known = owner.kids, {b"<![": Kid("cdata"), b"<": Kid("misc")}
+    if not isinstance(kids, Kids):
+        return [Kid("element", kid.label) if isinstance(kid, Element) else text_kid(data[kid.start : kid.end])
+                if kid.kind == "text" else Kid(kid.kind) for kid in kids]
+    found = list[Kid]()
+    for at, start in enumerate(kids.starts):
+        begun = BEGUN.match(data, start)
+        if begun is None:
+            kid = kids.one(at)
+            found.append(text_kid(data[start : kid.end]))
+            continue
+        name = begun[0]
+        if name not in known:
+            known[name] = Kid("element", begun[1].decode(errors="replace"))
+        found.append(known[name])
+    return found
 
 
 class Cut(NamedTuple):
@@ -43,16 +60,27 @@ class Cut(NamedTuple):
 
 def cut(owner: Element, data: bytes, start: int, end: int) -> Cut | None:
     """The kids of a list that stand between two offsets; none where an offset is within a kid that can't be cut."""
-    kids: list[Kid] = []
-    places: dict[int, int] = {}
-    for node in owner.kids:
-        inner = [at for at in dict.fromkeys((start, end)) if node.start < at < node.end]
-        if inner and node.kind != "text":
+    kids = kids_of(owner, data)
+    # The kid that each offset is in or before, and the texts that are cut, with the offsets.
+    places, cuts = list[tuple[int, int]](), dict[int, list[int]]()
+    for offset in (start, end):
+        at = owner.kid_at(offset)
+        node = owner.kids[at] if at >= 0 else None
+        if node is None or offset >= node.end:
+            places.append((len(kids), 0))
+        elif offset == node.start:
+            places.append((at, 0))
+        elif node.kind != "text":
             return None
-        for first, last in zip((node.start, *inner), (*inner, node.end), strict=True):
-            places.setdefault(first, len(kids))
-            kids.append(text_kid(data[first:last]) if inner else kid_of(node, data))
-    return Cut(kids, places.get(start, len(kids)), places.get(end, len(kids)))
+        else:
+            inner = cuts.setdefault(at, [])
+            inner += [offset] if offset not in inner else []
+            places.append((at, len(inner)))
+    first, last = (at + piece + sum(len(inner) for other, inner in cuts.items() if other < at) for at, piece in places)
+    for at in sorted(cuts, reverse=True):
+        node = owner.kids[at]
+        kids[at : at + 1] = [text_kid(data[one:other]) for one, other in itertools.pairwise((node.start, *cuts[at], node.end))]
+    return Cut(kids, first, last)
 
 
 class Alone:
@@ -79,22 +107,24 @@ class Alone:
         return names(session.offer(self.path, self.places[start], self.places[end]))
 
 
-def written(kids: Sequence[Kid], inner: int | None, below: Sequence[Kid]) -> tuple[bytes, list[int]]:
+def written(kids: Sequence[Kid], inner: int | None, below: Sequence[Kid]) -> tuple[bytes, "array[int]"]:
     """A list's kids as bytes, and the number there of each, and of the list's end."""
-    body: list[bytes] = []
-    places: list[int] = []
+    body, places, count = bytearray(), array("I"), 0
     for at, kid in enumerate(kids):
         if at and kid.kind in TEXTS and kids[at - 1].kind in TEXTS:
-            body.append(b"<!---->")
-        places.append(len(body))
+            body += b"<!---->"
+            count += 1
+        places.append(count)
+        count += 1
         name = kid.name.encode()
         if kid.kind != "element":
-            body.append(STUBS[kid.kind])
+            body += STUBS[kid.kind]
         elif at == inner:
-            body.append(b'<%b n="%d">%b</%b>' % (name, at, written(below, None, ())[0], name))
+            body += b'<%b n="%d">%b</%b>' % (name, at, written(below, None, ())[0], name)
         else:
-            body.append(b'<%b n="%d"/>' % (name, at))
-    return b"".join(body), [*places, len(body)]
+            body += b'<%b n="%d"/>' % (name, at)
+    places.append(count)
+    return bytes(body), places
 
 
 def names(offered: list[str] | Refused) -> list[str]:
@@ -107,14 +137,15 @@ def alone_with(element: Element, data: bytes) -> Alone:
     return Alone(element.owner.label, kids_of(element.owner, data), element.at, kids_of(element, data))
 
 
-def height(node: Node) -> int:
-    """How many elements stand in one another."""
-    highest, todo = 0, [(1, node)]
-    while todo:
-        depth, each = todo.pop()
-        if isinstance(each, Element):
-            highest = max(highest, depth)
-            todo += [(depth + 1, kid) for kid in each.kids]
+def height(data: bytes, start: int, end: int) -> int:
+    """How many elements stand in one another between two offsets of a list."""
+    highest = depth = 0
+    for item in ITEM.finditer(data, start, end):
+        if item.lastindex == START:
+            highest = max(highest, depth + 1)
+            depth += data[item.end() - 2] != SLASH
+        elif item.lastindex == END:
+            depth -= 1
     return highest
 
 
@@ -123,6 +154,4 @@ def is_too_deep(owner: Element, start: int, end: int, data: bytes) -> bool:
     depth = owner.depth() + 1
     if depth + data.count(b"<", start, end) <= DEEPEST:
         return False
-    return (
-        depth + max((height(kid) for kid in owner.kids if start <= kid.start and kid.end <= end), default=0) > DEEPEST
-    )
+    return depth + height(data, start, end) > DEEPEST

@@ -4,7 +4,7 @@ A session counts impossible lists, and refuses an edit that makes more. In a lis
 little. So names are asked of the list without the kids that stand in the way; and a move of one of these is kept where
 fewer lists are impossible after it, and the list itself isn't.
 """
-import re
+import sys
 import time
 from collections.abc import Callable, Collection, Mapping, Sequence
 from typing import NamedTuple
@@ -35,8 +35,8 @@ NOTHING = Changes([], False, False)
 
 def impossible(session: Session) -> set[str]:
     """The paths of the lists that nothing can mend."""
-    rows = session.verdict_lines()
-    return set() if isinstance(rows, Refused) else {row.decode() for row in re.findall(rb"^(\S+) impossible ", rows, re.M)}
+    found = session.unsettled(sys.maxsize, 0)
+    return set() if isinstance(found, Refused) else {*found.first_bad}
 
 
 def in_the_way(work: Work, grammar: Grammar, owner: str, kids: Sequence[Kid]) -> list[set[int]] | None:

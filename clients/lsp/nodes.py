@@ -1,8 +1,9 @@
 """The nodes of a text: elements, and what else stands in them, with their places in bytes."""
 import re
+from array import array
 from bisect import bisect_right
-from collections.abc import Callable, Iterator
-from typing import NamedTuple
+from collections.abc import Callable, Iterator, Sequence
+from typing import NamedTuple, overload
 
 SLASH = 47
 NAME = rb"[:A-Z_a-z\x80-\xff][-.0-9:A-Z_a-z\x80-\xff]*"
@@ -42,8 +43,8 @@ class Element:
     def __init__(self, name: bytes, owner: "Element | None", at: int, start: int, inside: int) -> None:
         self.name, self.above, self.number, self.start, self.inside = name, owner, at, start, inside
         self.closes = self.end = inside
-        self.known: list[Node] = []
-        self.grown: Callable[[Element], list[Node]] | None = None
+        self.known: list[Node] | Kids = []
+        self.grown: Callable[[Element], list[Node] | Kids] | None = None
         self.placed: Callable[[Element], tuple[Element, int]] | None = None
 
     @property
@@ -58,9 +59,11 @@ class Element:
         return self.number if self.owner is not None else 0
 
     @property
-    def kids(self) -> "list[Node]":
+    def kids(self) -> "list[Node] | Kids":
         if self.grown is not None:
             self.known, self.grown = self.grown(self), None
+            if self.placed is None and self.above is not None and isinstance(self.above.known, Kids):
+                self.above.known.kept.setdefault(self.number, self)
         return self.known
 
     @property
@@ -86,6 +89,10 @@ class Element:
         """How many elements it stands in, itself counted."""
         return 0 if self.owner is None else 1 + sum(1 for _ in self.owners())
 
+    def is_same(self, other: "Element") -> bool:
+        """Whether both are one element of a text."""
+        return self.start == other.start and (self.owner is None) == (other.owner is None)
+
     def owners(self) -> "Iterator[Element]":
         """The elements that it stands in, the innermost first."""
         node = self.owner
@@ -95,10 +102,48 @@ class Element:
 
     def kid_at(self, offset: int) -> int:
         """The number of the last kid that starts at this offset or before it; -1 where there is none."""
-        return bisect_right(self.kids, offset, key=lambda kid: kid.start) - 1
+        kids = self.kids
+        if isinstance(kids, Kids):
+            return bisect_right(kids.starts, offset) - 1
+        return bisect_right(kids, offset, key=lambda kid: kid.start) - 1
 
 
 Node = Element | Leaf
+
+
+class Kids(Sequence[Node]):
+    """The kids of an element, each of which starts where the last one ends: nothing but their starts is held. `make` makes
+    one of its number, start and end where it is wanted; those whose own kids were wanted are kept."""
+
+    __slots__ = ("starts", "end", "make", "kept")
+
+    def __init__(self, starts: "array[int]", end: int, make: Callable[[int, int, int], Node]) -> None:
+        self.starts, self.end, self.make = starts, end, make
+        self.kept: dict[int, Element] = {}
+
+    def __len__(self) -> int:
+        return len(self.starts)
+
+    @overload
+    def __getitem__(self, at: int) -> Node: ...
+
+    @overload
+    def __getitem__(self, at: slice) -> Sequence[Node]: ...
+
+    def __getitem__(self, at: int | slice) -> Node | Sequence[Node]:
+        if isinstance(at, slice):
+            return [self.one(each) for each in range(*at.indices(len(self.starts)))]
+        return self.one(range(len(self.starts))[at])
+
+    def __iter__(self) -> Iterator[Node]:
+        return map(self.one, range(len(self.starts)))
+
+    def one(self, at: int) -> Node:
+        kept = self.kept.get(at)
+        return kept if kept is not None else self.make(at, self.starts[at], self.end_of(at))
+
+    def end_of(self, at: int) -> int:
+        return self.starts[at + 1] if at + 1 < len(self.starts) else self.end
 
 
 class Tag(NamedTuple):

@@ -66,12 +66,17 @@ def costs_of(
 
 
 def used(document: Document, owner: str) -> Mapping[str, int]:
-    """How often each name stands in elements of this name, in the last text that the program has read."""
+    """How often each name stands in elements of this name, in a text of the document that the program has read."""
+    if document.accepted.used is None:
+        refresh(document)
+    return (document.accepted.used or {}).get(owner.encode(), {})
+
+
+def refresh(document: Document) -> None:
+    """Counts that anew in the last text that the program has read, where it is some time ago."""
     accepted, now = document.accepted, time.monotonic()
-    tree = accepted.tree
-    if tree is not None and (accepted.used is None or now > accepted.used_at + FRESH):
-        accepted.used, accepted.used_at = counted(tree.data), now
-    return (accepted.used or {}).get(owner.encode(), {})
+    if accepted.tree is not None and (accepted.used is None or now > accepted.used_at + FRESH):
+        accepted.used, accepted.used_at = counted(accepted.tree.data), now
 
 
 def counted(data: bytes) -> dict[bytes, Counter[str]]:

@@ -1,4 +1,6 @@
 """Symbols: the outline of a document, its elements with the front of their texts."""
+import itertools
+
 from documents import Asked, Document
 from nodes import Element, Leaf
 from text import Json
@@ -15,8 +17,9 @@ def symbols(asked: Asked, work: Work) -> list[Json]:
     tops = [kid for kid in document.tree.top.kids if isinstance(kid, Element)]
     if not asked.client.can("textDocument", "documentSymbol", "hierarchicalDocumentSymbolSupport"):
         return [flat(document, each) for each in outer(tops, work)]
-    told = {id(each): symbol(document, each) for each in outer(tops, work)}
-    for each in outer(tops, work):
+    found = outer(tops, work)
+    told = {id(each): symbol(document, each) for each in found}
+    for each in found:
         if each.owner is not None and id(each.owner) in told:
             told[id(each.owner)].setdefault("children", []).append(told[id(each)])
     return [told[id(each)] for each in tops if id(each) in told]
@@ -28,7 +31,8 @@ def outer(tops: list[Element], work: Work) -> list[Element]:
     while level and len(found) + len(level) <= MOST and depth < DEEPEST:
         work.check()
         found, depth = found + level, depth + 1
-        level = [kid for each in level for kid in each.kids if isinstance(kid, Element)]
+        below = (kid for each in level for kid in each.kids if isinstance(kid, Element))
+        level = [*itertools.islice(below, MOST + 1)]
     return found
 
 

@@ -1,11 +1,15 @@
 """Reads the nodes of a text: of one that is being typed, and of one that the program has read."""
+import functools
 import re
+from array import array
 from collections.abc import Iterator
 
-from nodes import END, ITEM, KINDS, LOOSE, SLASH, START, TEXT, Element, Leaf, Node, Tag, Tree
+from nodes import END, ITEM, KINDS, LOOSE, NAME, SLASH, START, TEXT, Element, Kids, Leaf, Node, Tag, Tree
 
 # Items that are looked for up to the text's end, and how they end.
 SOUGHT = ((b"<![CDATA[", b"]]>"), (b"<?", b"?>"), (b"<!DOCTYPE", b">"))
+# An element of a document with nothing but a text in it.
+SIMPLE = re.compile(rb"<" + NAME + rb"(?>(?:[^<>\"']|\"[^\"<]*\"|'[^'<]*')*)(?<!/)>[^<]*</[^<>]*>")
 HIDDEN = re.compile(rb"<!--(?s:.*?)-->|<\?(?s:.*?)\?>|<!\[CDATA\[(?s:.*?)\]\]>")
 
 
@@ -37,40 +41,71 @@ class Typed(Tree):
 
     def __init__(self, data: bytes) -> None:
         super().__init__(data)
-        node, kids, opened = self.top, self.top.known, dict[bytes, int]()
-        for item in items(data):
-            group, (start, end) = item.lastindex, item.span()
-            if group == START:
-                made = Element(item[1], node, len(kids), start, end)
-                kids.append(made)
-                if data[end - 2] != SLASH:
-                    opened[made.name] = opened.get(made.name, 0) + 1
-                    node, kids = made, made.known
-            elif group == END:
-                if opened.get(item[2]):
-                    node = self.close(node, item[2], start, end, opened)
-                    kids = node.known
-            elif group in KINDS and node is not self.top:
-                if group == TEXT and kids and kids[-1].kind == "text":
-                    kids[-1] = Leaf("text", kids[-1].start, end)
-                else:
-                    kids.append(Leaf(KINDS[group], start, end))
-        while node.owner is not None:
-            node.closes = node.end = len(data)
-            node = node.owner
+        # Of each node its start and its end, where the end tag of an element starts, and the number of the next node that isn't
+        # in it; nodes in the order of the text.
+        self.starts, self.ends, self.closes, self.nexts = (array("I") for _ in range(4))
+        self.read()
+        self.top.grown = functools.partial(self.kids_of, number=-1)
 
-    @staticmethod
-    def close(node: Element, name: bytes, start: int, end: int, opened: dict[bytes, int]) -> Element:
-        """The element that is open behind an end tag for one of those that are open."""
-        while node.name != name:
-            node.closes = node.end = start
-            opened[node.name] -= 1
-            assert node.owner is not None
-            node = node.owner
-        opened[name] -= 1
-        node.closes, node.end = start, end
-        assert node.owner is not None
-        return node.owner
+    def read(self) -> None:
+        starts, ends, nexts = self.starts, self.ends, self.nexts
+        # The elements that are open, with their names, and how many of each name are; the last kid of the innermost one, where
+        # that is a text.
+        opened, names, counts, text = list[int](), list[bytes](), dict[bytes, int](), -1
+        for item in items(self.data):
+            group, (start, end), number = item.lastindex, item.span(), len(starts)
+            if group == END:
+                if counts.get(item[2]):
+                    self.close(opened, names, counts, item)
+                    text = -1
+                continue
+            if group == TEXT and text >= 0:
+                ends[text] = end
+                continue
+            if group != START and (group not in KINDS or not opened):
+                continue
+            text = number if group == TEXT else -1
+            starts.append(start)
+            ends.append(end)
+            self.closes.append(end)
+            nexts.append(number + 1)
+            if group == START and self.data[end - 2] != SLASH:
+                opened.append(number)
+                names.append(item[1])
+                counts[item[1]] = counts.get(item[1], 0) + 1
+        for number in opened:
+            self.closes[number] = ends[number] = len(self.data)
+            nexts[number] = len(starts)
+
+    def close(self, opened: list[int], names: list[bytes], counts: dict[bytes, int], item: re.Match[bytes]) -> None:
+        """Closes the element that an end tag belongs to, with those in it that are open."""
+        while True:
+            number, name = opened.pop(), names.pop()
+            counts[name] -= 1
+            is_own = name == item[2]
+            self.closes[number], self.ends[number] = item.start(), item.end() if is_own else item.start()
+            self.nexts[number] = len(self.starts)
+            if is_own:
+                return
+
+    def kids_of(self, owner: Element, number: int) -> Kids:
+        numbers, at = array("I"), number + 1
+        last = self.nexts[number] if number >= 0 else len(self.starts)
+        while at < last:
+            numbers.append(at)
+            at = self.nexts[at]
+        starts = array("I", (self.starts[each] for each in numbers))
+        return Kids(starts, 0, lambda place, start, _: self.made(owner, place, numbers[place]))
+
+    def made(self, owner: Element, place: int, number: int) -> Node:
+        start, end = self.starts[number], self.ends[number]
+        item = ITEM.match(self.data, start)
+        if item is None or item.lastindex != START:
+            return Leaf(KINDS[item.lastindex or TEXT] if item is not None else "text", start, end)
+        made = Element(item[1], owner, place, start, item.end())
+        made.closes, made.end = self.closes[number], end
+        made.grown = functools.partial(self.kids_of, number=number)
+        return made
 
 
 class Whole(Tree):
@@ -148,18 +183,28 @@ class Whole(Tree):
                 return start
             at = start
 
-    def kids_of(self, owner: Element) -> list[Node]:
-        kids: list[Node] = []
-        at = owner.inside
-        while at < owner.closes:
-            item = ITEM.match(self.data, at)
-            assert item is not None and item.lastindex is not None
-            if item.lastindex == START:
-                kids.append(self.element(owner, len(kids), at))
-            else:
-                kids.append(Leaf(KINDS[item.lastindex], at, item.end()))
-            at = kids[-1].end
-        return kids
+    def kids_of(self, owner: Element) -> Kids:
+        starts, at, closes = array("I"), owner.inside, owner.closes
+        while at < closes:
+            starts.append(at)
+            item = SIMPLE.match(self.data, at)
+            if item is None:
+                item = ITEM.match(self.data, at)
+                assert item is not None
+                if item.lastindex == START and self.data[item.end() - 2] != SLASH:
+                    at = self.plain.index(b">", self.closing(item[1], item.end())) + 1
+                    continue
+            at = item.end()
+        return Kids(starts, closes, functools.partial(self.kid, owner))
+
+    def kid(self, owner: Element, number: int, start: int, end: int) -> Node:
+        """A kid of which it is known where it ends."""
+        item = ITEM.match(self.data, start)
+        assert item is not None and item.lastindex is not None
+        if item.lastindex != START:
+            return Leaf(KINDS[item.lastindex], start, end)
+        is_short = end == item.end()
+        return self.element(owner, number, start, None if is_short else self.plain.rindex(b"</", start, end))
 
     def closing(self, name: bytes, at: int) -> int:
         """Where the end tag stands that closes an element of this name, whose start tag ends at `at`."""
