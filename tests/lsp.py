@@ -332,7 +332,9 @@ def asks_for_one_of_many(program):
         start = text.index("one")
         actions = client.actions(uri, (start, start + 3), ["refactor"])
         same([len(actions), [*actions][-1]], [21, "Wrap in… (30 names)"], "actions")
-        number = client.begin("workspace/executeCommand", actions["Wrap in… (30 names)"]["command"])
+        many = actions["Wrap in… (30 names)"]
+        same(client.ask("codeAction/resolve", many), many, "it has no edits, but a command")
+        number = client.begin("workspace/executeCommand", many["command"])
         asked = client.wait(lambda each: each.get("method") == "window/showMessageRequest", "a question")
         same(sorted(each["title"] for each in asked["params"]["actions"]), sorted(f"<{name}>" for name in names), "all names")
         client.send({"jsonrpc": "2.0", "id": asked["id"], "result": {"title": "<n29>"}})

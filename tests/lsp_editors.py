@@ -176,6 +176,41 @@ def one_server_a_folder(program, seconds):
         shutil.rmtree(folder)
 
 
+def by_keys(program, seconds):
+    """What a person gets in Neovim by keys, with the set-up of docs/EDITORS.md."""
+    with open(os.path.join(TOP, "docs", "EDITORS.md"), encoding="utf-8") as page:
+        snippet = page.read().partition("```lua\n")[2].partition("```")[0]
+    folder, names, text = tempfile.mkdtemp(), [f"n{number}" for number in range(30)], CASES[0].text.rstrip()
+    try:
+        texts = {
+            "init.lua": snippet,
+            "pvtag-lsp": f"#!/bin/sh\nexec '{sys.executable}' '{SERVER}' --program '{program}'\n",
+            "one.xml": CASES[0].text,
+            "many.dtd": f"<!ELEMENT a (#PCDATA|{'|'.join(names)})*>" + "".join(f"<!ELEMENT {name} (#PCDATA)>" for name in names),
+            "many.xml": "<!DOCTYPE a SYSTEM 'many.dtd'>\n<a>one two</a>\n",
+        }
+        for name, content in texts.items():
+            with open(os.path.join(folder, name), "w", encoding="utf-8") as out:
+                out.write(content)
+        os.chmod(os.path.join(folder, "pvtag-lsp"), 0o755)
+        words = ["nvim", "--clean", "--headless", "-n", "-c", f"luafile {os.path.join(TOP, 'tests', 'lib', 'lsp_keys.lua')}"]
+        environment = os.environ | {"HOME": folder, "PATH": f"{folder}:{os.environ['PATH']}", "PVTAG_SECONDS": str(seconds)}
+        subprocess.run(words, env=environment, cwd=folder, stdin=subprocess.DEVNULL, capture_output=True, timeout=20 * seconds)
+        with open(os.path.join(folder, "told"), encoding="utf-8") as file:
+            told = json.load(file)
+        need("fault" not in told, told)
+        same(sorted(told["names"]), ["date", "lb", "person", "place"], "the names")
+        same(told["completed"], text.replace("met", "<person></person>met"), "completed")
+        same(told["undone"], text, "an undo")
+        same(told["whole"], 0, "names for a whole tag")
+        same(told["wrapped"], text.replace("Mr Adams", "<person>Mr Adams</person>"), "wrapped")
+        same(told["renamed"], text.replace("opener>", "salute>"), "renamed")
+        need("<!ELEMENT opener" in told["hover"], told["hover"])
+        same(told["many"], texts["many.xml"].rstrip().replace("one", "<n29>one</n29>"), "one of many wraps")
+    finally:
+        shutil.rmtree(folder)
+
+
 COUNT = """
 local ok, fault = pcall(function()
   for _, name in ipairs({ 'one.xml', 'two.xml', 'three.xhtml' }) do vim.cmd('edit ' .. name) end
@@ -322,6 +357,7 @@ def main():
     alone = (
         ("the table's tests", True, names_its_tests),
         ("neovim, its servers", has_nvim, lambda: one_server_a_folder(program, seconds)),
+        ("neovim, by keys", has_nvim, lambda: by_keys(program, seconds)),
         ("Neovim with xmllint", has_nvim and shutil.which("xmllint"), lambda: own(seconds)),
         ("nXML", has_emacs and shutil.which("trang"), lambda: nxml(seconds)),
     )

@@ -86,7 +86,8 @@ def wrapping_first(asked: Asked, work: Work, start: int, end: int) -> list[Json]
     where = {"uri": asked.document.uri, "version": asked.document.version, "range": asked.params["range"]}
     title = f"Wrap in… ({len(found)} names)"
     more = {"title": title, "kind": REWRITE, "command": {"title": title, "command": WRAP, "arguments": [where]}}
-    return [*found[:MOST_WRAPS], more]
+    # Some editors want each action resolved that has no edit.
+    return [*found[:MOST_WRAPS], more | {"data": {"uri": where["uri"], "version": where["version"]}}]
 
 
 def execute(asked: Asked, work: Work) -> None:
@@ -227,6 +228,8 @@ def resolve(asked: Asked, work: Work) -> Json:
     """An action with its edits."""
     if asked.params["data"].get("version") != asked.document.version:
         raise Error(CONTENT_MODIFIED, "the document has changed")
+    if "command" in asked.params:
+        return asked.params
     edits = completed(asked.document, asked.grammar, work)
     if not isinstance(edits, Completed):
         raise Error(wire.REQUEST_FAILED, edits)

@@ -32,7 +32,10 @@ def complete(asked: Asked, work: Work) -> Json:
     elif found := OPENING.search(front):
         at = offset - len(found[0])
         element = whole(asked.document, at)
-        items = renaming(asked, work, element, offset) if element is not None else opening(asked, work, at, offset)
+        if element is None:
+            items = opening(asked, work, at, offset)
+        elif asked.client.replaces_names:
+            items = renaming(asked, work, element, offset)
     elif attributes.place_of(asked.document, offset) is not None:
         items = attributes.complete(asked, offset)
     return {"isIncomplete": False, "items": items}

@@ -20,6 +20,15 @@ class Client:
 
     def __init__(self, params: Json) -> None:
         self.capabilities = params.get("capabilities")
+        told = params.get("clientInfo")
+        self.name = told.get("name") if isinstance(told, dict) else None
+
+    @property
+    def replaces_names(self) -> bool:
+        """Whether an item of completion may replace what stands after the cursor, and change another place. Neovim's own client
+        puts a word before the cursor; plugins for completion say that they can do more."""
+        item = "textDocument", "completion", "completionItem"
+        return self.name != "Neovim" or bool(self.can(*item, "insertReplaceSupport") or self.can(*item, "resolveSupport"))
 
     def can(self, *path: str) -> Any:
         """A capability by its path; none where it isn't told."""
