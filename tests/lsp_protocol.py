@@ -5,6 +5,7 @@ Words: PROGRAM, and the names of cases where not all are wanted. Prints each dif
 ends with 1 where one failed.
 """
 import contextlib
+import ctypes
 import os
 import random
 import re
@@ -48,6 +49,12 @@ def has_lxml():
     return any(
         not os.system(f"{python} -c 'import lxml' 2>/dev/null") for python in (sys.executable, "/usr/bin/python3")
     )
+
+
+def has_libxml2():
+    with contextlib.suppress(OSError):
+        return bool(ctypes.CDLL("libxml2.so.2"))
+    return False
 
 
 # Where the DTD is.
@@ -285,8 +292,13 @@ def finds_dtds_by_catalogs(program):
             )
         environment = os.environ | {"XML_CATALOG_FILES": os.path.join(folder, "catalog.xml")}
         with Client(program, environment=environment) as client:
-            client.open(URI, DRAFT.replace("letter.dtd", "http://example.org/dtds/letter.dtd"))
+            client.open(URI, text := DRAFT.replace("letter.dtd", "http://example.org/dtds/letter.dtd"))
             need(client.diagnostics(URI, finished), "rewritten")
+            found = client.ask("textDocument/definition", client.about(URI, text.index("<opener>") + 1))
+            if found is None and not has_libxml2():
+                print("skipped: definitions by catalogs (no libxml2.so.2)")
+            else:
+                same((found["uri"], found["range"]["start"]["line"]), (uri_of("letter.dtd", folder), 1), "a definition by a catalog")
 
 
 # The protocol.

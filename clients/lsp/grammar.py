@@ -5,6 +5,7 @@ import hashlib
 import os
 import re
 import subprocess
+import sys
 import threading
 import time
 import urllib.parse
@@ -86,6 +87,33 @@ class Plain(NamedTuple):
     program: list[str]
     path: str
     held: memory.MemoryFile | None = None
+
+
+# Asks libxml2 what its catalogs have for each public identifier and address, two lines each.
+LOCATE = """import ctypes, os, sys
+os.environ.setdefault("XML_CATALOG_FILES", "file:///etc/xml/catalog")
+find = ctypes.CDLL("libxml2.so.2").xmlCatalogResolve
+find.restype, find.argtypes = ctypes.c_char_p, [ctypes.c_char_p] * 2
+words = [line.rstrip(b"\\n") or None for line in sys.stdin.buffer]
+for public, system in zip(words[::2], words[1::2]):
+    sys.stdout.buffer.write((find(public, system) or b"") + b"\\n")
+"""
+
+
+def located(wanted: Sequence[Named]) -> list[str | None]:
+    """The file of each of these: its own, or that of the catalogs of this machine."""
+    files = [each.file if each.file is not None and os.path.isfile(each.file) else None for each in wanted]
+    left = [at for at, file in enumerate(files) if file is None]
+    if left:
+        told = "".join(f"{' '.join(line.split())}\n" for at in left for line in (wanted[at].public, wanted[at].system))
+        try:
+            _, output, _ = ran([sys.executable, "-c", LOCATE], told.encode())
+        except (OSError, Trouble):
+            return files
+        for at, line in zip(left, output.decode(errors="replace").splitlines(), strict=False):
+            file = Named(line, "", "/").file if line else None
+            files[at] = file if file is not None and os.path.isfile(file) else None
+    return files
 
 
 class NoDtd(Trouble):
@@ -423,13 +451,13 @@ def is_matched(path: str, pattern: str) -> bool:
     return any(fnmatch.fnmatchcase(name, pattern) for name in (path, os.path.basename(path)))
 
 
-def ran(words: list[str]) -> tuple[int, bytes, bytes]:
-    """One run to its end: its status, and what it wrote to either output."""
+def ran(words: list[str], given: bytes = b"") -> tuple[int, bytes, bytes]:
+    """One run to its end, with this input: its status, and what it wrote to either output."""
     begun = programs.popen(
-        words, stdin=subprocess.DEVNULL, stdout=subprocess.PIPE, stderr=subprocess.PIPE, start_new_session=True
+        words, stdin=subprocess.PIPE, stdout=subprocess.PIPE, stderr=subprocess.PIPE, start_new_session=True
     )
     try:
-        output, errors = begun.communicate(timeout=RUNNING.most)
+        output, errors = begun.communicate(given, timeout=RUNNING.most)
     except subprocess.TimeoutExpired:
         begun.kill()
         begun.communicate()

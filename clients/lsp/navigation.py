@@ -7,8 +7,9 @@ from bisect import bisect_right
 from typing import Any
 
 from documents import Asked, Document
-from grammar import INSTRUCTION, MODEL, DOCTYPE, PART, Named, folder_of, unquoted
+from grammar import DOCTYPE, INSTRUCTION, MODEL, PART, Named, folder_of, located, unquoted
 from nodes import END, ITEM, LITERAL, MISC, SLASH, START, Leaf
+from reading import front
 from tags import at_name
 from text import Json, Text
 from wire import INVALID_PARAMS, Error
@@ -17,19 +18,21 @@ from work import Work
 # So many files of a DTD are looked into, and so many places are told.
 MOST_FILES, MOST = 100, 10_000
 COMMENT = re.compile(rb"<!--(?s:.*?)-->")
-MODULE = re.compile(rb"<!ENTITY\s+%\s+\S+\s+(?:SYSTEM|PUBLIC\s+(?:" + LITERAL + rb"))\s+(" + LITERAL + rb")")
+MODULE = re.compile(rb"<!ENTITY\s+%\s+\S+\s+(?:SYSTEM|PUBLIC\s+(" + LITERAL + rb"))\s+(" + LITERAL + rb")")
 
 
 # ---- the declaration of a name ----
 
 def definition(asked: Asked, work: Work) -> Json | None:
-    """Where the name of a tag is declared, in the DTD's file or in one of its modules."""
+    """Where the name of a tag is declared, in the DTD's file or in one of its modules, by catalogs too."""
     found = at_name(asked.document.tree, asked.offset)
     return declared(asked, found[0].name) if found is not None else None
 
 
 def declared(asked: Asked, name: bytes) -> Json | None:
     file, unit = asked.grammar.declared.file, asked.document.text.unit
+    if file is None:
+        (file,) = located([asked.finder.named(asked.document.uri, *front(asked.document.data))[0]])
     wanted = re.compile(rb"<!ELEMENT\s+(" + re.escape(name) + rb")(?=[\s%])")
     todo, seen = [file] if file is not None else [], set[str]()
     while todo and len(seen) < MOST_FILES:
@@ -45,8 +48,8 @@ def declared(asked: Asked, name: bytes) -> Json | None:
         plain = COMMENT.sub(lambda it: b" " * len(it[0]), data)
         if place := wanted.search(plain):
             return {"uri": f"file://{urllib.parse.quote(each)}", "range": Text(data, unit).range(*place.span(1))}
-        names = [Named(unquoted(it[1]), "", os.path.dirname(each)).file for it in MODULE.finditer(plain)]
-        todo += [it for it in names if it is not None and os.path.isfile(it)]
+        found = [Named(unquoted(it[2]), unquoted(it[1]), os.path.dirname(each)) for it in MODULE.finditer(plain)]
+        todo += [it for it in located(found) if it is not None]
     return None
 
 
