@@ -4,7 +4,7 @@ Words: PROGRAM, and --write, which puts the table into docs/SPEED.md. From a key
 300 kB and 3 MB under examples/article.dtd and at 300 kB under DocBook, where Debian's docbook-xml is; from an opening to the first diagnostics
 under DocBook, of a server that has read no DTD yet; a hover in a list of 1,300,000 kids, and what memory the server takes beside the text.
 Between each two of ours `xmllint --dtdvalid` validates the same document, so that the ratio says what the machine's load was. Seven of each,
-three of an opening; times are middle ones in milliseconds, on the clock and of processors, those of the server and of the runs of the program
+three of the hover; times are middle ones in milliseconds, on the clock and of processors, those of the server and of the runs of the program
 that it ended.
 """
 import os
@@ -22,7 +22,7 @@ from lib.lsp_client import EXAMPLES, Client, uri_of  # noqa: E402
 from lsp import DOCBOOK, article, report, spent  # noqa: E402
 from page import put  # noqa: E402
 
-TIMES, OPENINGS, KIDS = 7, 3, 1_300_000
+TIMES, HOVERS, KIDS = 7, 3, 1_300_000
 ARTICLE = os.path.join(EXAMPLES, "article.dtd")
 
 
@@ -92,7 +92,7 @@ def opening(table, program, text):
     with tempfile.NamedTemporaryFile("w", suffix=".xml") as file:
         file.write(text)
         file.flush()
-        for _ in range(OPENINGS):
+        for _ in range(TIMES):
             with Client(program, seconds=600) as client:
 
                 def first():
@@ -116,7 +116,7 @@ def wide(table, program):
         def hover():
             client.ask("textDocument/hover", client.about(uri, place))
 
-        both = [(timed(client, hover), validated(ARTICLE, file.name)) for _ in range(OPENINGS)]
+        both = [(timed(client, hover), validated(ARTICLE, file.name)) for _ in range(HOVERS)]
         with open(f"/proc/{client.process.pid}/status", encoding="ascii") as status:
             peak = next(int(line.split()[1]) * 1024 for line in status if line.startswith("VmHWM"))
     table.add("hover", f"{size / 1e6:.1f} MB, {KIDS:,} kids", 1000, *zip(*both))

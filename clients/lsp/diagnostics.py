@@ -25,8 +25,9 @@ from work import Cancelled, Work
 
 # So long a pause in typing, in seconds, before a text is judged, and so long until what is known by then is told.
 PAUSE, FIRST = 0.04, 0.12
-# The nodes of a text refer to one another; of one of so many bytes they aren't left to be found some time.
-LARGE = 1 << 20
+# The nodes of a text refer to one another; of one of so many bytes they aren't left to be found some time. Of at most so
+# many bytes names are counted before that is wanted.
+LARGE, COUNTED = 1 << 20, 4 << 20
 # At most so many lists are told of, and so many that nothing can mend.
 MOST, MOST_BAD = 500, 50
 ERROR, INFORMATION, HINT = 1, 3, 4
@@ -92,12 +93,13 @@ class Watch:
             self.tidy(document)
 
     def tidy(self, document: Document) -> None:
-        """What can be done after a judgement, while nobody waits: how often names are used is counted anew, and large texts that
-        nobody refers to any more are let go."""
-        if self.newest is None:
+        """What can be done after a judgement, while nobody waits: how often names are used is counted anew, where that takes no
+        time, and large texts that nobody refers to any more are let go."""
+        size = len(document.text.data)
+        if self.newest is None and size <= COUNTED:
             refresh(document)
-            if len(document.text.data) > LARGE:
-                gc.collect()
+        if self.newest is None and size > LARGE:
+            gc.collect()
 
     def publish(self, document: Document, work: Work, diagnostics: list[Json]) -> None:
         """Tells them, but for a text that is no longer the newest."""

@@ -16,7 +16,7 @@ from work import Work
 
 # So long after a request, in seconds, names are looked at, and costs are counted; on a slow machine they are looked at for
 # as long at least once the session is there.
-LOOK, COUNT, LEAST = 0.15, 0.2, 0.05
+LOOK, COUNT, LEAST = 0.1, 0.15, 0.05
 # Of so many places what is known is kept, and for so many seconds what is used in a document.
 KEPT, FRESH = 300, 10.0
 

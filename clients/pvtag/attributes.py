@@ -19,7 +19,6 @@ import json
 import os
 import re
 import select
-import subprocess
 import sys
 import threading
 from collections.abc import Iterator, Mapping, Sequence
@@ -27,7 +26,7 @@ from typing import Any, NamedTuple
 
 from .masks import BLANK, Masked, mask
 from .places import Source, Span, document_items
-from .program import RUNNING, Running, Stopped, Trouble
+from .program import RUNNING, Running, Stopped, Trouble, run
 
 # What other tools may use; each has an example.
 __all__ = ("Attributes", "Attribute", "AttributeFault", "Checked")
@@ -37,6 +36,8 @@ PYTHONS = (sys.executable, "/usr/bin/python3")
 MISSING = "lxml is missing for Python (Debian: the package python3-lxml)"
 # A tag with an attribute, or what looks like one.
 WITH_ATTRIBUTE = re.compile(rb"<[^\s<>/!?=]+\s[^<>]*=")
+# Says by its status whether a Python has lxml.
+HAS_LXML = "try:\n import lxml.etree\nexcept ImportError:\n raise SystemExit(1)"
 # A document takes no longer; a little more than `libxml` gives itself.
 SECONDS = 65.0
 
@@ -174,9 +175,8 @@ def pythons() -> list[str]:
 def python_with_lxml() -> str | None:
     """A Python that has lxml, if there is one."""
     for python in pythons():
-        with contextlib.suppress(OSError, subprocess.TimeoutExpired):
-            words = [python, "-c", "import lxml.etree"]
-            if subprocess.run(words, stdin=subprocess.DEVNULL, capture_output=True, timeout=60, check=False).returncode == 0:
+        with contextlib.suppress(Trouble):
+            if run([python], "-c", HAS_LXML, most=60.0).status == 0:
                 return python
     return None
 
