@@ -556,7 +556,7 @@ def place_of(text, piece):
 def defines(program):
     """A name's declaration, in the DTD's file or in a module of it."""
     with tempfile.TemporaryDirectory() as folder, Client(program) as client:
-        for name, text in (("a.dtd", DTD), ("more.mod", "<!-- -->\n<!ELEMENT b (c)>")):
+        for name, text in (("a.dtd", DTD), ("more.mod", "<!-- <!ELEMENT\n b EMPTY> -->\n<!-- é --><!ELEMENT b (c)>")):
             with open(os.path.join(folder, name), "w", encoding="utf-8") as file:
                 file.write(text)
         uri, text = uri_of("d.xml", folder), "<!DOCTYPE a SYSTEM 'a.dtd'>\n<a><b><c/></b><b/></a>"
@@ -567,7 +567,7 @@ def defines(program):
             return
         same((found["uri"], found["range"]["start"]), (uri_of("a.dtd", folder), {"line": 3, "character": 10}), "a file")
         found = client.ask("textDocument/definition", client.about(uri, text.index("</b>") + 3))
-        same((found["uri"], found["range"]["start"]), (uri_of("more.mod", folder), {"line": 1, "character": 10}), "a module")
+        same((found["uri"], found["range"]["start"]), (uri_of("more.mod", folder), {"line": 2, "character": 20}), "a module")
         same(client.ask("textDocument/definition", client.about(uri, 1)), None, "no tag")
 
 

@@ -111,10 +111,15 @@ def keeps_no_old_dtds(program):
         with Client(program) as client:
             uri = uri_of("d.xml", folder)
             client.open(uri, "<!DOCTYPE a SYSTEM 'all.dtd'><a/>")
-            for model, wanted in (("(b)", "1 element"), ("(b,b)", "2 elements"), ("(b,b,b)", "3 elements")) * 3:
+            client.diagnostics(uri, finished)
+            for model, wanted, is_said in [("(b,b)", "2 elements", False), ("(b)", "1 element", True), ("(b,b,b)", "3 elements", True)] * 3:
                 with open(os.path.join(folder, "part.mod"), "w", encoding="utf-8") as file:
                     file.write(f"<!ELEMENT a {model}>")
-                client.tell("textDocument/didSave", {"textDocument": {"uri": uri_of("part.mod", folder)}})
+                if is_said:
+                    client.tell("textDocument/didSave", {"textDocument": {"uri": uri_of("part.mod", folder)}})
+                else:
+                    # An editor needn't tell of files that it has open in another way: the next key is enough.
+                    client.change(uri, len(client.documents[uri][0]), len(client.documents[uri][0]), " ")
                 told = client.diagnostics(uri, lambda told: any(wanted in each["message"] for each in told))
                 need(told, model)
                 client.aside.clear()

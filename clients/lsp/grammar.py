@@ -10,7 +10,7 @@ import threading
 import time
 import urllib.parse
 import weakref
-from collections.abc import Callable, Mapping, Sequence
+from collections.abc import Callable, Iterator, Mapping, Sequence
 from concurrent.futures import Future
 from concurrent.futures import TimeoutError as FutureTimeout
 from dataclasses import dataclass
@@ -42,6 +42,10 @@ DOCTYPE = re.compile(
     + LITERAL
     + rb"))?"
 )
+COMMENT = re.compile(rb"<!--(?s:.*?)-->")
+MODULE = re.compile(rb"<!ENTITY\s+%\s+\S+\s+(?:SYSTEM|PUBLIC\s+(" + LITERAL + rb"))\s+(" + LITERAL + rb")")
+# So many files of a DTD are looked into.
+MOST_FILES = 100
 INSTRUCTION = re.compile(rb"<\?pvtag\s+(.*?)\s*\?>\Z", re.S)
 MODEL = re.compile(rb"<\?xml-model\s+(.*?)\s*\?>\Z", re.S)
 PART = re.compile(rb"(dtd|root|href|type)\s*=\s*(" + LITERAL + rb")")
@@ -233,9 +237,38 @@ class Grammar:
 def key_of_file(named: Named) -> FileKey:
     """What tells a DTD from others, and from itself before a change of its file."""
     if named.file is not None and os.path.isfile(named.file):
-        found = os.stat(named.file)
-        return named.file, found.st_mtime_ns, found.st_size
+        return named.file, *stamp_of(named.file)
     return named, 0, 0
+
+
+def stamp_of(file: str) -> tuple[int, int]:
+    """What tells a file from itself before a change; zeros where it isn't there."""
+    try:
+        found = os.stat(file)
+    except OSError:
+        return 0, 0
+    return found.st_mtime_ns, found.st_size
+
+
+def files_of(file: str, locate: "Callable[[Sequence[Named]], list[str | None]] | None" = None) -> Iterator[tuple[str, bytes, bytes]]:
+    """The files of a DTD, their texts, and these with comments as blanks: its own, and those of the modules that are named in
+    them; `locate` finds these, where not only those are wanted that are named by paths."""
+    todo, seen = [file], set[str]()
+    while todo and len(seen) < MOST_FILES:
+        each = todo.pop(0)
+        if each in seen:
+            continue
+        seen.add(each)
+        try:
+            with open(each, "rb") as opened:
+                data = opened.read()
+        except OSError:
+            continue
+        plain = COMMENT.sub(lambda it: b" " * len(it[0]), data)
+        yield each, data, plain
+        found = [Named(unquoted(it[2]), unquoted(it[1]), os.path.dirname(each)) for it in MODULE.finditer(plain)]
+        files = locate(found) if locate is not None else [it.file for it in found]
+        todo += [it for it in files if it is not None and os.path.isfile(it)]
 
 
 def unquoted(literal: bytes | None) -> str:
@@ -257,6 +290,13 @@ class Making:
     def __init__(self) -> None:
         self.plain: Future[Plain] = Future()
         self.declared: Future[Declared] = Future()
+        # The files of its modules, with what tells each from itself before a change.
+        self.modules: dict[str, tuple[int, int]] = {}
+
+    @property
+    def is_old(self) -> bool:
+        """Whether a module has changed."""
+        return any(stamp_of(file) != stamp for file, stamp in self.modules.items())
 
     def fail(self, fault: Trouble) -> None:
         if not self.plain.done():
@@ -287,6 +327,10 @@ class Finder:
         key = key_of_file(named)
         with self.lock:
             making = self.made.get(key)
+        if making is not None and making.is_old:
+            making = None
+        with self.lock:
+            making = making and self.made.get(key)
             if making is None:
                 # Of a file that has changed nothing is kept.
                 self.made = {each: it for each, it in self.made.items() if each[0] != key[0]}
@@ -378,6 +422,8 @@ class Finder:
         except OSError:
             raise Trouble(f"{file}: it can't be read") from None
         flattening = begun(lambda: flattened(file, file)) if MODULAR.search(data) else None
+        if flattening is not None:
+            making.modules = {each: stamp_of(each) for each, _, _ in files_of(file) if each != file}
         answer = run(self.program, "dtd", file)
         if answer.status == 0:
             return self.declared(making, Plain(self.program, file), lambda: answer)

@@ -7,18 +7,16 @@ from bisect import bisect_right
 from typing import Any
 
 from documents import Asked, Document
-from grammar import DOCTYPE, INSTRUCTION, MODEL, PART, Named, folder_of, located, unquoted
-from nodes import END, ITEM, LITERAL, MISC, SLASH, START, Leaf
+from grammar import DOCTYPE, INSTRUCTION, MODEL, PART, Named, files_of, folder_of, located, unquoted
+from nodes import END, ITEM, MISC, SLASH, START, Leaf
 from reading import front
 from tags import at_name
 from text import Json, Text
 from wire import INVALID_PARAMS, Error
 from work import Work
 
-# So many files of a DTD are looked into, and so many places are told.
-MOST_FILES, MOST = 100, 10_000
-COMMENT = re.compile(rb"<!--(?s:.*?)-->")
-MODULE = re.compile(rb"<!ENTITY\s+%\s+\S+\s+(?:SYSTEM|PUBLIC\s+(" + LITERAL + rb"))\s+(" + LITERAL + rb")")
+# So many places are told.
+MOST = 10_000
 
 
 # ---- the declaration of a name ----
@@ -34,22 +32,9 @@ def declared(asked: Asked, name: bytes) -> Json | None:
     if file is None:
         (file,) = located([asked.finder.named(asked.document.uri, *front(asked.document.data))[0]])
     wanted = re.compile(rb"<!ELEMENT\s+(" + re.escape(name) + rb")(?=[\s%])")
-    todo, seen = [file] if file is not None else [], set[str]()
-    while todo and len(seen) < MOST_FILES:
-        each = todo.pop(0)
-        if each in seen:
-            continue
-        seen.add(each)
-        try:
-            with open(each, "rb") as opened:
-                data = opened.read()
-        except OSError:
-            continue
-        plain = COMMENT.sub(lambda it: b" " * len(it[0]), data)
+    for each, data, plain in files_of(file, located) if file is not None else ():
         if place := wanted.search(plain):
             return {"uri": f"file://{urllib.parse.quote(each)}", "range": Text(data, unit).range(*place.span(1))}
-        found = [Named(unquoted(it[2]), unquoted(it[1]), os.path.dirname(each)) for it in MODULE.finditer(plain)]
-        todo += [it for it in located(found) if it is not None]
     return None
 
 
