@@ -176,18 +176,45 @@ def one_server_a_folder(program, seconds):
         shutil.rmtree(folder)
 
 
+# A document in which a text may be wrapped in more names than are actions of their own.
+NAMES = [f"n{number}" for number in range(30)]
+MANY = {
+    "many.dtd": f"<!ELEMENT a (#PCDATA|{'|'.join(NAMES)})*>\n" + "".join(f"<!ELEMENT {name} (#PCDATA)>\n" for name in NAMES),
+    "many.xml": "<!DOCTYPE a SYSTEM 'many.dtd'>\n<a>one two</a>\n",
+}
+
+
+def many_in_emacs(program, seconds):
+    """One of many wraps in Emacs, where a name is declared, and its other uses."""
+    folder = tempfile.mkdtemp()
+    try:
+        for name, content in (MANY | {"server": "\n".join((sys.executable, SERVER, "--program", program))}).items():
+            with open(os.path.join(folder, name), "w", encoding="utf-8") as out:
+                out.write(content)
+        folders = [word for each in glob.glob(PACKAGES + "*") for word in ("-L", each)]
+        words = ["emacs", "-Q", "--batch", *folders, "-l", os.path.join(TOP, "tests", "lib", "lsp_many.el")]
+        environment = os.environ | {"HOME": folder, "PVTAG_SECONDS": str(seconds)}
+        subprocess.run(words, env=environment, cwd=folder, stdin=subprocess.DEVNULL, capture_output=True, timeout=20 * seconds)
+        with open(os.path.join(folder, "told"), encoding="utf-8") as file:
+            told = json.load(file)
+        need("fault" not in told, told)
+        same((told["actions"], told["text"]), (21, MANY["many.xml"].replace("one", "<n29>one</n29>")), "one of many wraps")
+        same((told["definition"], told["references"]), ([31], 2), "the declaration of n29, and it with the one use")
+    finally:
+        shutil.rmtree(folder)
+
+
 def by_keys(program, seconds):
     """What a person gets in Neovim by keys, with the set-up of docs/EDITORS.md."""
     with open(os.path.join(TOP, "docs", "EDITORS.md"), encoding="utf-8") as page:
         snippet = page.read().partition("```lua\n")[2].partition("```")[0]
-    folder, names, text = tempfile.mkdtemp(), [f"n{number}" for number in range(30)], CASES[0].text.rstrip()
+    folder, text = tempfile.mkdtemp(), CASES[0].text.rstrip()
     try:
         texts = {
             "init.lua": snippet,
             "pvtag-lsp": f"#!/bin/sh\nexec '{sys.executable}' '{SERVER}' --program '{program}'\n",
             "one.xml": CASES[0].text,
-            "many.dtd": f"<!ELEMENT a (#PCDATA|{'|'.join(names)})*>" + "".join(f"<!ELEMENT {name} (#PCDATA)>" for name in names),
-            "many.xml": "<!DOCTYPE a SYSTEM 'many.dtd'>\n<a>one two</a>\n",
+            **MANY,
         }
         for name, content in texts.items():
             with open(os.path.join(folder, name), "w", encoding="utf-8") as out:
@@ -206,7 +233,7 @@ def by_keys(program, seconds):
         same(told["wrapped"], text.replace("Mr Adams", "<person>Mr Adams</person>"), "wrapped")
         same(told["renamed"], text.replace("opener>", "salute>"), "renamed")
         need("<!ELEMENT opener" in told["hover"], told["hover"])
-        same(told["many"], texts["many.xml"].rstrip().replace("one", "<n29>one</n29>"), "one of many wraps")
+        same(told["many"], MANY["many.xml"].rstrip().replace("one", "<n29>one</n29>"), "one of many wraps")
     finally:
         shutil.rmtree(folder)
 
@@ -359,6 +386,7 @@ def main():
         ("neovim, its servers", has_nvim, lambda: one_server_a_folder(program, seconds)),
         ("neovim, by keys", has_nvim, lambda: by_keys(program, seconds)),
         ("Neovim with xmllint", has_nvim and shutil.which("xmllint"), lambda: own(seconds)),
+        ("emacs, one of many wraps", has_emacs and has_eglot(), lambda: many_in_emacs(program, seconds)),
         ("nXML", has_emacs and shutil.which("trang"), lambda: nxml(seconds)),
     )
     for what, is_there, act in () if sys.argv[3:] else alone:
