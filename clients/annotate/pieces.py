@@ -6,11 +6,11 @@ isn't cut. White space at the ends of a piece stays outside of its tag.
 from collections.abc import Iterator
 from typing import Any
 
-from changes import name_of
+from changes import attributes_for, name_of
 from editor import Editor
 from everywhere import MOST, Everywhere
 from pvtag.document import ELEMENT, MISC, TEXT, WHITE, Node, Told, shown
-from runs import Spot, run_of, spots_of
+from runs import Spot, below, run_of, spots_of
 
 # So many line ends are between two pieces at least.
 APART = {"lines": 1, "paragraphs": 2}
@@ -44,17 +44,18 @@ class Pieces:
         moves = [self.lines_for(place, name) for place in reversed(places)]
         return {len(places) - 1 - at for at in self.everywhere.tried(moves)[1]}
 
-    def lines_for(self, place: Any, name: str) -> list[str]:
+    def lines_for(self, place: Any, name: str, attrs: str = "") -> list[str]:
         cuts, path, start, end = run_of(self.editor.document, place)
-        return [*cuts, f"wrap {path} {start} {end} {name}"]
+        return [*cuts, f"wrap {path} {start} {end} {name}", *attributes_for(below(path, start), attrs)]
 
-    def tag(self, ask: Any) -> Told:
-        """Puts the tag round these pieces, in one move; one where it is refused is left out, and told."""
+    def tag(self, ask: Any, attrs: str = "") -> Told:
+        """Puts the tag, with these attributes, round these pieces, in one move; one where it is refused is left out, and
+        told."""
         name = name_of(ask)
         with self.editor.lock:
             since = self.editor.known(ask)
             # The last one first: what is done there moves no path before it.
-            return self.everywhere.make(since, [self.lines_for(place, name) for place in reversed(ask["places"])])
+            return self.everywhere.make(since, [self.lines_for(place, name, attrs) for place in reversed(ask["places"])])
 
 
 def atoms_of(owner: Node, start: Spot, end: Spot) -> Iterator[Atom]:

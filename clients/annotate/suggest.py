@@ -9,12 +9,13 @@ from collections.abc import Iterable, Iterator
 from typing import Any
 
 from attributes import Attributes, pairs_of
+from changes import name_of
 from editor import Editor
 from everywhere import Everywhere, beside, in_order, stands_in
 from neighbours import LONGEST, Neighbours, Tag
 from pvtag.document import TEXT, Node, Told, shown
 from pvtag.session import Refused
-from runs import Stretch, spot_at, texts_of
+from runs import Stretch, element_of, spot_at, stretch_of, texts_of
 from slices import in_slices
 
 # So often words had their tag, at least.
@@ -36,6 +37,22 @@ class Suggestions:
         version, rows = in_slices(self.editor, self.rows)
         counts = Counter(row["text"] for row in rows)
         return {"version": version, "rows": [{**row, "here": counts[row["text"]]} for row in rows]}
+
+    def tag(self, ask: Any) -> Told:
+        """Makes these tags, each with its own attributes, in one move; one that is refused is left out, and told."""
+        rows = [(row["place"], name_of(row), self.attributes.asked(row)) for row in ask["places"]]
+        editor = self.editor
+        with editor.lock:
+            since = editor.known(ask)
+            stretches = [(stretch_of(editor.document, place), name, attrs) for place, name, attrs in rows]
+            # The last place first: what is done there moves no path before it.
+            stretches.sort(key=lambda row: self.order(row[0]), reverse=True)
+            return self.everywhere.make(since, [self.everywhere.lines_for(*row) for row in stretches])
+
+    def order(self, stretch: Stretch) -> list[int]:
+        """By this places stand in the order of the document."""
+        _, path = element_of(self.editor.document, stretch.owner)
+        return [int(at) for at in path.split(".") if at] + [stretch.first, stretch.start]
 
     def known(self, counts: dict[str, Counter[Tag]]) -> Iterator[None]:
         """Counts the tags that words had, beside and here, in steps."""

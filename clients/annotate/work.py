@@ -180,7 +180,8 @@ ASKED: dict[str, Callable[[Work, Any], Told]] = {
     "palette": lambda work, ask: work.palette.told(ask),
     "set-palette": lambda work, ask: work.palette.put(ask),
     "suggestions": lambda work, ask: work.suggestions.told(ask),
+    "take-suggestions": lambda work, ask: work.suggestions.tag(ask),
     "pieces": lambda work, ask: work.pieces.of(ask),
-    "tag-pieces": lambda work, ask: work.pieces.tag(ask),
+    "tag-pieces": lambda work, ask: work.pieces.tag(ask, work.attributes.asked(ask)),
     "why": lambda work, ask: work.explainer.of_lists(ask),
 }

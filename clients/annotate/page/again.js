@@ -42,13 +42,13 @@ export function tagEverywhere() {
 }
 
 // Lists the places of a text; those that are left ticked are tagged as this element is, in one move.
-export async function openEverywhere(name, text, node = null) {
+export async function openEverywhere(name, text, node = null, pairs = []) {
   if (!text.trim()) return tell(`⟨${name}⟩ holds no text of which there could be other places.`)
   const ask = async () => {
     const answer = await question("places", { name, text })
     if (!answer) return null
     const open = answer.places.filter(({ refused }) => !refused)
-    return { rows: open.map((place) => rowOf(place, text)), pairs: await pairsOf(node), about: aboutText(open.length, "place", answer.places.length - open.length, answer.more) }
+    return { rows: open.map((place) => rowOf(place, text)), pairs: node ? await pairsOf(node) : pairs, known: answer.known, about: aboutText(open.length, "place", answer.places.length - open.length, answer.more) }
   }
   const heading = `⟨${name}⟩ round “${text.length > 40 ? `${text.slice(0, 40)}…` : text}”`
   await showPlaces({ heading, name, request: "tag-places", ask })

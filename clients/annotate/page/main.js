@@ -11,7 +11,7 @@ import { goToNext, showMissing } from "./next.js"
 import { setPalette, showPalette, takeKey } from "./palette.js"
 import { save, showElements, showHistory, showPreview } from "./panels.js"
 import { forget, isSaying } from "./refusal.js"
-import { openSuggestions, showSuggestions } from "./suggest.js"
+import { openSuggestions, showSuggestions, tagAll } from "./suggest.js"
 import { attributesSentence, attributesValid, countWrong, onWrong } from "./wrong.js"
 import "./type.js"
 import { toStart } from "./keys.js"
@@ -141,7 +141,8 @@ document.addEventListener("keydown", (event) => {
   const key = event.key.toLowerCase()
   const command = event.ctrlKey || event.metaKey
   if (event.isComposing || document.querySelector("dialog[open]")) return
-  if (key === "f7") openSuggestions()
+  if (key === "f7" && event.shiftKey) tagAll()
+  else if (key === "f7") openSuggestions()
   else if (key === "f9" && goOnward(event.shiftKey)) closeMenu()
   else if (key === "f8") goToNext(event.shiftKey ? -1 : 1)
   else if (key === "f4" && event.shiftKey) tagEverywhere()

@@ -1,9 +1,10 @@
 // The menu: choices that are filtered by typing, Enter takes one. A choice has a label and `take`, which is given the
 // label; it may have a note, and a group, whose name stands above its choices where nothing is typed.
 import { comments, worded } from "./draw.js"
+import { pairsOf, pairsText } from "./pairs.js"
 
 const box = document.getElementById("menu")
-const [title, about, input, list, each, refusal] = box.children
+const [title, about, input, list, each, all, refusal] = box.children
 const isEach = each.querySelector("input")
 const isNarrow = matchMedia("(max-width: 600px)")
 
@@ -21,9 +22,11 @@ const DIGITS = 9
 
 // A menu opens at once, also while its choices are asked for: then it shows an ellipsis, and holds Enter until they come.
 // With `keepFocus` the menu's field doesn't take the focus: with a finger that would bring the keyboard over the page.
-// Opens at a box of the page, which `box` gives, beside all that is chosen, which `around` gives. `typed`, where it is there, takes a name that isn't among the choices;
-// `names` are those that are declared; `hint` stands where there is no choice, `about` above them all. `inSight` is called
-// where other choices come into sight. `each`, where it is there, takes a name for each line or paragraph, by Alt+Enter.
+// Opens at a box of the page, which `box` gives, beside all that is chosen, which `around` gives. `typed`, where it is there,
+// takes a name that isn't among the choices; `names` are those that are declared; `hint` stands where there is no choice,
+// `about` above them all. `inSight` is called where other choices come into sight. `each`, where it is there, takes a name
+// for each line or paragraph, by Alt+Enter, and `everywhere` one for all places of the text, by Shift+Enter. All of them take
+// the attributes too that were typed behind a name, where there is `typed`.
 export function openMenu({ closed, keepFocus = false, ...menu }) {
   const before = open
   open = { closed, names: new Set(), entered: null, ...menu }
@@ -32,6 +35,7 @@ export function openMenu({ closed, keepFocus = false, ...menu }) {
   tellAbout(open.about)
   input.value = ""
   each.hidden = !open.each
+  all.hidden = !open.everywhere
   isEach.checked = false
   wanted = null
   seen.time = -Infinity
@@ -81,16 +85,24 @@ function tellWaiting() {
 
 // What Enter was pressed for before there were choices.
 function takeHeld() {
-  const { text, ofEach } = open.entered
+  const { label, on } = open.entered
   open.entered = null
-  const choice = ranked(text)[0]
-  if (choice) carryOut(choice, ofEach)
+  const choice = ranked(label)[0]
+  if (choice) carryOut(choice, on)
 }
 
-// What is no name of an element, as a row that extends one, has nothing to do with each line.
-function carryOut(choice, ofEach) {
-  if (ofEach && open.each && !choice.isOther) open.each(choice.label)
-  else choice.take(choice.label)
+// What is no name of an element, as a row that extends one, has nothing to do with each line, or with all places.
+function carryOut(choice, on) {
+  const { pairs, text } = typedIn(input.value)
+  if (pairs === null) return refuse(`Attributes are written as key=adams or key="Mr Adams", and not as ${text}.`)
+  const take = choice.isOther ? choice.take : { each: open.each, everywhere: open.everywhere }[on] ?? choice.take
+  take(choice.label, pairs)
+}
+
+// What is typed: a name, and where it stands for one, the attributes behind it; none where they can't be read.
+function typedIn(value) {
+  const [, name, text] = open.typed === undefined ? [null, value.trim(), ""] : /^(\S*)\s*(.*)$/s.exec(value.trim())
+  return { name, text, pairs: text ? pairsOf(text) : [] }
 }
 
 // What stands where there is no choice.
@@ -191,25 +203,26 @@ function ranked(text) {
 }
 
 function filter() {
-  const text = input.value.trim()
+  const { name: text, pairs, text: attributes } = typedIn(input.value)
   shown = open.isWaiting && open.choices.length === 0 ? [] : ranked(text)
   const kept = shown.findIndex(({ label }) => label === wanted)
   at = Math.max(0, kept)
-  const items = shown.map(itemOf)
+  const items = shown.map((choice, number) => itemOf(choice, number, pairs?.length ? pairsText(pairs) : attributes))
   list.replaceChildren(...(text ? items : grouped(items)))
   if (items.length === 0) list.append(line("li", "hint", open.isWaiting ? "…" : open.hint ?? "nothing that begins so"))
   show()
   open.inSight?.()
 }
 
-function itemOf({ label, note, isTyped }, number) {
+function itemOf({ label, note, isTyped, isOther }, number, attributes) {
   const item = line("li", isTyped ? "typed" : "", label)
   item.id = `choice${number}`
   item.role = "option"
   item.dataset.number = number
   if (number < DIGITS && input.value === "") item.dataset.digit = item.ariaKeyShortcuts = String(number + 1)
   if (comments.has(label)) item.title = comments.get(label)
-  if (note) item.append(" ", line("span", "note", note))
+  const told = isOther ? note : [attributes, note].filter(Boolean).join(" ")
+  if (told) item.append(" ", line("span", "note", told))
   return item
 }
 
@@ -242,11 +255,11 @@ function show() {
   else chosen?.scrollIntoView({ block: "nearest" })
 }
 
-function take(number, before, ofEach = isEach.checked) {
+function take(number, before, on = isEach.checked ? "each" : "") {
   const choice = shown[number]
-  if (open.isWaiting) return void (open.entered = { text: choice?.label ?? input.value.trim(), ofEach })
+  if (open.isWaiting) return void (open.entered = { label: choice?.label ?? typedIn(input.value).name, on })
   const hasMoved = performance.now() - seen.time < MOMENT && choice?.label !== before
-  if (choice && !hasMoved) carryOut(choice, ofEach)
+  if (choice && !hasMoved) carryOut(choice, on)
 }
 
 // A digit takes a row, where nothing is typed: no name begins with one.
@@ -269,7 +282,7 @@ input.addEventListener("keydown", (event) => {
     wanted = shown[at].label
     seen.time = -Infinity
     show()
-  } else if (event.key === "Enter") event.repeat || take(at, seen.labels[seen.at], event.altKey || isEach.checked)
+  } else if (event.key === "Enter") event.repeat || take(at, seen.labels[seen.at], event.shiftKey ? "everywhere" : event.altKey || isEach.checked ? "each" : "")
   else if (isDigit(event) && input.value === "") event.repeat || takeRow(event.key)
   else if (event.key === "Escape" || event.key === "Tab") closeMenu()
   else return

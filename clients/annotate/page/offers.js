@@ -8,7 +8,7 @@ import { isLocked, sayLocked } from "./lock.js"
 import { openAttributes } from "./attributes.js"
 import { openEverywhere } from "./again.js"
 import { closeMenu, hint, isMenuOpen, openMenu, refuse, rowsInSight, setChoices, shut, stand, waitAgain } from "./menu.js"
-import { isEmpty, markRun, nameOf, runAt, runOver, singlesIn, textOf, told, unmark } from "./place.js"
+import { isEmpty, markRun, nameOf, plainTextOf, runAt, runOver, singlesIn, textOf, told, unmark } from "./place.js"
 import { editPalette } from "./palette.js"
 import { hasLines, openPieces } from "./pieces.js"
 import { forget, isSaying, say, sentenceOf, showRefused, whyOf, withModel } from "./refusal.js"
@@ -193,17 +193,21 @@ export function offerNames(name, { kind, run = null, node = null }, { first, las
     const place = runAt(app.tree, marks)
     return place && { kind, place: told(place), name: label }
   }
-  const take = (label) => make(() => told_(label))
+  const take = (label, pairs = []) => make(() => withPairs(told_(label), pairs), pairs.length ? "tag" : "move")
   const at = () => marks && runAt(app.tree, marks)
   const others = (call) => (call && at() ? call(at()).map((each) => ({ ...each, isOther: true, take: () => each.take(null, at) })) : [])
   const here = { marks, told: told_, take, count: null, all: (names) => [...others(first), ...names, ...others(last)] }
   here.fill = () => fillNames(here)
   begin(here)
   const menu = { name, box: boxOfChosen, around: boxRoundChosen, choices: [], isWaiting: true, typed: take, names: app.names, inSight: () => here.count?.() }
-  const each = kind === "wrap" && hasLines(run) ? (label) => at() && openPieces(label, at()) : null
-  openMenu({ ...menu, each, closed, keepFocus: isByTouch() })
+  const each = kind === "wrap" && hasLines(run) ? (label, pairs) => at() && openPieces(label, at(), pairs) : null
+  const text = kind === "wrap" ? plainTextOf(run) : ""
+  const everywhere = text ? (label, pairs) => openEverywhere(label, text, null, pairs) : null
+  openMenu({ ...menu, each, everywhere, closed, keepFocus: isByTouch() })
   fillNames(here)
 }
+
+const withPairs = (move, pairs) => move && (pairs.length ? { ...move, pairs } : move)
 
 async function fillNames(here) {
   const asked = (here.asked = (here.asked ?? 0) + 1)

@@ -6,6 +6,7 @@ import { make as element } from "./draw.js"
 import { isLocked } from "./lock.js"
 import { isMenuOpen } from "./menu.js"
 import { make } from "./offers.js"
+import { pairsOf, pairsText } from "./pairs.js"
 import { isEmpty, told } from "./place.js"
 import { panel } from "./sides.js"
 
@@ -24,13 +25,11 @@ export function setPalette(told) {
   if (!box.hidden) fill(box)
 }
 
-const attributesText = ({ pairs }) => pairs.map(([name, value]) => `${name}="${value}"`).join(" ")
-
 function fill(box) {
   const none = "No tag yet. Each has a key, a name and attributes, and stands in tags.txt beside the DTD."
   box.querySelector("p").textContent = tags.length ? "Alt and the key, or a click, puts the tag round what is selected." : none
   box.querySelector("ol").replaceChildren(...tags.map((tag) => {
-    const button = element("button", "", element("kbd", "", tag.key), " ", element("span", "name", tag.name), " ", element("span", "note", attributesText(tag)))
+    const button = element("button", "", element("kbd", "", tag.key), " ", element("span", "name", tag.name), " ", element("span", "note", pairsText(tag.pairs)))
     if (tag.colour) button.style.borderLeft = `4px solid ${tag.colour}`
     // What is selected stays so.
     button.addEventListener("mousedown", (event) => event.preventDefault())
@@ -74,7 +73,7 @@ export function editPalette(more = null) {
 function rowOf({ key = "", name = "", pairs = [], colour = "" }) {
   const drop = element("button", "drop", "✕")
   Object.assign(drop, { type: "button", ariaLabel: "Take this tag away" })
-  const row = element("tr", "", ...[["Key", key], ["Name", name], ["Attributes", attributesText({ pairs })], ["Colour", colour]].map(field), element("td", "", drop))
+  const row = element("tr", "", ...[["Key", key], ["Name", name], ["Attributes", pairsText(pairs)], ["Colour", colour]].map(field), element("td", "", drop))
   drop.addEventListener("click", () => row.remove())
   return row
 }
@@ -95,15 +94,6 @@ function refuse(why) {
   const place = dialog.querySelector(".refusal")
   place.hidden = why === ""
   place.textContent = why
-}
-
-const PAIR = /\s*([^\s=]+)\s*=\s*(?:"([^"]*)"|'([^']*)')/y
-function pairsOf(text) {
-  const pairs = []
-  PAIR.lastIndex = 0
-  let end = 0
-  for (let found; (found = PAIR.exec(text)); end = PAIR.lastIndex) pairs.push([found[1], found[2] ?? found[3]])
-  return text.slice(end).trim() === "" ? pairs : null
 }
 
 dialog.querySelector(".add").addEventListener("click", add)

@@ -12,7 +12,7 @@ export function hasLines({ owner, from: [first, from], to: [last, to] }) {
 }
 
 // Lists the pieces of a run; those that are left ticked get the tag, in one move.
-export function openPieces(name, run) {
+export function openPieces(name, run, pairs = []) {
   const marks = markRun(app.tree, run)
   const ask = async (by) => {
     const place = () => runAt(app.tree, marks)
@@ -20,7 +20,7 @@ export function openPieces(name, run) {
     if (!answer) return null
     const rows = answer.pieces.filter(({ refused }) => !refused).map(({ place, text }) => ({ place, parts: [text], note: "", isTicked: true }))
     const what = answer.by === "lines" ? "line" : "paragraph"
-    return { by: answer.by, rows, about: aboutText(rows.length, what, answer.pieces.length - rows.length, answer.more) }
+    return { by: answer.by, rows, pairs, about: aboutText(rows.length, what, answer.pieces.length - rows.length, answer.more) }
   }
   return showPlaces({ heading: `⟨${name}⟩ round`, name, request: "tag-pieces", ask, closed: () => unmark(app.tree, marks) })
 }

@@ -5,10 +5,13 @@ import { choose, select } from "./choose.js"
 import { make as element } from "./draw.js"
 import { make } from "./offers.js"
 import { panel } from "./sides.js"
+import { pairsText } from "./pairs.js"
+import { showPlaces } from "./places.js"
 import { lengthOf } from "./tree.js"
 
 const box = document.getElementById("suggestions")
 const list = box.querySelector("ol")
+const all = box.querySelector(".all")
 // What was passed isn't suggested again, as long as the page is open; and the row to go on with.
 const passed = new Set()
 let at = 0
@@ -26,16 +29,37 @@ export function openSuggestions() {
 
 // What is looked for takes a while, and nothing waits for it: what was found of an earlier document isn't shown.
 async function fill() {
-  const answer = await ask("suggestions")
-  if (answer.stale || answer.version !== app.state.version || box.hidden) return
-  if (answer.trouble) return tell(answer.trouble)
-  const starts = startsOf()
-  const told = answer.rows.map((row) => ({ ...row, key: [row.text, row.name, starts.get(row.place.from[0]) + row.place.from[1]].join("\0") }))
-  const rows = told.filter(({ key }) => !passed.has(key))
-  const more = rows.length ? "Enter or a click tags the words, Delete passes them." : "No words that were tagged the same way three times stand here without their tag."
+  const rows = await found()
+  if (!rows || box.hidden) return
+  const more = rows.length ? "Enter or a click tags the words, Delete passes them." : NONE
   box.querySelector("p").textContent = more
+  all.hidden = rows.length < 2
   list.replaceChildren(...rows.map(rowOf))
   if (isWanted) goOn()
+}
+const NONE = "No words that were tagged the same way three times stand here without their tag."
+
+// The suggestions of the document as it is, but for those that were passed.
+async function found() {
+  const answer = await ask("suggestions")
+  if (answer.trouble) tell(answer.trouble)
+  if (answer.stale || answer.trouble || answer.version !== app.state.version) return null
+  const starts = startsOf()
+  const told = answer.rows.map((row) => ({ ...row, key: [row.text, row.name, starts.get(row.place.from[0]) + row.place.from[1]].join("\0") }))
+  return told.filter(({ key }) => !passed.has(key))
+}
+
+// Lists all of them; those that are left ticked are tagged, in one move.
+export async function tagAll() {
+  const ask = async () => {
+    const rows = (await found()) ?? []
+    if (rows.length === 0) return void tell(NONE)
+    const open = rows.map((row) => (
+      { place: { place: row.place, name: row.name, pairs: row.pairs }, parts: [row.before, element("mark", "", row.text), row.behind], note: `⟨${tagOf(row)}⟩`, isTicked: true }
+    ))
+    return { rows: open, about: `${open.length} suggestion${open.length === 1 ? "" : "s"}. Those that are ticked are tagged, in one move.` }
+  }
+  await showPlaces({ heading: "All suggestions", request: "take-suggestions", ask })
 }
 
 // Where each text begins in all of the text, which tags don't change.
@@ -49,7 +73,7 @@ function startsOf() {
   }
   return starts
 }
-const tagOf = ({ name, pairs }) => [name, ...pairs.map(([key, value]) => `${key}="${value}"`)].join(" ")
+const tagOf = ({ name, pairs }) => [name, pairsText(pairs)].filter(Boolean).join(" ")
 
 function rowOf(row) {
   const times = `was ⟨${tagOf(row)}⟩ ${row.count} times; ${row.here} here`
@@ -106,3 +130,5 @@ function goOn() {
   const next = list.children[Math.min(at, list.children.length - 1)]
   next?.firstChild.focus()
 }
+
+all.addEventListener("click", tagAll)

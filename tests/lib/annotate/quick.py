@@ -216,22 +216,107 @@ def copies_over_tags(driver, program):
 
 
 def tags_places_with_attributes(driver, program):
-    """The same tag on all places has the attributes of the one that it is taken from, but for an identifier; or none."""
+    """The same tag on all places has the attributes of the one that it is taken from, but for an identifier; or others, or none."""
     body = "<body><p>I met <person key='adams' xml:id='a'>Mr Adams</person>. Mr Adams is well.</p></body>"
     with Server(program, LETTER.replace(BODY, body)) as server:
         page = Page(driver, server.url)
-        for choice, want in (("with", "key=\"adams\""), ("", None)):
+        for typed, want in ((None, ['key="adams"']), ("", []), ('key=ad type="a b"', ['key="ad" type="a b"'])):
             page.click_tag("person")
             page.open_menu()
             page.keys("the same", Keys.ENTER)
-            soon(lambda: page.js("return document.querySelector('#everywhere .with:not([hidden]) option').text"), "with key=\"adams\"", "its attributes")
-            page.js("document.querySelector('#everywhere .with').value = arguments[0]", choice)
+            soon(lambda: page.js("return document.querySelector('#everywhere .with:not([hidden]) input').value"), 'key="adams"', "its attributes")
+            if typed is not None:
+                page.js("document.querySelector('#everywhere .with input').value = arguments[0]", typed)
             page.press("#everywhere .tag-all")
             soon(page.moves, 1, "one move")
-            soon(lambda: page.texts("#document .attrs")[1:], [want] if want else [], f"the attributes, {choice or 'without'}")
+            soon(lambda: page.texts("#document .attrs")[1:], want, f"the attributes, {typed}")
             soon(lambda: "</person>. <person>Mr Adams</person> is" in page.written(), True, "the tag")
             page.keys(Keys.CONTROL, "z")
             soon(page.moves, 0, "undo")
+        page.click_tag("person")
+        page.open_menu()
+        page.keys("the same", Keys.ENTER)
+        soon(lambda: page.texts("#everywhere li"), lambda rows: len(rows) == 1, "the places")
+        page.js("document.querySelector('#everywhere .with input').value = 'adams'")
+        page.press("#everywhere .tag-all")
+        soon(lambda: page.find("#everywhere .refusal").text, lambda text: text.startswith("Attributes are written as"), "what isn't any is told")
+        same(page.moves(), 0, "nothing was made")
+        page.press("#everywhere .close")
 
 
-CASES = [tags_each_line, takes_rows_by_digits, lists_what_is_missing, keeps_words_in_sight, has_a_palette, tells_reasons_one_can_read, suggests_tags, copies_over_tags, tags_places_with_attributes]
+def takes_attributes_behind_a_name(driver, program):
+    """Attributes that are typed behind a name come with the tag, in one move; on all places of the text by Shift+Enter, on each line
+    by Alt+Enter."""
+    body = "<body><p>I met Mr Adams. Mr Adams is well.</p>\nOne\nTwo\n</body>"
+    with Server(program, LETTER.replace(BODY, body)) as server:
+        page = Page(driver, server.url)
+        page.select("Mr Adams")
+        page.open_menu()
+        page.keys("pers key=adams type='a b'")
+        soon(lambda: page.notes()[0], lambda row: row[1:] == ["person", 'key="adams" type="a b"'], "they stand beside the name")
+        page.keys(Keys.ENTER)
+        soon(lambda: page.texts("#document .attrs"), ['key="adams" type="a b"'], "the tag has them")
+        same(page.moves(), 1, "one move")
+        page.keys(Keys.CONTROL, "z")
+        soon(page.moves, 0, "undo")
+        page.select("Mr Adams")
+        page.open_menu()
+        same(page.find("#menu .all").is_displayed(), True, "all places are told")
+        page.keys("person key=adams")
+        page.keys(Keys.SHIFT, Keys.ENTER)
+        soon(lambda: page.js("return document.activeElement.className"), "tag-all", "the places of the text")
+        same((page.menu(), page.js("return document.querySelector('#everywhere .with input').value")), (None, 'key="adams"'), "with what was typed")
+        page.keys(Keys.ENTER)
+        soon(lambda: page.texts("#document .attrs"), ['key="adams"'] * 2, "both have them")
+        same(page.moves(), 1, "one move")
+        page.select("One", "Two")
+        page.open_menu()
+        page.keys("p n=1")
+        page.keys(Keys.ALT, Keys.ENTER)
+        soon(lambda: page.js("return document.activeElement.className"), "tag-all", "the lines")
+        page.keys(Keys.ENTER)
+        soon(lambda: page.texts("#document .attrs")[2:], ['n="1"'] * 2, "each line has them")
+        page.click_tag("p", 1)
+        page.choose("rename", "lb n=2")
+        soon(lambda: page.find("#menu .refusal").is_displayed(), True, "a refusal")
+        page.keys(Keys.ESCAPE, Keys.ESCAPE)
+        page.select("well")
+        page.open_menu()
+        page.keys("person key=a b=", Keys.ENTER)
+        soon(lambda: page.texts("#document .attrs")[2:3], ['key="a" b=""'], "an empty one")
+        page.select("One")
+        page.open_menu()
+        page.keys("person x=1 adams", Keys.ENTER)
+        soon(lambda: page.find("#menu .refusal").text, lambda text: "as key=adams or" in text, "what can't be read is told")
+        same(page.moves(), 3, "nothing was made")
+        page.keys(Keys.ESCAPE)
+
+
+def tags_all_suggestions(driver, program):
+    """All suggestions that stay ticked are tagged in one move, each by its own tag."""
+    body = "<body><p>{}</p><p>Mr Adams of Delft and Mr Adams.</p></body>"
+    tagged = '<person key="adams">Mr Adams</person>, <place>Delft</place>; ' * 3
+    with Server(program, LETTER.replace(BODY, body.format(tagged))) as server:
+        page = Page(driver, server.url)
+        page.keys(Keys.SHIFT, Keys.F7)
+        soon(lambda: page.texts("#everywhere mark"), ["Mr Adams", "Delft", "Mr Adams"], "the places")
+        same(page.texts("#everywhere .note")[0], '⟨person key="adams"⟩', "with their tags")
+        soon(lambda: page.js("return document.activeElement.className"), "tag-all", "Enter takes them")
+        page.press("#everywhere li input", 2)
+        page.press("#everywhere .tag-all")
+        soon(lambda: "<p><person>Mr Adams</person> of <place>Delft</place> and Mr Adams.</p>" in page.written(), True, "those that were ticked")
+        same((page.moves(), len(page.texts("#document .attrs"))), (1, 4), "one move, with attributes")
+        page.keys(Keys.F7)
+        soon(lambda: page.texts("#suggestions mark"), ["Mr Adams"], "one is left")
+        same(page.find("#suggestions .all").is_displayed(), False, "which needs no list")
+        page.keys(Keys.CONTROL, "z")
+        soon(lambda: len(page.texts("#suggestions mark")), 3, "taken back in one")
+        page.press("#suggestions .all")
+        soon(lambda: page.js("return document.activeElement.className"), "tag-all", "the button lists them too")
+        page.keys(Keys.ENTER)
+        soon(lambda: page.texts("#suggestions mark"), [], "all of them")
+        page.keys(Keys.SHIFT, Keys.F7)
+        soon(page.tell, lambda text: text.startswith("No words that were tagged"), "nothing is left")
+
+
+CASES = [tags_each_line, takes_rows_by_digits, lists_what_is_missing, keeps_words_in_sight, has_a_palette, tells_reasons_one_can_read, suggests_tags, copies_over_tags, tags_places_with_attributes, takes_attributes_behind_a_name, tags_all_suggestions]
