@@ -5,6 +5,7 @@ Words: PROGRAM, and names of cases, all where there are none. Prints each differ
 import functools
 import json
 import os
+import re
 import subprocess
 import sys
 import tempfile
@@ -14,10 +15,12 @@ import time
 sys.dont_write_bytecode = True
 
 from lib.annotate.fixture import FOLDER, LETTER, Server, fault_of, need, run_cases, same, soon  # noqa: E402
+from lib.annotate.thirty import DTD, letters  # noqa: E402
 
 sys.path[:0] = [FOLDER, os.path.dirname(FOLDER)]
 
 import drawer as drawers  # noqa: E402
+from annotate_letters import in_order, line_of  # noqa: E402
 from declared import declared_by  # noqa: E402
 from drawer import Drawer, address_of  # noqa: E402
 from listing import Marks  # noqa: E402
@@ -267,7 +270,107 @@ def refuses_other_names(program):
             need(ran.returncode == 1 and "is a folder, and --from and --again are about one document" in ran.stderr, f"{more}: {ran.stderr}")
 
 
-CASES = [lists_documents, judges_again, keeps_what_is_done, begins_documents, opens_documents, makes_moves_again, closes_what_is_left, refuses_other_names]
+class User:
+    """Marks up a letter of a drawer, by what the page asks for; each letter in the same way."""
+
+    def __init__(self, drawer, letter, url):
+        self.url, self.letter, self.drawer = url, letter, drawer
+        drawer.entry(url).begin()
+        self.work = drawer.entry(url).work
+        self.editor = self.work.editor
+        self.work.around.read.join()
+
+    def done(self, name, what):
+        """Asks for a move of which nothing is refused."""
+        told = self.work.answer(name, {"version": self.editor.version, **what})
+        need("changes" in told and not told.get("refused"), f"{self.url}, {name} {what}: {told}")
+
+    def take_suggestions(self):
+        """All of them that are right, in one move; how many are left out."""
+        rows = self.work.answer("suggestions", {})["rows"]
+        tags = self.letter.tags | {self.letter.salute: ("salute", [])}
+        right = [row for row in rows if tags.get(row["text"]) == (row["name"], [tuple(pair) for pair in row["pairs"]])]
+        if right:
+            self.done("take-suggestions", {"places": [{key: row[key] for key in ("place", "name", "pairs")} for row in right]})
+        return len(rows) - len(right)
+
+    def tag_names(self):
+        """The names that have no tag still: each on all its places, in one move."""
+        for text, (name, pairs) in self.letter.tags.items():
+            rows = self.work.answer("places", {"text": text, "name": name})["places"]
+            places = [row["place"] for row in rows if not row["part"] and not row["refused"]]
+            if places:
+                self.done("tag-places", {"name": name, "places": places, "pairs": pairs})
+
+    def wrap(self, name, words):
+        """A tag round a part of the letter, where there is none yet."""
+        if not any(node.name == name for node in self.editor.document.elements()):
+            self.done("move", {"kind": "wrap", "name": name, "place": self.place_of(words)})
+
+    def place_of(self, words):
+        """Where a part of the letter stands, in the list that holds all of it."""
+        start = self.letter.plain.index(words)
+        end, at, ends = start + len(words), 0, []
+        for node in in_order(self.editor.document):
+            if node.kind == "text":
+                size = len(node.units)
+                ends += [(node, start - at)] * (at <= start < at + size) + [(node, end - at)] * (at < end <= at + size)
+                at += size
+        (first, from_), (last, to) = ends
+        depth = next(at for at, (one, other) in enumerate(zip(line_of(first), line_of(last))) if one is not other or one is first)
+        one, other = line_of(first)[depth], line_of(last)[depth]
+        return {"list": one.owner.id, "from": [one.id, from_ if one is first else 0], "to": [other.id, to if other is last else 1]}
+
+    def mark_up(self):
+        """The whole letter; how many suggestions weren't right."""
+        letter = self.letter
+        left = self.take_suggestions()
+        place = self.place_of("\n".join(letter.paragraphs))
+        pieces = self.work.answer("pieces", {"place": place, "name": "p", "by": "lines"})["pieces"]
+        same(len(pieces), len(letter.paragraphs), "the paragraphs")
+        self.done("tag-pieces", {"name": "p", "places": [row["place"] for row in pieces]})
+        self.tag_names()
+        self.wrap("salute", letter.salute)
+        # What is left, opener, dateline, body and closer, is missing.
+        need("tree" in self.work.answer("preview", {}), "what is missing")
+        self.done("take", {})
+        return left
+
+
+def half_the_moves_for_the_last_ten(program):
+    """Thirty letters, each begun of a plain text, marked up in the same way, saved and done: what was tagged before is suggested, so
+    that the last ten take at most half the moves of the first ten."""
+    thirty = letters()
+    files = {f"{number}.txt": letter.plain for number, letter in enumerate(thirty, 1)}
+    with Folder(program, files) as folder:
+        with open(os.path.join(folder.kept.name, "letters.dtd"), "w", encoding="utf-8") as file:
+            file.write(DTD)
+        dtd = os.path.join(folder.kept.name, "letters.dtd")
+        drawer = Drawer([program], dtd, "letter", folder.path, declared_by([program], dtd))
+        folder.drawers.append(drawer)
+        counts, wrong, url = [], 0, ask(drawer, "begin", {"url": "1.txt"})["url"]
+        for number, letter in enumerate(thirty, 1):
+            same(url, f"{number}.xml", "the next letter")
+            user = User(drawer, letter, url)
+            wrong += user.mark_up()
+            counts.append(len(user.editor.made))
+            user.done("save", {})
+            same(body_of(folder.text(url)), letter.whole, f"letter {number}")
+            ask(drawer, f"{url}/mark", {"done": True})
+            url = ask(drawer, f"{url}/onward")["url"]
+            drawer.entry(f"{number}.xml").close()
+        same((url, wrong), (None, 0), "all are done, and no suggestion was wrong")
+        first, last = sum(counts[:10]), sum(counts[-10:])
+        need(2 * last <= first, f"{last} moves for the last ten, {first} for the first: {counts}")
+        same({row["verdict"] for row in rows_of(drawer)}, {"valid"}, "all are valid")
+
+
+def body_of(text):
+    """A document without its declarations."""
+    return text[text.index("<letter"):]
+
+
+CASES = [half_the_moves_for_the_last_ten, lists_documents, judges_again, keeps_what_is_done, begins_documents, opens_documents, makes_moves_again, closes_what_is_left, refuses_other_names]
 
 
 def main():
