@@ -5,7 +5,6 @@ Words: PROGRAM, and names of cases, all where there are none. Prints each differ
 import functools
 import json
 import os
-import re
 import subprocess
 import sys
 import tempfile

@@ -61,8 +61,8 @@ CHECKS = [
         "`flatten` that was ended"),
     row("annotate", "the page in a browser", "chromium chromedriver +selenium", 3600, "python3 tests/annotate.py PVTAG",
         "the page, by mouse and keyboard: keys at 0 to 300 ms after the mouse while the program is busy, a letter finished from a "
-        "plain text, offers by their costs, refusals with their reasons, typing, attributes, finding, undo, two windows, a folder of letters, contrasts, a "
-        "phone's width, 100,000 nodes"),
+        "plain text, in at most 45 moves and 250 keys too, offers by their costs, refusals with their reasons, typing, attributes, finding, "
+        "undo, two windows, a folder of letters, contrasts, a phone's width, 100,000 nodes"),
     row("examples", "the examples in comments of the crates", "rt", 3600, "python3 tests/examples.py",
         "the examples in comments of public items, compiled without proofs; that the tests which they name are there"),
     row("look", "a first look without proofs, against README", "rt", 3600, "tests/look.sh",
@@ -200,7 +200,8 @@ CHECKS = [
         "another letter lies beside it"),
     row("annotate_drawer", "a folder of documents on the page", "+lxml", 1800, "python3 tests/annotate_drawer.py PVTAG",
         "the list of a folder's documents: each with the verdict that `report` has of it, judged again where it changed; marks in a file "
-        "that several write; texts that begin documents; documents that another has open, that changed outside, or were left"),
+        "that several write; texts that begin documents; documents that another has open, that changed outside, or were left; "
+        "thirty letters, of which the last ten take at most half the moves of the first ten"),
     row("annotate_walk", "a walk through what the page asks for", "", 3600, "python3 tests/annotate_walk.py PVTAG 1",
         "a random walk through what the page asks for, with half surrogates, writes that fail, changes from outside, killed sessions "
         "and servers: what would be saved is what the program shows, and the page's text is that"),
