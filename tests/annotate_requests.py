@@ -1,10 +1,11 @@
 """Tries the server of `clients/annotate` by requests: whom it answers, that it loses nothing, and when it ends.
 
-Words: PROGRAM. Prints each difference, and how many cases passed; ends with 1 where one failed.
+Words: PROGRAM, and names of cases, all where there are none. Prints each difference, and how many cases passed; ends with 1 where one failed.
 """
 import functools
 import json
 import os
+import shutil
 import signal
 import socket
 import subprocess
@@ -13,7 +14,7 @@ import time
 
 sys.dont_write_bytecode = True
 
-from lib.annotate.fixture import DRAFT, LETTER, Server, fault_of, need, run_cases, same, soon  # noqa: E402
+from lib.annotate.fixture import DRAFT, FOLDER, LETTER, Server, fault_of, need, run_cases, same, soon  # noqa: E402
 from lib.waiting import PATIENCE  # noqa: E402
 
 
@@ -69,7 +70,8 @@ def makes_documents(program):
     with Server(program, None) as server:
         server.write("\ufeffAt <Leiden> & Delft\r\n", "plain.txt")
         server.start("--from", server.path("plain.txt"))
-        same(server.text(), "<letter>At &lt;Leiden&gt; &amp; Delft\n</letter>\n", "the document")
+        declaration = '<?xml version="1.0" encoding="UTF-8"?>\n'
+        same(server.text(), declaration + "<letter>At &lt;Leiden&gt; &amp; Delft\n</letter>\n", "the document")
         same(server.stop(), (0, ""), "Ctrl-C")
         for text in ("\x01", "x"):
             server.write(text, "plain.txt")
@@ -79,8 +81,43 @@ def makes_documents(program):
         os.unlink(server.doc)
         server.write("\x01", "plain.txt")
         ran = subprocess.run([*server.words, "--from", server.path("plain.txt")], capture_output=True, text=True)
-        need(ran.returncode == 1 and ran.stderr.endswith("doc.xml:1:9: this is no character of XML, or isn't UTF-8\n"), f"{ran.stderr!r}")
+        need(ran.returncode == 1 and ran.stderr.endswith("doc.xml:2:9: this is no character of XML, or isn't UTF-8\n"), f"{ran.stderr!r}")
         same(server.files(), ["plain.txt"], "a document that can't be opened")
+        names_its_dtd(program, server, declaration)
+
+
+def names_its_dtd(program, server, declaration):
+    """A document that is made names its DTD, where that lies beside it, and is valid by what it names."""
+    with open(LETTER, encoding="utf-8") as file:
+        dtd = file.read()
+    server.write("Dear brother", "plain.txt")
+    for name in ("in/down", "in/a b", "own"):
+        os.makedirs(server.path(name))
+    for place, want in (("in/letter.dtd", "letter.dtd"), ("in/down/letter.dtd", "down/letter.dtd"), ("letter.dtd", "../letter.dtd"), ("own/letter.dtd", "../own/letter.dtd"),
+                        ("in/a b/letter.dtd", None), ("../letter.dtd", None)):
+        path, doc = (LETTER if place.startswith("..") else server.path(place)), server.path("in/new.xml")
+        if not place.startswith(".."):
+            server.write(dtd, place)
+        server.words[2], server.words[4] = path, doc
+        server.start("--from", server.path("plain.txt"))
+        same(server.text("in/new.xml"), declaration + (f'<!DOCTYPE letter SYSTEM "{want}">\n' if want else "") + "<letter>Dear brother</letter>\n", f"a DTD at {place}")
+        tags_all(server)
+        same(server.stop(), (0, ""), "Ctrl-C")
+        report = os.path.join(os.path.dirname(FOLDER), "report")
+        ran = subprocess.run([sys.executable, report, "--by-doctype", "--program", program, doc], capture_output=True, text=True)
+        same(json.loads(ran.stdout.splitlines()[-1])["verdict"], "valid" if want else "no-dtd", f"what `report` says: {ran.stdout}")
+        if want and shutil.which("xmllint"):
+            ran = subprocess.run(["xmllint", "--noout", "--valid", doc], capture_output=True, text=True)
+            same((ran.returncode, ran.stderr), (0, ""), "what xmllint says")
+        for name in ("new.xml", "new.xml.pvtag", "new.xml.pvtag.base"):
+            os.unlink(server.path(f"in/{name}"))
+
+
+def tags_all(server):
+    """Takes over what is missing, and saves."""
+    server.ask("preview")
+    version = server.ask("take", {"version": server.ask("state")["version"]})["version"]
+    server.ask("save", {"version": version})
 
 
 def says_what_is_wrong(program):
@@ -243,7 +280,8 @@ def main():
     program = os.path.abspath(sys.argv[1])
     # A shell's command in the background ignores it, and so would what is begun here.
     signal.signal(signal.SIGINT, signal.default_int_handler)
-    return run_cases("annotate's requests", [functools.update_wrapper(functools.partial(case, program), case) for case in CASES])
+    wanted = [case for case in CASES if not sys.argv[2:] or case.__name__ in sys.argv[2:]]
+    return run_cases("annotate's requests", [functools.update_wrapper(functools.partial(case, program), case) for case in wanted])
 
 
 if __name__ == "__main__":

@@ -194,7 +194,7 @@ class Drawer:
             return each.name
         name = document_of(each.name)
         path = self.path_of(name)
-        make_document(self.root, self.path_of(each.name), path)
+        make_document(self.root, self.path_of(each.name), path, self.dtd)
         entry = self.entry(name)
         try:
             entry.begin()

@@ -1,5 +1,6 @@
 """Documents that are made of plain texts, and how a document is opened."""
 import os
+import re
 from xml.sax.saxutils import escape
 
 from editor import Editor
@@ -7,9 +8,13 @@ from files import put_file
 from pvtag.faults import fault_of
 from pvtag.masks import MaskedSource, mask
 from pvtag.places import Source
-from pvtag.program import Trouble, read_file, shown_name
+from pvtag.program import Trouble, is_utf_8, read_file, shown_name
 from pvtag.session import Ended
 from script import Script
+
+DECLARATION = '<?xml version="1.0" encoding="UTF-8"?>'
+# What can't stand in the address of a file as it is.
+UNFIT = re.compile(r"""["'%#?&<>\\^`{|}\s\x00-\x1f\x7f-\U0010ffff]""")
 
 
 def plain_text(path: str) -> str:
@@ -23,17 +28,29 @@ def plain_text(path: str) -> str:
         raise Trouble(f"{shown_name(path)} isn't UTF-8: {byte}; `iconv -f latin1 -t utf-8` may make it so") from None
 
 
-def make_document(root: str, text: str, doc: str) -> None:
-    """Makes a document of one element round a plain text, where there is none yet."""
+def make_document(root: str, text: str, doc: str, dtd: str) -> None:
+    """Makes a document of one element round a plain text, where there is none yet. It names the DTD, where that lies beside
+    it."""
     if os.path.islink(doc) and not os.path.exists(doc):
         raise Trouble(f"{shown_name(doc)} is a link to what isn't there; take it away, or name another DOC")
     if os.path.exists(doc):
         raise Trouble(f"{shown_name(doc)} is there already: leave out --from to go on with it, or name another DOC")
-    source = f"<{root}>{escape(plain_text(text))}</{root}>\n".encode()
+    source = f"{DECLARATION}\n{doctype(root, doc, dtd)}<{root}>{escape(plain_text(text))}</{root}>\n".encode()
     try:
         put_file(os.path.abspath(doc), source, text, is_new=True)
     except OSError as fault:
         raise Trouble(f"{shown_name(doc)}: {fault.strerror}") from None
+
+
+def doctype(root: str, doc: str, dtd: str) -> str:
+    """The line that names a DTD, where that lies in the document's folder, below it, or in the folder above; else nothing."""
+    try:
+        path = os.path.relpath(os.path.realpath(dtd), os.path.dirname(os.path.realpath(doc)))
+    except ValueError:
+        return ""
+    if path.startswith(os.path.join(os.pardir, os.pardir)) or not is_utf_8(path) or UNFIT.search(path):
+        return ""
+    return f'<!DOCTYPE {root} SYSTEM "{path}">\n'
 
 
 def open_editor(program: list[str], dtd: str, root: str, doc: str, again: bool = False, version: int = 0) -> Editor:

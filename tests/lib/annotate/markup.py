@@ -8,6 +8,8 @@ from .fixture import ARTICLE, EXAMPLES, LETTER as DTD, Server, need, same, soon
 from selenium.webdriver.common.keys import Keys
 
 PLAIN = os.path.join(EXAMPLES, "letter.txt")
+# What a document that is made of a plain text begins with.
+DECLARATION = '<?xml version="1.0" encoding="UTF-8"?>\n'
 
 
 def marks_up_a_letter(driver, program):
@@ -29,7 +31,7 @@ def marks_up_a_letter(driver, program):
         soon(page.status, "Valid", "the letter is valid")
         page.keys(Keys.CONTROL, "s")
         soon(lambda: page.find("#save").text, "Saved", "it is saved")
-        same(server.text(), LETTER, "the letter")
+        same(server.text(), DECLARATION + LETTER, "the letter")
         ran = subprocess.run([program, "valid", DTD, "letter", server.doc], capture_output=True, text=True)
         same(ran.stdout, "valid\n", "what the program says of it")
 
@@ -137,7 +139,7 @@ def marks_up_by_keys(driver, program):
         soon(lambda: page.texts(".chosen > .tag"), ["opener"], "the next list")
         page.keys(Keys.CONTROL, "s")
         soon(lambda: page.find("#save").text, "Saved", "it is saved")
-        same(server.text(), KEYED, "the letter")
+        same(server.text(), DECLARATION + KEYED, "the letter")
 
 
 KEYED = """<letter><opener>Leiden, 3 May 1764

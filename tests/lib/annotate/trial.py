@@ -226,7 +226,7 @@ def finishes_a_letter(driver, program):
         user.page.keys(Keys.CONTROL, "s")
         soon(lambda: user.page.find("#save").text, "Saved", "it is saved")
         user.steps += 1
-        same(server.text(), WHOLE, "the letter")
+        same(server.text(), '<?xml version="1.0" encoding="UTF-8"?>\n<!DOCTYPE TEI SYSTEM "letter.dtd">\n' + WHOLE, "the letter")
         ran = subprocess.run([program, "valid", server.words[2], "TEI", server.doc], capture_output=True, text=True)
         same(ran.stdout, "valid\n", "what the program says of it")
         need(user.steps >= STEPS, f"steps: {user.steps}")
