@@ -31,6 +31,7 @@ from runs import Stale  # noqa: E402
 from script import Script  # noqa: E402
 from suggest import Suggestions  # noqa: E402
 from uses import Uses  # noqa: E402
+from values import Names, Values  # noqa: E402
 
 LINES = "<letter><opener><salute>Dear</salute></opener><body>\n  One <lb/> here,\n\tTwo.\n\n<!-- no -->\n<p>Three.</p>\nFour &#10;five\n \n Six</body></letter>\n"
 
@@ -377,7 +378,60 @@ def keeps_nobody_waiting(program):
         attributes.close()
 
 
-CASES = [keeps_nobody_waiting, suggests_what_was_tagged, gives_reasons_one_can_read, tags_each_line, offers_what_is_wanted, has_a_palette, gives_required_attributes]
+POINTS = "<!ATTLIST person key CDATA #IMPLIED ref CDATA #IMPLIED id ID #IMPLIED who IDREF #IMPLIED kind (a|b) #IMPLIED><!ATTLIST place n CDATA #IMPLIED>"
+
+
+def knows_values(program):
+    """The values of attributes that name somebody are told: those of the same words first, of the documents beside, of a table of
+    names; the form changes all ticked elements of the same words in one move, but for what identifies them."""
+    source = ("<letter><opener><salute>x</salute></opener><body><p><person id='p1'>Mr Adams</person>, <person id='p2' key='old' kind='a'>Mr Adams</person>, "
+              "<person key='tom'>Tom</person> and <person who='p1'><lb/>Mr  Adams</person>, <place n='1'>Delft</place></p></body></letter>")
+    beside = source.replace("key='old'", "key='adams'").replace("tom", "jim")
+    with open(LETTER, encoding="utf-8") as file:
+        dtd = file.read() + POINTS
+    table = "id;name\nadams;Mr Adams;J. Adams\nrix;Mr Rix\n;x\n"
+    with Place(program, source, "own.dtd", "letter", **{"own.dtd": dtd, "a.xml": beside, "names.csv": table}) as place:
+        editor, path = place.editor, os.path.join(place.folder, "names.csv")
+        around, attributes = Neighbours(editor.script.document, "letter"), Attributes(editor)
+        around.read.join()
+        values = Values(editor, around, attributes, Names(path))
+        same(values.names.rows(), [("adams", ["Mr Adams", "J. Adams"]), ("rix", ["Mr Rix"])], "the table")
+        first, second, tom, third = (element(editor, "person", at) for at in range(4))
+        told = values.of({"node": first.id})
+        same([(row["value"], row["about"]) for row in told["known"]["key"]],
+             [("adams", "Mr Adams, J. Adams"), ("old", ""), ("tom", ""), ("jim", ""), ("rix", "Mr Rix")], "those of these words first, then of others, then of the table")
+        same([row["value"] for row in told["known"]["ref"]][-2:], ["#p1", "#p2"] if not attributes.known.why_not else ["adams", "rix"], "a pointer, to what the document has")
+        same(sorted(told["known"]), ["key", "ref"], "no others")
+        same(told["ids"], [] if attributes.known.why_not else ["p1", "p2"], "the identifiers")
+        same([(row["node"], row["attrs"]) for row in told["others"]], [(second.id, "id='p2' key='old' kind='a'"), (third.id, "who='p1'")], "the others of these words")
+        same((told["others"][0]["before"], told["others"][0]["behind"]), ("Mr Adams, ", ", Tom and Mr  Adams, Delft"), "what stands beside them")
+        same([list(map(list, row)) for row in values.known({"name": "person", "text": "Mr Adams"})["known"]],
+             [[["key", "adams"], ["kind", "a"]], [["key", "old"], ["kind", "a"]], [["who", "p1"]], [["key", "adams"]]], "the tags of these words")
+        version = editor.version
+        attributes.change({"version": version, "node": second.id, "pairs": [["id", "p9"], ["key", "adams"]], "also": [first.id, third.id]})
+        want = source.replace("id='p1'>", "id='p1' key=\"adams\">").replace("id='p2' key='old' kind='a'", "id=\"p9\" key=\"adams\"").replace("who='p1'", "who='p1' key=\"adams\"")
+        same((editor.shown().decode(), len(editor.made), editor.made[0].title), (want, 1, "attributes of ⟨person⟩ in 3 places"), "all of them, in one move")
+        attributes.change({"version": editor.version, "node": second.id, "pairs": [["id", "p9"]], "also": [first.id, tom.id]})
+        same((first.attrs, second.attrs, tom.attrs, len(editor.made)), (" id='p1'", ' id="p9"', "", 2), "what is taken away")
+        attributes.change({"version": editor.version, "node": second.id, "pairs": [["id", "p9"]], "also": [first.id]})
+        same(len(editor.made), 2, "what changes nothing is no move")
+        for at in range(2):
+            editor.undo({"version": editor.version})
+        same(editor.shown().decode(), source, "taken back")
+        fault = fault_of(lambda: attributes.change({"version": editor.version, "node": second.id, "pairs": [], "also": [10 ** 6]}))
+        need(isinstance(fault, Stale) and editor.shown().decode() == source, f"one that isn't there: {fault!r}")
+        for text, want in (("a,b\n", [("a", ["b"])]), ("\ufeffkey\tname\nx\ty z\t\n", [("x", ["y z"])]), ('"a ""b""","c\nd"\n', [('a "b"', ["c d"])]), ("", [])):
+            with open(path, "w", encoding="utf-8", newline="") as file:
+                file.write(text)
+            same(values.names.rows(), want, f"a table that is {text!r}")
+        with open(path, "wb") as file:
+            file.write(b"caf\xe9")
+        need("isn't UTF-8" in str(fault_of(lambda: values.of({"node": first.id}))), "what isn't UTF-8 is told")
+        need("No such file" in str(fault_of(lambda: Names(path + "x"))), "and what isn't there")
+        attributes.close()
+
+
+CASES = [knows_values, keeps_nobody_waiting, suggests_what_was_tagged, gives_reasons_one_can_read, tags_each_line, offers_what_is_wanted, has_a_palette, gives_required_attributes]
 
 
 def main():

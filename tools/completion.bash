@@ -36,7 +36,7 @@ _pvtag_client() {
     local word=${COMP_WORDS[COMP_CWORD]} program=${COMP_WORDS[0]} options='' values='' at option files=()
     COMPREPLY=()
     case ${program##*/} in
-    pvtag-annotate) options='--port --from --again --stay' values='--port --from --stay' ;;
+    pvtag-annotate) options='--port --from --again --names --stay' values='--port --from --names --stay' ;;
     pvtag-complete) ;;
     pvtag-flatten) options='--also' values='--also' ;;
     pvtag-lsp) options='--stdio' ;;

@@ -54,6 +54,14 @@ def written(pairs: list[tuple[str, str]], before: str = "") -> str:
     return "".join(" " + olds.get((name, value), f'{name}="{escaped(value)}"') for name, value in pairs)
 
 
+def changed(own: list[tuple[str, str]], before: list[tuple[str, str]], now: list[tuple[str, str]], ids: set[str]) -> list[tuple[str, str]]:
+    """The attributes of one element as those of another are now: what that has it has, and what was taken from that it hasn't."""
+    given = dict(now)
+    gone = {name for name, _ in before} - given.keys() - ids
+    kept = [(name, given.pop(name, value)) for name, value in own if name not in gone]
+    return kept + list(given.items())
+
+
 def escaped(value: str) -> str:
     return "".join(SPECIAL.get(char, char) for char in value)
 
@@ -106,13 +114,25 @@ class Attributes:
     def of(self, ask: Any) -> Told:
         """The attributes of an element, and those that the DTD declares for it, required ones first; none where it declares
         none at all, or where that can't be told."""
-        if self.declared is None:
-            self.declared = self.read()
+        self.all_declared()
         with self.editor.lock:
             node, _ = element_of(self.editor.document, ask["node"])
             declared = self.declared.get(node.name, []) if self.declared else None
             ids = self.ids() if any(each["kind"].startswith("IDREF") for each in declared or ()) else []
             return {"name": node.name, "pairs": self.spelled(pairs_of(node.attrs)), "declared": declared, "why": self.why, "ids": ids}
+
+    def all_declared(self) -> dict[str, list[Told]]:
+        """The attributes that are declared, by the names of elements."""
+        if self.declared is None:
+            self.declared = self.read()
+        return self.declared
+
+    def declared_for(self, name: str) -> list[Told]:
+        return self.all_declared().get(name, [])
+
+    def ids_of(self, name: str) -> set[str]:
+        """The attributes of which each value stands once in a document."""
+        return {each["name"] for each in self.declared_for(name) if each["kind"] == "ID"} | {"xml:id"}
 
     def read(self) -> dict[str, list[Told]]:
         if not self.known.declares_any:
@@ -157,20 +177,32 @@ class Attributes:
             return self.told
 
     def change(self, ask: Any) -> Told:
-        """Gives an element these attributes; a move."""
-        told = [(str(name), str(value)) for name, value in ask["pairs"]]
+        """Gives an element these attributes, and others what is changed of them by that, but for what identifies one; a move."""
+        told, also = [(str(name), str(value)) for name, value in ask["pairs"]], list(ask.get("also") or ())
         with self.editor.lock:
             since = self.editor.known(ask)
-            before = pairs_of(element_of(self.editor.document, ask["node"])[0].attrs)
-            if told == self.spelled(before):
+            node, _ = element_of(self.editor.document, ask["node"])
+            before = pairs_of(node.attrs)
+            if told == self.spelled(before) and not also:
                 return self.editor.state(since)
             pairs = self.read_back(told, before)
         # The program is asked, for which no move waits: one that was made meanwhile is told below.
         self.check(pairs)
+        ids = self.ids_of(node.name)
         with self.editor.lock:
             since = self.editor.known(ask)
-            node, path = element_of(self.editor.document, ask["node"])
-            return self.editor.answer(since, [f"{ATTRIBUTES}{path} {one_line(self.editor.with_entities(written(pairs, node.attrs)))}"])
+            lines = [self.line_for(ask["node"], pairs)] if told != self.spelled(before) else []
+            for number in also:
+                other, _ = element_of(self.editor.document, number)
+                own = pairs_of(other.attrs)
+                given = changed(own, before, [pair for pair in pairs if pair[0] not in ids], ids)
+                lines += [self.line_for(number, given)] if given != own else []
+            return self.editor.answer(since, lines) if lines else self.editor.state(since)
+
+    def line_for(self, number: Any, pairs: list[tuple[str, str]]) -> str:
+        """The line that gives an element these attributes."""
+        node, path = element_of(self.editor.document, number)
+        return f"{ATTRIBUTES}{path} {one_line(self.editor.with_entities(written(pairs, node.attrs)))}"
 
     def spelled(self, pairs: list[tuple[str, str]]) -> list[tuple[str, str]]:
         """Attributes in which a reference to an entity is shown as it is written."""

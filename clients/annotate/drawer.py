@@ -17,6 +17,7 @@ from pvtag.document import Told
 from pvtag.program import RUNNING, Trouble, shown_name
 from reporting.rows import Row, shown
 from script import Changed
+from values import Names
 from work import Refusal, Work
 
 # So long a document stays open behind its last window, in seconds.
@@ -65,7 +66,7 @@ class Entry:
             if self.work is None:
                 drawer = self.drawer
                 editor = open_editor(drawer.program, drawer.dtd, drawer.root, self.path, again, self.version)
-                self.work = Work(editor, drawer.declared, shown_name(self.name))
+                self.work = Work(editor, drawer.declared, shown_name(self.name), drawer.names)
                 self.work.is_over = drawer.is_over
             self.answering += 1
             return self.work
@@ -98,9 +99,10 @@ class Drawer:
     home = "drawer.html"
     note = ""
 
-    def __init__(self, program: list[str], dtd: str, root: str, folder: str, declared: dict[str, Declared]) -> None:
+    def __init__(self, program: list[str], dtd: str, root: str, folder: str, declared: dict[str, Declared],
+                 names: Names | None = None) -> None:
         self.program, self.dtd, self.root, self.declared = program, dtd, root, declared
-        self.folder = os.path.realpath(folder)
+        self.folder, self.names = os.path.realpath(folder), names
         self.verdicts, self.marks = Verdicts(program, dtd, root), Marks(self.folder)
         self.lock = threading.Lock()
         self.entries: dict[str, Entry] = {}

@@ -153,8 +153,8 @@ def title_of(lines: Sequence[str], document: Document) -> str:
         typed = edits[-1].split(" ", 3 if word == "addtext" else 2)[-1]
         return f"typed “{short(''.join(map(shown, units_of(typed))))}”"
     if word == "attributes":
-        node = document.there(path)
-        return f"attributes of ⟨{node.name}⟩"
+        where = f" in {len(edits)} places" if len(edits) > 1 else ""
+        return f"attributes of ⟨{document.there(path).name}⟩{where}"
     about = document.excerpt(edits[-1], EXCERPT)
     around = f" round “{about}”" if about else ""
     name = f"⟨{edits[-1].split(' ')[-1]}⟩"

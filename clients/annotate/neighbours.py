@@ -24,6 +24,8 @@ class Neighbours:
         # How often each name stands below each, and how often each text stands in each tag.
         self.below: Counter[tuple[str, str]] = Counter()
         self.tagged: dict[str, Counter[Tag]] = {}
+        # How often each attribute of an element has each value.
+        self.values: Counter[tuple[str, str, str]] = Counter()
         self.count = 0
         self.read = threading.Thread(target=self.look, daemon=True)
         self.read.start()
@@ -40,10 +42,15 @@ class Neighbours:
                 found = Reader(self.root).of(data)
             except (OSError, ValueError, expat.ExpatError, Other):
                 continue
-            below = self.below + found.below
+            below, values = self.below + found.below, self.values + found.values
             for text, tag in found.tagged:
                 self.tagged.setdefault(text, Counter())[tag] += 1
-            self.below, self.count = below, self.count + 1
+            self.below, self.values, self.count = below, values, self.count + 1
+
+    def values_of(self, name: str, attribute: str) -> list[str]:
+        """The values of an attribute, of elements of this name first; the most frequent first."""
+        rows = [(other != name, -count, value) for (other, each, value), count in self.values.items() if each == attribute]
+        return [value for *_, value in sorted(rows)]
 
 
 def others(doc: str) -> list[str]:
@@ -76,6 +83,7 @@ class Reader:
         self.root = root
         self.below: Counter[tuple[str, str]] = Counter()
         self.tagged: list[tuple[str, Tag]] = []
+        self.values: Counter[tuple[str, str, str]] = Counter()
         # The elements round a place: the tag, and its text as long as it holds no tag.
         self.open: list[tuple[Tag, list[str] | None]] = []
         self.parser = expat.ParserCreate()
@@ -98,7 +106,9 @@ class Reader:
             tag, _ = self.open[-1]
             self.open[-1] = tag, None
             self.below[tag[0], name] += 1
-        self.open.append(((name, tuple(zip(attributes[::2], attributes[1::2]))), []))
+        pairs = tuple(zip(attributes[::2], attributes[1::2]))
+        self.open.append(((name, pairs), []))
+        self.values.update((name, key, value) for key, value in pairs)
 
     def end(self, _: str) -> None:
         tag, text = self.open.pop()

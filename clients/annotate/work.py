@@ -24,6 +24,7 @@ from script import Changed, Question
 from suggest import Suggestions
 from texts import Texts
 from uses import Uses
+from values import Names, Values
 
 
 class Refusal(Exception):
@@ -38,7 +39,7 @@ class Work:
     # The page that is shown where none is named.
     home = "index.html"
 
-    def __init__(self, editor: Editor, declared: dict[str, Declared], title: str) -> None:
+    def __init__(self, editor: Editor, declared: dict[str, Declared], title: str, names: Names | None = None) -> None:
         self.editor, self.declared, self.title = editor, declared, title
         self.around = Neighbours(editor.script.document, editor.root)
         uses = Uses(editor, self.around, [name for name, each in declared.items() if each.kind == "empty"])
@@ -47,6 +48,7 @@ class Work:
         self.completions, self.palette = Completions(editor, self.attributes), Palette(editor.dtd, self.attributes)
         self.pieces = Pieces(editor, self.everywhere)
         self.suggestions = Suggestions(editor, self.around, self.everywhere, self.attributes)
+        self.values = Values(editor, self.around, self.attributes, names or Names(None))
         # The windows that show it, and whether the program is about to end.
         self.windows: set[str] = set()
         self.is_over: Callable[[], bool] = lambda: False
@@ -171,10 +173,10 @@ ASKED: dict[str, Callable[[Work, Any], Told]] = {
     "missing": lambda work, ask: work.completions.missing(ask),
     "take": lambda work, ask: work.completions.take(ask),
     "type": lambda work, ask: work.texts.type(ask),
-    "attributes": lambda work, ask: work.attributes.of(ask),
+    "attributes": lambda work, ask: work.values.of(ask),
     "set-attributes": lambda work, ask: work.attributes.change(ask),
     "attribute-faults": lambda work, ask: work.attributes.faults(ask),
-    "places": lambda work, ask: work.everywhere.places(ask),
+    "places": lambda work, ask: {**work.everywhere.places(ask), **work.values.known(ask)},
     "tag-places": lambda work, ask: work.everywhere.tag(ask, work.attributes.asked(ask)),
     "tag": lambda work, ask: work.attributes.tag(ask),
     "palette": lambda work, ask: work.palette.told(ask),

@@ -6,10 +6,14 @@ import { make } from "./draw.js"
 
 const dialog = document.getElementById("attributes")
 const rows = dialog.querySelector("tbody")
-const known = document.getElementById("declared")
+const names = document.getElementById("declared")
+const also = dialog.querySelector(".also")
 
 let declared = null
 let ids = []
+// The values that attributes are known to have; and the other elements of the same words.
+let known = {}
+let others = []
 let node = null
 // The lists of values have names of their own.
 let lists = 0
@@ -21,9 +25,11 @@ export async function openAttributes(of) {
   node = of
   declared = answer.declared
   ids = answer.ids ?? []
+  known = answer.known
+  showOthers(answer)
   dialog.querySelector("h2").textContent = `Attributes of ⟨${answer.name}⟩`
   dialog.querySelector(".about").textContent = aboutText(answer)
-  known.replaceChildren(...(declared ?? []).map(({ name }) => new Option(name, name)))
+  names.replaceChildren(...(declared ?? []).map(({ name }) => new Option(name, name)))
   // Required ones first, also those that are missing, which are left out where they stay empty.
   const required = (declared ?? []).filter((each) => each.required)
   const given = new Map(answer.pairs)
@@ -36,6 +42,24 @@ export async function openAttributes(of) {
   const empty = [...rows.querySelectorAll("tr.missing .value")].find(({ value }) => value === "")
   ;(empty ?? rows.querySelector("input"))?.focus()
 }
+
+// The other elements of the same name and the same words: those that are ticked are changed with this one.
+function showOthers(answer) {
+  others = answer.others
+  also.hidden = others.length === 0
+  also.open = false
+  also.querySelector("summary").textContent = `the same on ${others.length} other${others.length === 1 ? "" : "s"} of these words`
+  also.querySelector("ol").replaceChildren(...others.map(({ before, behind, attrs }) => {
+    const box = document.createElement("input")
+    box.type = "checkbox"
+    const label = make("label", "", box, " ", make("span", "context", before, make("mark", "", "…"), behind), " ", make("span", "note", attrs))
+    return make("li", "", label)
+  }))
+  also.querySelector(".every input").checked = false
+}
+also.querySelector(".every input").addEventListener("change", ({ target }) => {
+  for (const box of also.querySelectorAll("ol input")) box.checked = target.checked
+})
 
 function aboutText({ name, declared: list, why }) {
   if (why) return `${why} They are kept as they are written.`
@@ -73,16 +97,18 @@ function field(label, value, list = null) {
 
 // What is to be said of a name and its value, and the values that are offered for it.
 function judge(name, value, values, note) {
-  const known = declared?.find((each) => each.name === name.value)
-  const offered = known?.kind.startsWith("IDREF") ? ids : (known?.values ?? [])
-  values.replaceChildren(...offered.map((each) => new Option(each, each)))
-  const isMissing = known?.required && value.value === "" && known.kind !== "CDATA"
-  const isOther = known?.values?.length > 1 && value.value !== "" && !known.values.includes(value.value) && known.kind.startsWith("(")
-  const must = known?.means && known.means !== "any text" ? `: ${known.means}` : ""
-  if (declared !== null && name.value !== "" && !known) note.textContent = "not declared"
+  const told = declared?.find((each) => each.name === name.value)
+  const options = [...(told?.kind.startsWith("IDREF") ? ids : (told?.values ?? [])).map((each) => new Option(each, each))]
+  options.push(...(known[name.value] ?? []).map((each) => new Option(each.about, each.value)))
+  values.replaceChildren(...options)
+  const isMissing = told?.required && value.value === "" && told.kind !== "CDATA"
+  const isOther = told?.values?.length > 1 && value.value !== "" && !told.values.includes(value.value) && told.kind.startsWith("(")
+  const must = told?.means && told.means !== "any text" ? `: ${told.means}` : ""
+  const called = (known[name.value] ?? []).find((each) => each.value === value.value)?.about ?? ""
+  if (declared !== null && name.value !== "" && !told) note.textContent = "not declared"
   else if (isMissing) note.textContent = `required${must}`
-  else note.textContent = isOther ? `not listed${must}` : known?.required ? "required" : ""
-  note.title = known?.means ?? ""
+  else note.textContent = isOther ? `not listed${must}` : told?.required ? "required" : called
+  note.title = told?.means ?? ""
 }
 
 function refuse(why) {
@@ -100,9 +126,11 @@ dialog.querySelector(".add").addEventListener("click", add)
 dialog.querySelector(".set").addEventListener("click", async (event) => {
   event.preventDefault()
   const all = [...rows.children].map((row) => [...row.querySelectorAll("input")].map(({ value }) => value))
+  const boxes = [...also.querySelectorAll("ol input")]
+  const ticked = others.filter((_, at) => boxes[at].checked).map((each) => each.node)
   const untouched = ([name, value], at) => value === "" && rows.children[at].classList.contains("missing")
   const pairs = all.filter((pair, at) => (pair[0] || pair[1]) && !untouched(pair, at))
-  const refusal = await change("set-attributes", { node: node.id, pairs })
+  const refusal = await change("set-attributes", { node: node.id, pairs, also: ticked })
   if (!refusal) return dialog.close()
   refuse(document.querySelector("#note span").textContent)
   tell("")

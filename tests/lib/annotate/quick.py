@@ -319,4 +319,39 @@ def tags_all_suggestions(driver, program):
         soon(page.tell, lambda text: text.startswith("No words that were tagged"), "nothing is left")
 
 
-CASES = [tags_each_line, takes_rows_by_digits, lists_what_is_missing, keeps_words_in_sight, has_a_palette, tells_reasons_one_can_read, suggests_tags, copies_over_tags, tags_places_with_attributes, takes_attributes_behind_a_name, tags_all_suggestions]
+def completes_values(driver, program):
+    """The form offers the values of a key, with the names that a table has for them, and changes all ticked elements of the same words;
+    so does the list of places."""
+    body = "<body><p>I met <person>Mr Adams</person>, <person n='1'>Mr Adams</person>; Mr Adams.</p></body>"
+    with Server(program, None) as server:
+        server.write(LETTER.replace(BODY, body))
+        server.write("adams,Mr Adams\nrix,Mr Rix\n", "names.csv")
+        with open(DTD, encoding="utf-8") as file:
+            server.write(file.read() + "<!ATTLIST person key CDATA #IMPLIED n CDATA #IMPLIED>", "own.dtd")
+        server.words[2] = server.path("own.dtd")
+        server.start("--names", server.path("names.csv"))
+        page = Page(driver, server.url)
+        page.click_tag("person")
+        page.open_menu()
+        page.keys("attributes", Keys.ENTER)
+        soon(lambda: page.find("#attributes").is_displayed(), True, "the form")
+        page.keys("key")
+        options = "return [...document.querySelectorAll('#attributes tbody datalist option')].map((each) => [each.value, each.text])"
+        soon(lambda: page.js(options), [["adams", "Mr Adams"], ["rix", "Mr Rix"]], "the values, that of these words first")
+        page.keys(Keys.TAB, "adams")
+        soon(lambda: page.texts("#attributes tbody .note"), ["Mr Adams"], "what the value stands for")
+        same(page.find("#attributes .also summary").text, "the same on 1 other of these words", "the other")
+        page.press("#attributes .also summary")
+        page.press("#attributes .every input")
+        page.press("#attributes .set")
+        soon(lambda: page.texts("#document .attrs"), ['key="adams"', "n='1' key=\"adams\""], "both have it")
+        same(page.moves(), 1, "one move")
+        page.select("Mr Adams", nth=2)
+        page.open_menu()
+        page.keys("person")
+        page.keys(Keys.SHIFT, Keys.ENTER)
+        soon(lambda: page.js("return [...document.querySelectorAll('#known-tags option')].map((each) => each.value)"), ['key="adams"', 'n="1" key="adams"'], "the tags of these words")
+        page.press("#everywhere .close")
+
+
+CASES = [tags_each_line, takes_rows_by_digits, lists_what_is_missing, keeps_words_in_sight, has_a_palette, tells_reasons_one_can_read, suggests_tags, copies_over_tags, tags_places_with_attributes, takes_attributes_behind_a_name, tags_all_suggestions, completes_values]
