@@ -17,6 +17,7 @@ from lib.annotate.letter import DTD, PLAIN, WHOLE  # noqa: E402
 sys.path[:0] = [FOLDER, os.path.dirname(FOLDER)]
 
 from attributes import Attributes  # noqa: E402
+from comments import Comments  # noqa: E402
 from completions import Completions  # noqa: E402
 from costs import Costs  # noqa: E402
 from declared import declared_by  # noqa: E402
@@ -431,7 +432,70 @@ def knows_values(program):
         attributes.close()
 
 
-CASES = [knows_values, keeps_nobody_waiting, suggests_what_was_tagged, gives_reasons_one_can_read, tags_each_line, offers_what_is_wanted, has_a_palette, gives_required_attributes]
+def keeps_comments(program):
+    """A comment is put before an element, changed and taken away beside the session; so is one that stands there. Each is a move, on the
+    disk, and written at Save alone."""
+    source = '<letter><opener><salute>Dear</salute></opener><body><!-- old\n\\ --><p>I met <place n="1">Delft</place>.</p></body><closer><?pi?>x</closer></letter>\n'
+    with Place(program, source) as place:
+        editor = place.editor
+        comments, salute, old = Comments(editor), element(editor, "salute"), element(editor, "body").kids[0]
+
+        def put(node, text):
+            return comments.put({"version": editor.version, "node": node.id, "text": text})
+
+        same([(row["node"], row["text"], row["at"]) for row in comments.all({})["comments"]], [(old.id, "old\n\\", "body")], "the one that is there")
+        need("changes" in put(salute, "to check"), "one is put")
+        need("changes" in put(salute, "whose?\r\nTom's\\n"), "and changed")
+        need("changes" in put(old, "new"), "the one that is there too")
+        want = source.replace("<salute>", "<!-- whose?\nTom's\\n --><salute>").replace("<!-- old\n\\ -->", "<!-- new -->")
+        same((editor.whole_source().decode(), editor.session.show().decode()), (want, source), "what would be saved, and what the session has")
+        same([row["text"] for row in comments.all({})["comments"]], ["whose?\nTom's\\n", "new"], "all of them, in order")
+        same([move.title for move in editor.made], ["comment “to check”", "comment “whose? Tom's\\n”", "comment “new”"], "in words")
+        editor.move({"version": editor.version, "kind": "extend", "node": element(editor, "place").id, "place": place.run_of("met", "Delft")})
+        editor.move({"version": editor.version, "kind": "rename", "node": salute.id, "name": "dateline"})
+        need(b"<!-- whose?" in editor.whole_source(), "it stays with a new name")
+        editor.undo({"version": editor.version})
+        put(element(editor, "place"), "here")
+        editor.move({"version": editor.version, "kind": "split", "node": element(editor, "place").id, "place": {**place.run_of("Delft"), "to": place.run_of("Delft")["from"]}})
+        need(b'<!-- here --><place n="1">met </place><place>Delft</place>' in editor.whole_source(), f"it goes with the tag: {editor.whole_source()}")
+        editor.move({"version": editor.version, "kind": "join", "node": element(editor, "place").id})
+        need(b'<!-- here --><place n="1">met Delft</place>' in editor.whole_source(), f"also where two are one: {editor.whole_source()}")
+        put(old, "")
+        same(b"new" in editor.whole_source(), False, "one that is taken away")
+        saved = editor.whole_source()
+        editor.save({"version": editor.version})
+        with open(os.path.join(place.folder, "doc.xml"), "rb") as file:
+            same(file.read(), saved, "the file")
+        made = len(editor.made)
+        editor.close()
+        place.editor = editor = Editor([program], place.dtd, "letter", Script(os.path.join(place.folder, "doc.xml")))
+        same((editor.whole_source(), len(editor.made), editor.made == editor.saved), (saved, made, True), "opened again")
+        comments = Comments(editor)
+        for bad in ("a--b", "\x01", "\ud800"):
+            fault = fault_of(lambda: comments.put({"version": editor.version, "node": element(editor, "p").id, "text": bad}))
+            need(isinstance(fault, Trouble), f"{bad!r}: {fault!r}")
+        put(element(editor, "p"), "ends with -")
+        put(element(editor, "letter"), " at  the root ")
+        need(editor.whole_source().startswith(b"<!-- at  the root --><letter>") and b"<!-- ends with - --><p>" in editor.whole_source(), f"others: {editor.whole_source()}")
+        put(element(editor, "letter"), " ")
+        same(editor.whole_source().startswith(b"<letter>"), True, "and away")
+        made = len(editor.made)
+        put(element(editor, "letter"), "")
+        same(len(editor.made), made, "what changes nothing is no move")
+        instruction = element(editor, "closer").kids[0]
+        for node in (instruction, element(editor, "p").kids[0], editor.document.top):
+            need(isinstance(fault_of(lambda: put(node, "x")), Stale), f"a {node.kind} has none")
+        editor.back({"version": editor.version, "to": 0})
+        same(editor.whole_source().decode(), source, "all taken back")
+        number = editor.script.number
+        editor.script.append(["comment 0.0 a--b"])
+        editor.close()
+        fault = fault_of(lambda: Editor([program], place.dtd, "letter", Script(os.path.join(place.folder, "doc.xml"))))
+        need("can't stand in a comment" in str(fault), f"a line of a script that is none: {fault!r}, {number}")
+        place.editor = type("None", (), {"close": lambda self: None})()
+
+
+CASES = [keeps_comments, knows_values, keeps_nobody_waiting, suggests_what_was_tagged, gives_reasons_one_can_read, tags_each_line, offers_what_is_wanted, has_a_palette, gives_required_attributes]
 
 
 def main():

@@ -250,6 +250,11 @@ class Walk:
         self.begin()
         same((len(self.editor.made), self.shown()), (made, source), "the next start")
 
+    def comment(self):
+        """A comment at an element, or in place of one."""
+        text = random.choice(["to check", "", "a\nb", "x -", "a--b", "\x01", "\ud800", "\\n"])
+        self.ask(random.choice(["comment", "comment", "comments"]), {"node": self.node((ELEMENT, "misc")), "text": text})
+
     def undo(self):
         self.ask("undo")
 
@@ -318,7 +323,7 @@ class Walk:
     def step(self):
         random.choices(*zip((self.move, 30), (self.type, 20), (self.undo, 8), (self.redo, 6), (self.attributes, 6), (self.everywhere, 4), (self.take, 5),
                             (self.offer, 6), (self.back, 3), (self.save, 5), (self.save_beside, 2), (self.with_full_disk, 2), (self.changes_outside, 2),
-                            (self.kill_session, 3), (self.kill_server, 2), (self.again, 1)))[0]()
+                            (self.comment, 5), (self.kill_session, 3), (self.kill_server, 2), (self.again, 1)))[0]()
         self.check()
         if random.random() < 0.05:
             self.check_script()

@@ -196,7 +196,7 @@ CHECKS = [
         "links, pipes, a server killed round a Save"),
     row("annotate_letters", "what makes a letter quick on the page", "", 3600, "python3 tests/annotate_letters.py PVTAG",
         "what makes a letter quick on the page: a tag round each line or paragraph; the palette and its file; suggestions of exact "
-        "words, for which nothing waits; values of attributes from what has them and from a table of names; reasons "
+        "words, for which nothing waits; values of attributes from what has them and from a table of names; comments; reasons "
         "with first names; that under 60 names the wanted one is among the first five in nine of ten moves, where another letter lies "
         "beside it"),
     row("annotate_drawer", "a folder of documents on the page", "+lxml", 1800, "python3 tests/annotate_drawer.py PVTAG",

@@ -3,8 +3,8 @@ import itertools
 import re
 from typing import Any, NamedTuple
 
-from moves import ATTRIBUTES
-from pvtag.document import CDATA, ELEMENT, MISC, TEXT, Document, Node
+from moves import ATTRIBUTES, COMMENT
+from pvtag.document import CDATA, ELEMENT, MISC, TEXT, Document, Node, escaped
 from pvtag.program import Trouble
 from runs import Spot, Stale, Stretch, below, element_of, run_between, run_of, spots_of
 
@@ -55,7 +55,7 @@ def split(document: Document, node: Node, spots: Spots) -> list[str]:
         outer, name = document.path_of(owner), inner.name
         lines += [f"unwrap {below(outer, number)}", f"wrap {outer} {number} {number + front} {name}",
                   f"wrap {outer} {number + 1} {number + 1 + size - front} {name}",
-                  *attributes_for(below(outer, number), inner.attrs)]
+                  *attributes_for(below(outer, number), inner.attrs), *comment_for(below(outer, number), inner.note)]
         if inner is node:
             return lines
         if owner is document.top:
@@ -74,7 +74,7 @@ def joined(document: Document, node: Node) -> list[str]:
     other, path = owner.kids[last], document.path_of(owner)
     size = len(node.kids) + len(between) + len(other.kids)
     return [f"unwrap {below(path, last)}", f"unwrap {below(path, at)}", f"wrap {path} {at} {at + size} {node.name}",
-            *attributes_for(below(path, at), both(node.attrs, other.attrs))]
+            *attributes_for(below(path, at), both(node.attrs, other.attrs)), *comment_for(below(path, at), node.note or other.note)]
 
 
 def deleted(document: Document, node: Node) -> list[str]:
@@ -107,11 +107,16 @@ def extended(document: Document, node: Node, spots: Spots) -> list[str]:
     cuts, path, begin, stop = run_between(path, (first[0], first[1] or None), (last[0], last[1] or None))
     at += first[0] < at and first[1] > 0
     return [*cuts, f"unwrap {below(path, at)}", f"wrap {path} {begin} {stop - 1 + len(node.kids)} {node.name}",
-            *attributes_for(below(path, begin), node.attrs)]
+            *attributes_for(below(path, begin), node.attrs), *comment_for(below(path, begin), node.note)]
 
 
 def order_of(spot: Spot) -> tuple[int, int]:
     return spot[0], spot[1] or 0
+
+
+def comment_for(path: str, note: str) -> list[str]:
+    """The line that puts the comment of another tag before a new one."""
+    return [f"{COMMENT}{path} {escaped(note[4:-3])}"] if note else []
 
 
 def attributes_for(path: str, attrs: str) -> list[str]:

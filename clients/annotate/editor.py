@@ -1,7 +1,7 @@
 """A document that is marked up: a session, its tree and its script, kept together.
 
 A move is made whole or not at all, it is on the disk before it is told, and it is taken back whole. Whether it can be
-made says the session. Its lines for attributes alone are made in the tree only: a session keeps attributes as they are.
+made says the session. Its lines for attributes and comments are made in the tree only: a session keeps those as they are.
 First a move is played in the session; what is played there is taken back, whatever is raised. Then it is written down,
 and from there on it is made: where the tree can't be brought to it, both begin anew by what is written.
 """
@@ -14,7 +14,7 @@ from again import Again
 from changes import lines_of
 from forms import check_forms
 from moves import (
-    ATTRIBUTES, EDITS, LONGEST, BadLine, Move, exchanged, groups_of, is_edit, is_main, move_of, surviving, title_of, undo_of,
+    BESIDE, EDITS, LONGEST, BadLine, Move, exchanged, groups_of, is_edit, is_main, move_of, surviving, title_of, undo_of,
 )
 from pvtag.document import ELEMENT, Document, Told
 from pvtag.masks import Masked, mask
@@ -255,7 +255,7 @@ class Editor:
         """Makes an edit in the session; none where it is no edit of a session. What is no line of a session, or can't be
         written as UTF-8, is refused."""
         word = line.split(" ", 1)[0]
-        if "\n" in line or "\r" in line or word not in (*EDITS, ATTRIBUTES.strip()):
+        if "\n" in line or "\r" in line or word not in (*EDITS, *map(str.strip, BESIDE)):
             return Refused("command")
         try:
             size = len(line.encode())
@@ -263,7 +263,7 @@ class Editor:
             return Refused("shape", "bad-text")
         if size > LONGEST:
             return Refused("limit")
-        if line.startswith(ATTRIBUTES):
+        if line.startswith(BESIDE):
             return None
         reply = self.session.edit(line)
         self.ahead += isinstance(reply, Made)
@@ -322,7 +322,7 @@ class Editor:
         last: Made | None = None
         try:
             for line in (line for each in reversed(old) for line in reversed(each.lines)):
-                if not line.startswith(ATTRIBUTES):
+                if not line.startswith(BESIDE):
                     last = made(self.session.undo())
                     taken.append(line)
             for at, line in enumerate(lines):
@@ -476,7 +476,7 @@ class Editor:
 def replay(session: Session, move: Move, script: Script) -> None:
     """Makes a move of a script in a session."""
     for number, line in zip(move.numbers, move.lines, strict=True):
-        if line.startswith(ATTRIBUTES):
+        if line.startswith(BESIDE):
             continue
         reply = session.edit(line)
         if isinstance(reply, Refused):
@@ -503,7 +503,7 @@ def sum_of(document: Document) -> str:
     sum_ = hashlib.sha256()
     for row in document.told():
         references = "".join(f"{at}={unit}" for at, unit in row.get("refs", {}).items())
-        parts = (str(row["depth"]), row["kind"], row.get("name", ""), row.get("attrs", ""), row.get("text", ""), references)
+        parts = (str(row["depth"]), row["kind"], row.get("name", ""), row.get("attrs", ""), row.get("note", ""), row.get("text", ""), references)
         sum_.update("\0".join(parts).encode(errors="surrogatepass") + b"\n")
     return sum_.hexdigest()
 

@@ -4,16 +4,19 @@ taken back whole.
 Its lines are those of a session. Where they aren't some cuts of texts and one edit, a line `together K` before them
 says that the next K are one move. A line `instead K` says that the next K take the last move back and make another in
 its place: all of them count, or none. Attributes, which a session keeps as they are, have a line of their own,
-`attributes PATH TEXT`, and its undo another one. A session answers all four with `no command`, so a script is still one
-that it plays.
+`attributes PATH TEXT`, and its undo another one; so have comments, `comment PATH TEXT`. A session answers all of these with
+`no command`, so a script is still one that it plays.
 """
 import re
 from collections.abc import Callable, Iterable, Sequence
 from typing import NamedTuple
 
-from pvtag.document import Document, Told, shown, units_of
+from pvtag.document import Document, Told, shown, unescaped, units_of
 
 TOGETHER, INSTEAD, ATTRIBUTES, UNDO, UNDO_ATTRIBUTES = "together ", "instead ", "attributes ", "undo", "undo-attributes"
+COMMENT, UNDO_COMMENT = "comment ", "undo-comment"
+# The lines that are made in the tree alone, beside the session.
+BESIDE = (ATTRIBUTES, COMMENT)
 # The edits of a session.
 EDITS = ("wrap", "insert", "unwrap", "rename", "split", "join", "text", "addtext", "deltext")
 # The longest line of a session, in bytes.
@@ -67,7 +70,7 @@ class Move:
 
 
 def undo_of(line: str) -> str:
-    return UNDO_ATTRIBUTES if line.startswith(ATTRIBUTES) else UNDO
+    return UNDO_ATTRIBUTES if line.startswith(ATTRIBUTES) else UNDO_COMMENT if line.startswith(COMMENT) else UNDO
 
 
 def move_of(group: list[Line]) -> Move:
@@ -100,13 +103,13 @@ def surviving(lines: Iterable[tuple[int, str]]) -> tuple[list[Line], list[Line]]
             together = count_in(text, TOGETHER, number)
         elif text.startswith(INSTEAD):
             count_in(text, INSTEAD, number)
-        elif text in (UNDO, UNDO_ATTRIBUTES):
+        elif text in (UNDO, UNDO_ATTRIBUTES, UNDO_COMMENT):
             if not made or undo_of(made[-1].text) != text:
                 raise BadLine(number, "there is nothing that this line could take back")
             undone.append(made.pop())
             together = None
         else:
-            if text.split(" ", 1)[0] not in (*EDITS, ATTRIBUTES.strip()):
+            if text.split(" ", 1)[0] not in (*EDITS, *map(str.strip, BESIDE)):
                 raise BadLine(number, "this is no line of a script of annotate")
             is_next = undone[-1:] != [] and undone[-1][:2] == (text, together)
             undone = undone[:-1] if is_next else []
@@ -135,8 +138,8 @@ def is_edit(line: str) -> bool:
 
 
 def is_main(line: str) -> bool:
-    """Whether a line is an edit by which a move is told: not of attributes alone."""
-    return is_edit(line) and not line.startswith(ATTRIBUTES)
+    """Whether a line is an edit by which a move is told: not of attributes or a comment alone."""
+    return is_edit(line) and not line.startswith(BESIDE)
 
 
 def title_of(lines: Sequence[str], document: Document) -> str:
@@ -155,6 +158,9 @@ def title_of(lines: Sequence[str], document: Document) -> str:
     if word == "attributes":
         where = f" in {len(edits)} places" if len(edits) > 1 else ""
         return f"attributes of ⟨{document.there(path).name}⟩{where}"
+    if word == "comment":
+        text = short(unescaped(edits[-1].split(" ", 2)[2]))
+        return f"comment “{text}”" if text else "comment away"
     about = document.excerpt(edits[-1], EXCERPT)
     around = f" round “{about}”" if about else ""
     name = f"⟨{edits[-1].split(' ')[-1]}⟩"
@@ -174,7 +180,7 @@ SHAPES = (
 
 def shape_of(edits: Sequence[str]) -> str:
     """What several edits do together, in words; nothing where they are none of these."""
-    words = [line.split(" ") for line in edits if not line.startswith(ATTRIBUTES)]
+    words = [line.split(" ") for line in edits if not line.startswith(BESIDE)]
     shape = "".join(f"{word[0]} " for word in words)
     return next((told.format(words[-1][-1]) for form, told in SHAPES if form.fullmatch(shape)), "")
 

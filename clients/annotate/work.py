@@ -7,6 +7,7 @@ from collections.abc import Callable
 from typing import Any
 
 from attributes import Attributes
+from comments import Comments
 from completions import Completions
 from costs import Costs
 from declared import Declared
@@ -48,6 +49,7 @@ class Work:
         self.completions, self.palette = Completions(editor, self.attributes), Palette(editor.dtd, self.attributes)
         self.pieces = Pieces(editor, self.everywhere)
         self.suggestions = Suggestions(editor, self.around, self.everywhere, self.attributes)
+        self.comments = Comments(editor)
         self.values = Values(editor, self.around, self.attributes, names or Names(None))
         # The windows that show it, and whether the program is about to end.
         self.windows: set[str] = set()
@@ -183,6 +185,8 @@ ASKED: dict[str, Callable[[Work, Any], Told]] = {
     "set-palette": lambda work, ask: work.palette.put(ask),
     "suggestions": lambda work, ask: work.suggestions.told(ask),
     "take-suggestions": lambda work, ask: work.suggestions.tag(ask),
+    "comments": lambda work, ask: work.comments.all(ask),
+    "comment": lambda work, ask: work.comments.put(ask),
     "pieces": lambda work, ask: work.pieces.of(ask),
     "tag-pieces": lambda work, ask: work.pieces.tag(ask, work.attributes.asked(ask)),
     "why": lambda work, ask: work.explainer.of_lists(ask),

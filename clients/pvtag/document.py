@@ -20,6 +20,7 @@ ITEM = re.compile(
     re.S,
 )
 UNIT = re.compile(r"&[^;]*;|.", re.S)
+ESCAPE = re.compile(r"\\(.)")
 NAMED = {"&lt;": "<", "&gt;": ">", "&amp;": "&", "&apos;": "'", "&quot;": '"'}
 WHITE = frozenset(" \t\r\n")
 
@@ -42,7 +43,7 @@ class Node:
     'date'
     """
 
-    __slots__ = ("id", "kind", "owner", "kids", "name", "attrs", "short", "gap", "units", "source", "verdict", "new")
+    __slots__ = ("id", "kind", "owner", "kids", "name", "attrs", "short", "gap", "units", "source", "verdict", "new", "note")
 
     id: int
     kind: str
@@ -56,10 +57,12 @@ class Node:
     source: str
     verdict: str
     new: bool
+    # A comment before an element, beside the session, as it is written; "" where there is none.
+    note: str
 
     def __init__(self, number: int, kind: str) -> None:
         self.id, self.kind, self.owner, self.name, self.kids = number, kind, None, "", NO_KIDS
-        self.verdict, self.new = "valid", False
+        self.verdict, self.new, self.note = "valid", False, ""
 
     @property
     def is_white(self) -> bool:
@@ -104,7 +107,7 @@ class Document:
         """Reads bytes that the session has read; its nodes are numbered from there on."""
         self.numbers = itertools.count(first)
         self.nodes: dict[int, Node] = {}
-        # The attributes that elements had before they were edited: a session knows of no others.
+        # The attributes that elements had before they were edited, and comments that were there: a session knows of no others.
         self.given: dict[int, str] = {}
         self.top = Node(0, ELEMENT)
         self.top.name, self.top.kids, self.nodes[0] = "", [], self.top
@@ -155,7 +158,7 @@ class Document:
         return node
 
     def written(self, others: Mapping[int, str] | None = None) -> str:
-        """The document's text, as the session shows it; with other attributes for some elements, by their numbers."""
+        """The document's text; or as the session shows it, with other attributes and comments for some nodes, by their numbers."""
         out, old = [self.before], others or {}
         todo: list[Node | str] = [self.top.kids[0]]
         while todo:
@@ -165,11 +168,11 @@ class Document:
             elif node.kind == TEXT:
                 out.append("".join(node.units))
             elif node.kind != ELEMENT:
-                out.append(node.source)
+                out.append(old.get(node.id, node.source))
             elif node.short and not node.kids:
-                out.append(f"<{node.name}{old.get(node.id, node.attrs)}/>")
+                out.append(f"{node.note if others is None else ''}<{node.name}{old.get(node.id, node.attrs)}/>")
             else:
-                out.append(f"<{node.name}{old.get(node.id, node.attrs)}>")
+                out.append(f"{node.note if others is None else ''}<{node.name}{old.get(node.id, node.attrs)}>")
                 todo.append(f"</{node.name}{node.gap}>")
                 todo.extend(reversed(node.kids))
         return "".join(out) + self.after
@@ -292,6 +295,24 @@ class Document:
 
         return set_attrs(attrs), lambda: set_attrs(old)
 
+    def comment(self, node: Node, text: str) -> Change:
+        """Puts a comment before an element, or another one in place of one that is there; an empty text takes it away. This is no
+        edit of a session."""
+        is_element = node.kind == ELEMENT
+        if not is_element and not (node.kind == MISC and (node.source.startswith("<!--") or node.id in self.given)):
+            raise KeyError(node.id)
+        old = node.note if is_element else node.source
+        self.given.setdefault(node.id, node.attrs if is_element else old)
+
+        def set_comment(source: str) -> Told:
+            if is_element:
+                node.note = source
+            else:
+                node.source = source
+            return {"comment": node.id, "text": source}
+
+        return set_comment(f"<!--{unescaped(text)}-->" if text else ""), lambda: set_comment(old)
+
     def put(self, owner: Node, start: int, end: int, made: Sequence[Node], told: list[Told] | None = None,
             told_back: list[Told] | None = None) -> Change:
         """Puts these nodes in place of the kids from `start` up to `end`."""
@@ -321,6 +342,16 @@ class Document:
         return rows
 
 
+def unescaped(text: str) -> str:
+    r"""What a line of a script says in one line: `\n` for a line end, and `\\` for `\`."""
+    return ESCAPE.sub(lambda found: "\n" if found[1] == "n" else found[1], text)
+
+
+def escaped(text: str) -> str:
+    """The same back."""
+    return text.replace("\\", "\\\\").replace("\n", "\\n")
+
+
 def told_anew(before: list[Node], after: list[Node]) -> list[int | Told]:
     """Nodes that come in place of others: by their numbers where a copy of the tree has them there."""
     known = {node.id for node in before} | {kid.id for node in before for kid in node.kids}
@@ -346,6 +377,8 @@ def told_of(node: Node, kids: list[int] | None) -> Told:
             told["verdict"] = node.verdict
         if node.new:
             told["new"] = True
+        if node.note:
+            told["note"] = node.note
         if kids:
             told["kids"] = kids
     elif node.kind == TEXT:

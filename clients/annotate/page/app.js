@@ -141,16 +141,16 @@ function takeMove({ changes, verdicts }) {
   const changed = new Map()
   for (const each of changes) {
     const node = app.tree.apply(each)
-    const isTag = "rename" in each || "attributes" in each
-    app.where = node
+    const isTag = "rename" in each || "attributes" in each || "comment" in each
+    app.where = node.kids ? node : node.owner
     if ("list" in each) app.changed = { owner: node, to: [node.kids[each.from] ?? null, 0] }
     changed.set(node, changed.get(node) || isTag)
     const made = each.kids?.find((told) => told.kind === "element")
     if (made) app.made = app.tree.nodes.get(made.id)
-    if (isTag) app.made = node
+    if (isTag && node.kids) app.made = node
   }
   for (const [id, verdict] of Object.entries(verdicts)) app.tree.nodes.get(Number(id)).verdict = verdict
-  for (const [node, renamed] of changed) app.view.redraw(node, renamed)
+  for (const [node, renamed] of changed) app.view.redraw(node, renamed || !node.kids)
   for (const id of Object.keys(verdicts)) app.view.mark(app.tree.nodes.get(Number(id)))
 }
 

@@ -29,6 +29,14 @@ export const empties = new Set()
 // What the DTD's author wrote before the declarations of names.
 export const comments = new Map()
 
+// What is said of a node in a comment: at an element, or as one in the document. A flag is one that says only that.
+export const FLAG = "to check"
+export const isComment = (node) => node.kind === "misc" && node.text.startsWith("<!--")
+export function commentOf(node) {
+  const source = node.kids ? (node.note ?? "") : node.text
+  return source.startsWith("<!--") ? source.slice(4, -3).trim() : ""
+}
+
 // What a list's verdict is called.
 const VERDICTS = { possible: ", not finished", impossible: ", can't be finished" }
 
@@ -75,7 +83,9 @@ export class View {
   // Puts a verdict on a box: its colour, what it is called, and why nothing can mend it, which `explain` fills in.
   judge(node, box) {
     box.dataset.verdict = node.verdict ?? "valid"
-    box.ariaLabel = [`${node.name}${VERDICTS[node.verdict] ?? ""}${node.new ? ", new" : ""}`, spelled(node.attrs ?? "")].filter(Boolean).join(", ")
+    const said = commentOf(node)
+    const parts = [`${node.name}${VERDICTS[node.verdict] ?? ""}${node.new ? ", new" : ""}`, spelled(node.attrs ?? ""), said && `comment: ${said}`]
+    box.ariaLabel = parts.filter(Boolean).join(", ")
     box.querySelector(":scope > .why")?.remove()
     if (node.verdict !== "impossible" || !this.explain) return
     const why = make("span", "why")
@@ -206,7 +216,10 @@ export class View {
 
   // A comment, a processing instruction or a CDATA section.
   leaf(node, name) {
-    return this.put(node, make(name, `leaf ${node.kind}`, entities.get(node.text) ?? node.text))
+    const leaf = this.put(node, make(name, `leaf ${node.kind}`, entities.get(node.text) ?? node.text))
+    leaf.hidden = node.text === ""
+    if (isComment(node)) leaf.dataset.comment = node.id
+    return leaf
   }
 
   put(node, box) {
@@ -221,6 +234,12 @@ export class View {
     if (comments.has(node.name)) tag.title = comments.get(node.name)
     tag.ariaHidden = "true"
     if (node.attrs && form !== "end") tag.append(" ", make("span", "attrs", spelled(node.attrs)))
+    const said = form === "end" ? "" : commentOf(node)
+    if (said) {
+      const sign = make("span", said === FLAG ? "remark flag" : "remark", said === FLAG ? " ⚑" : " ✎")
+      sign.title = said
+      tag.append(sign)
+    }
     return tag
   }
 

@@ -3,6 +3,7 @@ import { tagAgain, tagEverywhere } from "./again.js"
 import { app, catchUp, change, listeners, question, tell } from "./app.js"
 import { ask, Gone, hello, sayBye } from "./ask.js"
 import { closedBecause, goOnward, setDrawer } from "./onward.js"
+import { showComments, toggleFlag } from "./comments.js"
 import { comments, empties, entities } from "./draw.js"
 import { rest, setTouch, takeSelection } from "./choose.js"
 import { openFinder } from "./find.js"
@@ -120,7 +121,7 @@ function toggleMore(isOpen) {
 
 const DO = {
   next: () => goToNext(1), undo: () => act("undo"), redo: () => act("redo"), save: () => act("save"),
-  tags: toggleTags, history: showHistory, list: showElements, lacks: showMissing, colours: showPalette, before: showSuggestions, search: openFinder, preview: showPreview, help: () => button("keys").showModal(),
+  tags: toggleTags, history: showHistory, list: showElements, lacks: showMissing, colours: showPalette, before: showSuggestions, said: showComments, search: openFinder, preview: showPreview, help: () => button("keys").showModal(),
 }
 for (const [id, call] of Object.entries(DO)) button(id).addEventListener("click", call)
 button("more").addEventListener("click", () => toggleMore())
@@ -141,7 +142,8 @@ document.addEventListener("keydown", (event) => {
   const key = event.key.toLowerCase()
   const command = event.ctrlKey || event.metaKey
   if (event.isComposing || document.querySelector("dialog[open]")) return
-  if (key === "f7" && event.shiftKey) tagAll()
+  if (key === "f2") toggleFlag()
+  else if (key === "f7" && event.shiftKey) tagAll()
   else if (key === "f7") openSuggestions()
   else if (key === "f9" && goOnward(event.shiftKey)) closeMenu()
   else if (key === "f8") goToNext(event.shiftKey ? -1 : 1)

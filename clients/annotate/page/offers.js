@@ -3,7 +3,8 @@
 import { app, change, listeners, question, tell } from "./app.js"
 import { ask } from "./ask.js"
 import { boxOfChosen, boxRoundChosen, caretIn, choose, chosen, flash, isByTouch, rest } from "./choose.js"
-import { empties } from "./draw.js"
+import { openComment } from "./comments.js"
+import { commentOf, empties } from "./draw.js"
 import { isLocked, sayLocked } from "./lock.js"
 import { openAttributes } from "./attributes.js"
 import { openEverywhere } from "./again.js"
@@ -119,6 +120,7 @@ function choicesFor(node) {
     choices.push({ label: "Delete with content", take: () => askToDelete(node) })
   }
   choices.push({ label: "Attributes", note: node.attrs ?? "", take: () => openAttributes(node) })
+  choices.push({ label: "Comment", note: commentOf(node), take: () => openComment(node) })
   choices.push({ label: "To the palette", take: () => toPalette(node) })
   const text = textOf(node)
   const everywhere = { label: "The same on all places of this text", take: () => openEverywhere(node.name, text, node) }

@@ -56,6 +56,11 @@ export class Tree {
       node.attrs = change.attrs
       return node
     }
+    if ("comment" in change) {
+      const node = this.nodes.get(change.comment)
+      node[node.kids ? "note" : "text"] = change.text
+      return node
+    }
     const owner = this.nodes.get(change.list)
     this.pieced = []
     const nodes = change.kids.map((told) => this.given(told))
@@ -120,7 +125,7 @@ export class Tree {
     while (todo.length) {
       const [depth, node] = todo.pop()
       const references = Object.entries(node.refs ?? {}).map(([at, source]) => `${at}=${source}`).join("")
-      rows.push([depth, node.kind, node.name ?? "", node.attrs ?? "", node.text ?? "", references].join("\0") + "\n")
+      rows.push([depth, node.kind, node.name ?? "", node.attrs ?? "", node.note ?? "", node.text ?? "", references].join("\0") + "\n")
       for (const kid of (node.kids ?? []).toReversed()) todo.push([depth + 1, kid])
     }
     const sum = await crypto.subtle?.digest("SHA-256", new TextEncoder().encode(rows.join("")))

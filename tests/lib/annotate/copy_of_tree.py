@@ -28,6 +28,9 @@ class Copy:
             self.nodes[change["rename"]]["name"] = change["name"]
         elif "attributes" in change:
             self.nodes[change["attributes"]]["attrs"] = change["attrs"]
+        elif "comment" in change:
+            node = self.nodes[change["comment"]]
+            node["note" if node["kind"] == "element" else "text"] = change["text"]
         else:
             kids = self.nodes[change["list"]]["kids"]
             kids[change["from"]:change["to"]] = [self.given(told) for told in change["kids"]]
@@ -52,11 +55,13 @@ class Copy:
                 else:
                     rows.append((depth, "text", node["text"], False))
             elif node["kind"] == "element":
+                if node.get("note"):
+                    rows.append((depth, "misc", node["note"], True))
                 rows.append((depth, node["name"], node.get("attrs", "") or "", True))
                 todo.append((depth, {"kind": "end"}))
                 todo.extend((depth + 1, kid) for kid in reversed(node["kids"]))
             elif node["kind"] == "end":
                 rows.append((depth, "/", "", True))
-            else:
+            elif node["text"]:
                 rows.append((depth, node["kind"], node["text"], True))
         return rows

@@ -354,4 +354,43 @@ def completes_values(driver, program):
         page.press("#everywhere .close")
 
 
-CASES = [tags_each_line, takes_rows_by_digits, lists_what_is_missing, keeps_words_in_sight, has_a_palette, tells_reasons_one_can_read, suggests_tags, copies_over_tags, tags_places_with_attributes, takes_attributes_behind_a_name, tags_all_suggestions, completes_values]
+def puts_comments(driver, program):
+    """A comment by a tag's menu, a flag by its key, one that stands there changed by a click; all in a list, and written at Save."""
+    body = "<body><!-- whose? --><p>I met <person>Mr Adams</person>.</p></body>"
+    with Server(program, LETTER.replace(BODY, body)) as server:
+        page = Page(driver, server.url)
+        page.click_tag("person")
+        page.open_menu()
+        page.keys("comment", Keys.ENTER)
+        soon(lambda: page.find("#comment").is_displayed(), True, "the form")
+        page.keys("the elder--or")
+        page.press("#comment .set")
+        soon(lambda: page.find("#comment .refusal").text, lambda text: "no two hyphens" in text, "what can't stand in one is told")
+        page.js("document.querySelector('#comment textarea').value = 'the elder?'")
+        page.find("#comment textarea").click()
+        page.keys(Keys.CONTROL, Keys.ENTER)
+        soon(lambda: page.texts(".tag .remark"), [" ✎"], "it has a sign")
+        same(page.js("return document.querySelector('.tag .remark').title"), "the elder?", "that says it")
+        page.click_tag("salute")
+        page.open_menu()
+        page.keys(Keys.ESCAPE)
+        page.keys(Keys.F2)
+        soon(lambda: page.texts(".tag .flag"), [" ⚑"], "a flag")
+        soon(lambda: page.js("return document.querySelector('[aria-label^=salute]').ariaLabel"), "salute, comment: to check", "for those who hear it")
+        page.press("#document [data-comment]")
+        soon(lambda: page.js("return document.querySelector('#comment textarea').value"), "whose?", "the one that stands there")
+        page.press("#comment .drop")
+        soon(lambda: page.js("return document.querySelector('#document [data-comment]') === null"), True, "it is away")
+        page.press("#said")
+        soon(lambda: page.texts("#remarks li"), ["salute ⚑ to check", "person the elder?"], "all of them")
+        page.keys(Keys.CONTROL, "z")
+        soon(lambda: page.texts("#remarks li .note"), ["⚑ to check", "whose?", "the elder?"], "taken back")
+        page.press("#remarks li button", 2)
+        soon(lambda: page.texts(".chosen > .tag:not(.end)"), ["person ✎"], "a click goes there")
+        page.keys(Keys.CONTROL, "s")
+        soon(lambda: page.find("#save").text, "Saved", "saved")
+        want = LETTER.replace(BODY, body).replace("<salute>", "<!-- to check --><salute>").replace("<person>", "<!-- the elder? --><person>")
+        same(server.text(), want, "the file")
+
+
+CASES = [tags_each_line, takes_rows_by_digits, lists_what_is_missing, keeps_words_in_sight, has_a_palette, tells_reasons_one_can_read, suggests_tags, copies_over_tags, tags_places_with_attributes, takes_attributes_behind_a_name, tags_all_suggestions, completes_values, puts_comments]
