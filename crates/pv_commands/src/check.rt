@@ -187,6 +187,28 @@ fn judge_by<'a>(alloc: Global, grammar: &'a Grammar, plan: &'a Option<Plan>) -> 
     }
 }
 
+// Whether inserting elements can make a document valid for this grammar.
+fn check_by<L: Ledger>(
+    rt: &(impl Threads + Sync),
+    alloc: Global,
+    grammar: &Grammar,
+    root: &[u8],
+    bytes: &[u8],
+    steps: &mut Steps<L>,
+) -> Result<Response, Stop>
+    ensures finds { TakesCourse
+        (BehindDocument IsCheckCourse root.now (dtd_of grammar.now, bytes.now)) result }
+    ensures checks { CountsJudged (judging_stage root.now (dtd_of grammar.now) bytes.now)
+        lists_judged CountsNoMore (ending_of result) steps.old steps.new }
+{
+    let plan = plan_for(alloc, grammar, root, bytes)?;
+    let judge = judge_by(alloc, grammar, &plan);
+    match check_text(&judge, root, bytes, steps) {
+        Ok(told) => respond_told(alloc, told),
+        Err(error) => check_again(rt, &judge, root, bytes, error, steps),
+    }
+}
+
 /// Whether inserting elements can make a document valid for a DTD.
 pub fn check<L: Ledger>(
     rt: &(impl Threads + Sync),
@@ -203,10 +225,5 @@ pub fn check<L: Ledger>(
 {
     let Fetched { dtd, bytes } = fetched;
     let grammar = build(alloc, dtd)?;
-    let plan = plan_for(alloc, &grammar, root, &bytes)?;
-    let judge = judge_by(alloc, &grammar, &plan);
-    match check_text(&judge, root, &bytes, steps) {
-        Ok(told) => respond_told(alloc, told),
-        Err(error) => check_again(rt, &judge, root, &bytes, error, steps),
-    }
+    check_by(rt, alloc, &grammar, root, &bytes, steps)
 }

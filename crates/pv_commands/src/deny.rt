@@ -8,6 +8,7 @@ ghost use Rattle.pv_opening.specs.Opening.{IsFile};
 ghost use Rattle.pv_commands.specs.Returns.{CountsNone, FindsOver};
 ghost use Rattle.pv_opening.specs.Returns.{Returns, ReturnsOver, TellsBy};
 ghost use Rattle.pv_dtd.specs.PlainForms.{plain_dtd};
+ghost use Rattle.pv_productive.specs.PlainForms.{dtd_of};
 ghost use Rattle.pv_tree.specs.PlainDocs.{plain_doc};
 
 use pv_denial::laws::denied_law;
@@ -20,7 +21,7 @@ use pv_missing::laws::proper::proper_doc_law;
 use pv_opening::{
     Named, Opened, Response, Status, Stop, fetch, open_files, refuse, refuse_item, refuse_path,
 };
-use pv_productive::build;
+use pv_productive::{Grammar, build};
 use pv_tree::{Doc, Mark};
 use std::alloc::Global;
 use std::mem::forget;
@@ -63,16 +64,21 @@ fn flaw_text(flaw: Flaw) -> &'static [u8]
     }
 }
 
-// Whether the denial shows that no insertions can make the document valid.
-fn tell(alloc: Global, dtd: Dtd, doc: &Doc, root: &[u8], denial: &Denial) -> Result<Response, Stop>
-    ensures { TellsBy (TellsJudgement root.now (plain_dtd dtd) (plain_doc doc.now) denial.now)
+// Whether the denial shows that no insertions can make the document valid, for this grammar.
+fn tell_by(
+    alloc: Global,
+    grammar: &Grammar,
+    doc: &Doc,
+    root: &[u8],
+    denial: &Denial,
+) -> Result<Response, Stop>
+    ensures { TellsBy (TellsJudgement root.now (dtd_of grammar.now) (plain_doc doc.now) denial.now)
         result }
 {
-    let grammar = build(alloc, dtd)?;
     proper_dtd_law(grammar.dtd());
     proper_doc_law(doc);
     denied_law::<Mark>();
-    match judge(alloc, &grammar, root, doc, denial) {
+    match judge(alloc, grammar, root, doc, denial) {
         Ok(Judged::Denied) => Ok(Response::with_path(
             alloc,
             Status::Done,
@@ -93,6 +99,15 @@ fn tell(alloc: Global, dtd: Dtd, doc: &Doc, root: &[u8], denial: &Denial) -> Res
         )),
         Err(JudgeError::NoMemory) => Err(Stop::NoMemory),
     }
+}
+
+// The same, for this DTD.
+fn tell(alloc: Global, dtd: Dtd, doc: &Doc, root: &[u8], denial: &Denial) -> Result<Response, Stop>
+    ensures { TellsBy (TellsJudgement root.now (plain_dtd dtd) (plain_doc doc.now) denial.now)
+        result }
+{
+    let grammar = build(alloc, dtd)?;
+    tell_by(alloc, &grammar, doc, root, denial)
 }
 
 /// Whether a denial shows that no insertions can make a document valid for a DTD, whoever made the

@@ -7,6 +7,7 @@ ghost use Rattle.pv_opening.specs.Judging.{CountsJudged, CountsNoMore, judging_s
 ghost use Rattle.pv_opening.specs.Possibility.{width_stage};
 ghost use Rattle.pv_opening.specs.Returns.{TakesCourse, TellsBy, ending_of, plain_fetched};
 ghost use Rattle.pv_commands.specs.Why.{IsWhyCourse, TellsWhy};
+ghost use Rattle.pv_dtd.specs.PlainForms.{plain_dtd};
 ghost use Rattle.pv_fresh.specs.Answers.{IsImpossibleAt};
 ghost use Rattle.pv_productive.specs.PlainForms.{dtd_of};
 ghost use Rattle.pv_tree.specs.Lists.{lists_of};
@@ -14,10 +15,11 @@ ghost use Rattle.pv_tree.specs.PlainDocs.{plain_doc};
 
 use pv_denial_text::write_denial;
 use pv_deny::{DenyError, denial_by};
+use pv_dtd::Dtd;
 use pv_opening::{
     Fetched, Opened, Response, Status, Stop, narrow_verdicts_by, open_document, refuse,
 };
-use pv_productive::build;
+use pv_productive::{Grammar, build};
 use pv_reach::{Judge, Plan};
 use pv_steps::Steps;
 use pv_tree::{Doc, Path};
@@ -66,6 +68,45 @@ fn tell<L: Ledger>(
     }
 }
 
+// The same, for a grammar, whose rules are laid out once, for the verdicts and for the table.
+fn tell_by<L: Ledger>(
+    rt: &(impl Threads + Sync),
+    alloc: Global,
+    grammar: &Grammar,
+    doc: &Doc,
+    root: &[u8],
+    steps: &mut Steps<L>,
+) -> Result<Response, Stop>
+    ensures tells { (opened : PlainOpened) → opened.dtd ≡ dtd_of grammar.now →
+        opened.doc ≡ plain_doc doc.now → TakesCourse (IsWhyCourse root.now opened) result }
+    ensures counts { CountsJudged (width_stage (dtd_of grammar.now) (plain_doc doc.now))
+        (λ _. length (lists_of (plain_doc doc.now))) CountsNoMore (ending_of result)
+        steps.old steps.new }
+{
+    let plan = Plan::of(alloc, grammar)?;
+    let judge = Judge::new(alloc, grammar, &plan);
+    tell(rt, &judge, doc, root, steps)
+}
+
+// The same, for a DTD.
+fn tell_for<L: Ledger>(
+    rt: &(impl Threads + Sync),
+    alloc: Global,
+    dtd: Dtd,
+    doc: &Doc,
+    root: &[u8],
+    steps: &mut Steps<L>,
+) -> Result<Response, Stop>
+    ensures tells { (opened : PlainOpened) → opened.dtd ≡ plain_dtd dtd →
+        opened.doc ≡ plain_doc doc.now → TakesCourse (IsWhyCourse root.now opened) result }
+    ensures counts { CountsJudged (width_stage (plain_dtd dtd) (plain_doc doc.now))
+        (λ _. length (lists_of (plain_doc doc.now))) CountsNoMore (ending_of result)
+        steps.old steps.new }
+{
+    let grammar = build(alloc, dtd)?;
+    tell_by(rt, alloc, &grammar, doc, root, steps)
+}
+
 /// Why no insertions can make a document valid for a DTD: its first impossible list, the cause, and
 /// where that is its word a table that shows it. The rules of the grammar are laid out once, for
 /// the verdicts and for the table. The document is never freed.
@@ -83,10 +124,7 @@ pub fn why<L: Ledger>(
         steps.old steps.new }
 {
     let Opened { dtd, doc, .. } = open_document(alloc, fetched, root)?;
-    let grammar = build(alloc, dtd)?;
-    let plan = Plan::of(alloc, &grammar)?;
-    let judge = Judge::new(alloc, &grammar, &plan);
-    let response = tell(rt, &judge, &doc, root, steps);
+    let response = tell_for(rt, alloc, dtd, &doc, root, steps);
     forget(doc);
     response
 }
