@@ -5,8 +5,9 @@ search that inserts elements, and those of `weights.py`, with its costs of deriv
 a session, or two numbers with this one between them; what is impossible is told with the same path. Wide ones are documents under the DTDs of
 examples/, under DocBook and XHTML where they are installed, and under made DTDs, of which many tags were taken away: no more elements may be
 missing than were taken. What `pvlong complete` prints is `valid`, for xmllint too where it is installed; it keeps all texts and tags in their order,
-has as many elements more as `need` tells at most, and its status tells whether that is the least number. Files in fault are refused as `check`
-refuses them. Prints each difference, how often the number was exact, and how many cases passed; ends with 1 where one failed.
+has as many elements more as `need` tells at most, and its status tells whether that is the least number. At least as many are missing as `check`
+counts lists, and a valid document is printed as it is. Files in fault are refused as `check` refuses them. Prints each difference, how often the
+number was exact, and how many cases passed; ends with 1 where one failed.
 """
 import os
 import random
@@ -99,7 +100,7 @@ def judge(both: Programs, dtd: str, root: str, text: str, original: str = "") ->
     if told.most == NEVER:
         same((status, body.decode()), (1 if told.line.startswith("no impossible ") else 8, told.line), "complete")
         return told
-    same(status, int(told.least < told.most), "the status of complete")
+    same(status, 11 if told.least < told.most else 0, "the status of complete")
     if original and shutil.which("xmllint"):
         write("body.xml", body.decode())
         same(both.run([both.pvtag, "valid", dtd, root, "body.xml"]), (0, b"valid\n"), "the body")
@@ -107,6 +108,12 @@ def judge(both: Programs, dtd: str, root: str, text: str, original: str = "") ->
     else:
         completions.check_valid(both.pvtag, dtd, root, body.decode())
     check_kept(text, body.decode(), int(told.most))
+    _, line = both.run([both.pvtag, "check", dtd, root, "d.xml"])
+    if line == b"valid\n":
+        same((told.line, body.decode()), ("need 0\n", text), "a valid document")
+    else:
+        found = re.fullmatch(rb"possible (\d+)\n", line)
+        need(found and told.least >= int(found[1]), f"{told.line!r} for {line!r}")
     return told
 
 

@@ -55,7 +55,7 @@ def page_asks(program, other=None):
 def page_tells_ranges(program):
     """A range, and nothing where nothing is told."""
     with Beside(program) as beside, asked_on(beside) as (completions, editor):
-        beside.tells("0 need 1 to 2", "1 ")
+        beside.tells("0 need 1 to 2", "11 ")
         same(completions.wide.need(editor.version), {"version": editor.version, "least": 1, "most": 2}, "a range")
         told = completions.preview()
         same((told["new"], told["least"]), (2, False), "a completion that may not be least")
@@ -138,7 +138,7 @@ def command_completes(program, other=None):
         with open(path, "w", encoding="utf-8") as file:
             file.write(WIDE)
         words = [sys.executable, os.path.join(TOP, "clients", "complete"), "--program", beside.program, ARTICLE, "doc", path]
-        for answer, status, document, said in (("0 ", 0, VALID, ""), ("1 ", 0, VALID, "fewer elements may be enough"),
+        for answer, status, document, said in (("0 ", 0, VALID, ""), ("11 ", 0, VALID, "fewer elements may be enough"),
                                                ("8 no limit", 8, "", "too many kids"))[:1 if other else 3]:
             if other is None:
                 beside.tells("0 need 2", answer)

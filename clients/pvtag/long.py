@@ -13,6 +13,8 @@ __all__ = ("Counted", "Inserted")
 
 # The most that a run may take, in seconds.
 MOST = 60.0
+# The status of a document to which fewer insertions might lead.
+NOT_LEAST = 11
 # One run at a time.
 TURN = threading.Lock()
 
@@ -54,7 +56,7 @@ def need(program: list[str], dtd: str, root: str, document: str, runs: Running) 
 def complete(program: list[str], dtd: str, root: str, document: str, runs: Running) -> Inserted | None:
     """The document with what is missing."""
     answer = asked(program, runs, "complete", dtd, root, document)
-    if answer is None or answer.status not in (0, 1) or answer.output.startswith(b"no "):
+    if answer is None or answer.status not in (0, NOT_LEAST):
         return None
     return Inserted(answer.output, answer.status == 0)
 

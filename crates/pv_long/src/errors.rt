@@ -20,10 +20,11 @@ pub enum LongError {
     #[error("a list is too wide")]
     TooWide(Path),
     /// The fronts of a list would take more than 33,554,432 reaches in all, or the completed
-    /// document more than a gibibyte.
+    /// document more than a gibibyte. The document can be made valid.
     #[error("the document passes a limit")]
     TooMany,
-    /// What was made isn't the text of a completion. No document is known of which this is told.
+    /// What was made isn't the text of a completion, though there is one. No document is known of
+    /// which this is told.
     #[error("what was made doesn't pass its check")]
     Unproved,
     /// There was too little memory to go on.

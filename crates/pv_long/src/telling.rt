@@ -1,6 +1,6 @@
 //! How many elements are missing in a document, told by two bounds.
 
-ghost use Rattle.std.specs.Prelude.{◌≡◌, ◌<◌, IfErr, IfOk};
+ghost use Rattle.std.specs.Prelude.{◌≡◌, ◌<◌, ◌≤◌, IfErr, IfOk, max};
 ghost use Rattle.pv_dtd.specs.PlainForms.{plain_dtd};
 ghost use Rattle.pv_productive.specs.PlainForms.{dtd_of};
 ghost use Rattle.pv_tree.specs.Marks.{blank_mark};
@@ -8,7 +8,9 @@ ghost use Rattle.pv_tree.specs.Plain.{PlainDoc};
 ghost use Rattle.pv_tree.specs.PlainDocs.{plain_doc};
 ghost use Rattle.pv_tree.specs.declared.nodes.Mark.{Mark};
 ghost use Rattle.pv_read.specs.Meaning.{DocumentMeans, is_document};
-ghost use Rattle.pv_long.specs.Told.{AreMissing, IsCompletion, IsMissing, TellsNone};
+ghost use Rattle.pv_missing.specs.Verdicts.{possible_in};
+ghost use Rattle.pv_fresh.specs.Answers.{HasPossibility};
+ghost use Rattle.pv_long.specs.Told.{AreMissing, IsCompletion, IsMissing, IsOwnText, TellsNone};
 
 use crate::answers::{Completion, Missing};
 use crate::bounding::bound_doc;
@@ -20,9 +22,13 @@ use pv_dtd::Dtd;
 use pv_fresh::{PossibleError, possible_verdicts};
 use pv_layout::lay_out;
 use pv_missing::Verdicts;
-use pv_missing::laws::documents::bounds_add_up_law;
+use pv_missing::laws::documents::{
+    bounds_add_up_law, extensions_complete_law, possible_missing_law,
+};
 use pv_missing::laws::proper::proper_doc_law;
+use pv_missing::laws::verdicts::none_possible_law;
 use pv_productive::Grammar;
+use pv_read::laws::wider_limits_law;
 use pv_tree::{Doc, Mark};
 use std::alloc::Global;
 
@@ -33,7 +39,9 @@ fn verdicts_of(
     root: &[u8],
     doc: &Doc,
 ) -> Result<Verdicts, LongError>
-    ensures { IfErr result (TellsNone (dtd_of grammar.now) root.now (plain_doc doc.now)) }
+    ensures possible { IfOk result (HasPossibility root.now (dtd_of grammar.now)
+        (plain_doc doc.now)) }
+    ensures refused { IfErr result (TellsNone (dtd_of grammar.now) root.now (plain_doc doc.now)) }
 {
     match possible_verdicts(alloc, grammar, root, doc) {
         Ok(verdicts) => Ok(verdicts),
@@ -65,7 +73,18 @@ fn completion_of(
     Ok(Completion { count, marks, body })
 }
 
-// A number that no completion of a document passes from above, and one of them.
+// The greater one of a bound that was added up and the number of the Possible lists.
+fn least_of(bound: u32, verdicts: &Verdicts) -> Result<u32, MakeError>
+    ensures { IfOk result (λ least. least ≡ max bound (possible_in verdicts.now.verdicts)) }
+{
+    let Ok(left) = u32::try_from(verdicts.left()) else {
+        return Err(MakeError::TooMany);
+    };
+    Ok(u32::max(bound, left))
+}
+
+// A number that no completion of a document passes from above, no fewer than its Possible lists,
+// and one of its completions.
 fn bounds_of(
     alloc: Global,
     grammar: &Grammar,
@@ -74,18 +93,23 @@ fn bounds_of(
     bytes: &[u8],
     verdicts: &Verdicts,
 ) -> Result<(u32, Completion), MakeError>
-    requires { DocumentMeans blank_mark root.now bytes.now (is_document (plain_doc doc.now)) }
+    requires text { DocumentMeans blank_mark root.now bytes.now (is_document (plain_doc doc.now)) }
+    requires possible { HasPossibility root.now (dtd_of grammar.now) (plain_doc doc.now)
+        verdicts.now }
     ensures least { IfOk result (λ found.
         AreMissing (dtd_of grammar.now) root.now (plain_doc doc.now) found.0) }
+    ensures lists { IfOk result (λ found. possible_in verdicts.now.verdicts ≤ found.0) }
     ensures completion { IfOk result (λ found.
         IsCompletion (dtd_of grammar.now) root.now (plain_doc doc.now) found.1) }
 {
     bounds_add_up_law::<Mark>();
+    possible_missing_law::<Mark>();
     proper_doc_law(doc);
     let dtd = grammar.dtd();
     let layout = lay_out(alloc, grammar)?;
     let plan = plan_of(alloc, &layout)?;
     let found = bound_doc(alloc, &plan, root, doc, verdicts)?;
+    let least = least_of(found.least, verdicts)?;
     let plenty = Plenty {
         dtd,
         verdicts,
@@ -93,12 +117,55 @@ fn bounds_of(
     };
     let text = write_doc(alloc, plenty, doc)?;
     let completion = completion_of(alloc, dtd, root, bytes, text)?;
-    Ok((found.least, completion))
+    Ok((least, completion))
+}
+
+// The completion of a valid document: nothing is new in it.
+fn own_text(alloc: Global, bytes: &[u8]) -> Result<Completion, MakeError>
+    ensures { IfOk result (IsOwnText bytes.now) }
+{
+    let body = Vec::from_slice(alloc, bytes)?;
+    Ok(Completion {
+        count: 0,
+        marks: Vec::new(alloc),
+        body,
+    })
+}
+
+// What is missing in a document that can be completed, by the verdicts of its lists.
+fn missing_by(
+    alloc: Global,
+    grammar: &Grammar,
+    root: &[u8],
+    doc: &Doc,
+    bytes: &[u8],
+    verdicts: &Verdicts,
+) -> Result<Missing, MakeError>
+    requires text { DocumentMeans blank_mark root.now bytes.now (is_document (plain_doc doc.now)) }
+    requires possible { HasPossibility root.now (dtd_of grammar.now) (plain_doc doc.now)
+        verdicts.now }
+    ensures { IfOk result (IsMissing (dtd_of grammar.now) root.now (plain_doc doc.now)
+        bytes.now) }
+{
+    none_possible_law::<Mark>();
+    extensions_complete_law::<Mark, Mark>();
+    wider_limits_law();
+    proper_doc_law(doc);
+    if verdicts.left() == 0 {
+        return Ok(Missing::Exactly(own_text(alloc, bytes)?));
+    }
+    let (least, completion) = bounds_of(alloc, grammar, root, doc, bytes, verdicts)?;
+    if least < completion.count {
+        Ok(Missing::Between(least, completion))
+    } else {
+        Ok(Missing::Exactly(completion))
+    }
 }
 
 /// How many elements are missing in a document, which these bytes are, where the root's name is
 /// this one: a completion, whose number is known to be least, or a bound that no completion passes
-/// from above and a completion that inserts more. The document stays as it is.
+/// from above and a completion that inserts more. The bound is at least the number of the Possible
+/// lists, and a valid document is its own completion. The document stays as it is.
 ///
 /// A list may be as wide as a verdict allows. New elements are written as `complete` of pv_complete
 /// writes them. That something is told isn't promised: see `LongError`.
@@ -110,14 +177,10 @@ pub fn missing(
     bytes: &[u8],
 ) -> Result<Missing, LongError>
     requires { DocumentMeans blank_mark root.now bytes.now (is_document (plain_doc doc.now)) }
-    ensures told { IfOk result (IsMissing (dtd_of grammar.now) root.now (plain_doc doc.now)) }
+    ensures told { IfOk result (IsMissing (dtd_of grammar.now) root.now (plain_doc doc.now)
+        bytes.now) }
     ensures refused { IfErr result (TellsNone (dtd_of grammar.now) root.now (plain_doc doc.now)) }
 {
     let verdicts = verdicts_of(alloc, grammar, root, doc)?;
-    let (least, completion) = bounds_of(alloc, grammar, root, doc, bytes, &verdicts)?;
-    if least < completion.count {
-        Ok(Missing::Between(least, completion))
-    } else {
-        Ok(Missing::Exactly(completion))
-    }
+    Ok(missing_by(alloc, grammar, root, doc, bytes, &verdicts)?)
 }

@@ -1,3 +1,4 @@
 pub mod Answering
+pub mod Exits
 pub mod Requests
 pub mod Telling

@@ -8,14 +8,14 @@ ghost use Rattle.pv_read.specs.Meaning.{DocumentMeans, is_document};
 ghost use Rattle.pv_opening.specs.Returns.{TakesCourse, TellsBy, plain_fetched};
 ghost use Rattle.pvlong.specs.Answering.{FindsAnswer, AnswersFetched};
 ghost use Rattle.pvlong.specs.Requests.{plain_request};
-ghost use Rattle.pvlong.specs.Telling.{TellsFor};
+ghost use Rattle.pvlong.specs.Telling.{TellsFor, not_least_in, response_in};
 
 use crate::requests::{Question, Request};
-use crate::telling::{refuse_missing, response_to};
+use crate::telling::{Told, refuse_missing, response_to};
 use pv_dtd::Dtd;
 use pv_io::Shelf;
 use pv_long::missing;
-use pv_opening::{Fetched, Opened, Response, Stop, fetch_files, open_document};
+use pv_opening::{Fetched, Opened, Stop, fetch_files, open_document};
 use pv_productive::build;
 use pv_tree::Doc;
 use std::alloc::Global;
@@ -29,13 +29,14 @@ fn tell(
     root: &[u8],
     doc: &Doc,
     bytes: &[u8],
-) -> Result<Response, Stop>
+) -> Result<Told, Stop>
     requires { DocumentMeans blank_mark root.now bytes.now (is_document (plain_doc doc.now)) }
-    ensures { TellsBy (TellsFor question root.now (plain_dtd dtd) (plain_doc doc.now)) result }
+    ensures { TellsBy (TellsFor question root.now (plain_dtd dtd) (plain_doc doc.now) bytes.now
+        (not_least_in result)) (response_in result) }
 {
     let grammar = build(alloc, dtd)?;
     match missing(alloc, &grammar, root, doc, bytes) {
-        Ok(told) => Ok(response_to(alloc, question, told)?),
+        Ok(found) => Ok(response_to(alloc, question, found)?),
         Err(error) => Err(refuse_missing(alloc, error)),
     }
 }
@@ -46,21 +47,18 @@ fn answer_fetched(
     question: Question,
     fetched: Fetched,
     root: &[u8],
-) -> Result<Response, Stop>
-    ensures { TakesCourse (AnswersFetched question root.now (plain_fetched fetched)) result }
+) -> Result<Told, Stop>
+    ensures { TakesCourse (AnswersFetched question root.now (plain_fetched fetched)
+        (not_least_in result)) (response_in result) }
 {
     let Opened { dtd, bytes, doc } = open_document(alloc, fetched, root)?;
-    let response = tell(alloc, question, dtd, root, &doc, &bytes);
+    let told = tell(alloc, question, dtd, root, &doc, &bytes);
     forget(doc);
-    response
+    told
 }
 
 /// Answers a request over the files that it names.
-pub fn answer<H: Shelf>(
-    alloc: Global,
-    shelf: &mut H,
-    request: &Request<'_>,
-) -> Result<Response, Stop>
+pub fn answer<H: Shelf>(alloc: Global, shelf: &mut H, request: &Request<'_>) -> Result<Told, Stop>
     requires dtd_named { Contains (H.names shelf.old) request.now.named.dtd.now }
     requires doc_named { Contains (H.names shelf.old) request.now.named.doc.now }
     ensures finds { FindsAnswer (Some (plain_request request.now))

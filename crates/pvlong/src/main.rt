@@ -3,10 +3,11 @@
 //! document, also where a list is too wide to weigh, and prints a completed document
 //! (`specs/Telling.antt`): by two bounds, which mostly meet (of `pv_long`). By its words it opens
 //! the files in the order of work (of `pv_opening`); `specs/Answering.antt` says what comes of
-//! them.
+//! them, and `specs/Exits.antt` with which status it ends.
 #![tactic(auto)]
 
 mod answering;
+mod exits;
 mod program;
 mod requests;
 mod telling;
@@ -15,12 +16,12 @@ ghost use Rattle.std.specs.Prelude.{◌≡◌, true};
 ghost use Rattle.std.specs.Process.{exit_status};
 ghost use Rattle.pv_io.specs.Files.{byte_lists, fetch_names};
 ghost use Rattle.pv_opening.specs.Devices.{output_at};
-ghost use Rattle.pv_opening.specs.Status.{code_of};
 ghost use Rattle.pvlong.specs.Answering.{AnswersHere, AnswersWords};
+ghost use Rattle.pvlong.specs.Exits.{exit_code};
 
+use crate::exits::Exit;
 use crate::program::pvlong;
 use pv_io::{FolderShelf, Shelf, Sink, WriteSink};
-use pv_opening::Status;
 use std::alloc::Global;
 use std::process::ExitCode;
 use std::rt::{Env, Files};
@@ -37,25 +38,25 @@ fn words_of(rt: &(impl Env + AllocGlobal), alloc: Global) -> io::Result<Vec<Stri
     Ok(words)
 }
 
-/// Runs the program over these devices, and ends with the number of its status.
+/// Runs the program over these devices, and ends with the number of its exit.
 fn run<H: Shelf, K: Sink>(alloc: Global, words: &[String], shelf: &mut H, out: &mut K) -> ExitCode
     requires names { H.names shelf.old ≡ fetch_names words.now }
     requires ready { K.ready out.old ≡ true }
-    ensures { (status : Status) × (exit_status result ≡ code_of status) ×
+    ensures { (exit : Exit) × (exit_status result ≡ exit_code exit) ×
         AnswersWords (byte_lists words.now)
         (H.moment shelf.old) (H.moment shelf.new)
         (output_at (K.written out.old) (K.faults out.old))
-        (output_at (K.written out.new) (K.faults out.new)) status }
+        (output_at (K.written out.new) (K.faults out.new)) exit }
 {
-    let status = pvlong(alloc, words, shelf, out);
-    ExitCode::from(status.code())
+    let exit = pvlong(alloc, words, shelf, out);
+    ExitCode::from(exit.code())
 }
 
 // Runs the program over the machine's files and its output: what these hold isn't told, but what
 // their counts show is that of an answer.
 fn run_here<R: Files + AllocGlobal + Print>(rt: &R, words: &[String]) -> ExitCode
-    ensures { (status : Status) × (exit_status result ≡ code_of status)
-        × AnswersHere (byte_lists words.now) status }
+    ensures { (exit : Exit) × (exit_status result ≡ exit_code exit)
+        × AnswersHere (byte_lists words.now) exit }
 {
     let mut shelf = FolderShelf::new(rt, words);
     let mut out = WriteSink::new(io::writer(rt));

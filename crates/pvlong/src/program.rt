@@ -6,19 +6,35 @@ ghost use Rattle.pv_opening.specs.Devices.{output_at};
 ghost use Rattle.pv_opening.specs.Response.{with_line};
 ghost use Rattle.pv_opening.specs.Returns.{TellsBy};
 ghost use Rattle.pv_opening.specs.declared.status.Status.TheVariants.{Usage};
-ghost use Rattle.pvlong.specs.Answering.{AnswersWords};
+ghost use Rattle.pvlong.specs.Answering.{AnswersWords, EndsWith};
 ghost use Rattle.pvlong.specs.Requests.{files_asked, request_of};
+ghost use Rattle.pvlong.specs.Telling.{response_in};
 
 use crate::answering::answer;
+use crate::exits::Exit;
 use crate::requests::request_of;
+use crate::telling::Told;
 use pv_io::{Shelf, Sink};
 use pv_opening::{Response, Status, Stop, respond};
 use std::alloc::Global;
 
-fn usage(alloc: Global) -> Result<Response, Stop>
-    ensures { TellsBy (λ r. r ≡ with_line Usage (codes "usage")) result }
+fn usage(alloc: Global) -> Result<Told, Stop>
+    ensures { TellsBy (λ r. r ≡ with_line Usage (codes "usage")) (response_in result) }
 {
-    Ok(Response::with_line(alloc, Status::Usage, b"usage")?)
+    let response = Response::with_line(alloc, Status::Usage, b"usage")?;
+    Ok(Told::of(response))
+}
+
+// Writes the response, where there is one.
+fn end<K: Sink>(out: &mut K, answer: Result<Told, Stop>) -> Exit
+    requires { K.ready out.old ≡ true }
+    ensures { EndsWith answer (output_at (K.written out.old) (K.faults out.old))
+        (output_at (K.written out.new) (K.faults out.new)) result }
+{
+    match answer {
+        Ok(told) => Exit::of(told.not_least, respond(out, Ok(told.response))),
+        Err(stop) => Exit::of(false, respond(out, Err(stop))),
+    }
 }
 
 /// All that the program does: the words are those after its name.
@@ -29,11 +45,11 @@ pub fn pvlong<H: Shelf, K: Sink>(
     words: &[String],
     shelf: &mut H,
     out: &mut K,
-) -> Status
+) -> Exit
     requires names { H.names shelf.old ≡ fetch_names words.now }
     requires ready { K.ready out.old ≡ true }
 
-    // The status, the output, the causes of faults, and how often the shelf is asked.
+    // How the program ends, the output, the causes of faults, and how often the shelf is asked.
     ensures answers { AnswersWords (byte_lists words.now)
         (H.moment shelf.old) (H.moment shelf.new)
         (output_at (K.written out.old) (K.faults out.old))
@@ -46,7 +62,7 @@ pub fn pvlong<H: Shelf, K: Sink>(
     ensures files { (H.moment shelf.new).files ≡ (H.moment shelf.old).files }
 {
     match request_of(words) {
-        Some(request) => respond(out, answer(alloc, shelf, &request)),
-        None => respond(out, usage(alloc)),
+        Some(request) => end(out, answer(alloc, shelf, &request)),
+        None => end(out, usage(alloc)),
     }
 }

@@ -1,6 +1,6 @@
 //! What is told of the elements that are missing in a document: numbers, or a document.
 
-ghost use Rattle.std.specs.Prelude.{IfOk, List, ℕ, ◌≡◌};
+ghost use Rattle.std.specs.Prelude.{IfOk, List, ℕ, ◌≡◌, false};
 ghost use Rattle.pv_dtd.specs.Plain.{PlainDtd};
 ghost use Rattle.pv_tree.specs.Plain.{PlainDoc};
 ghost use Rattle.pv_tree.specs.declared.nodes.Mark.{Mark};
@@ -17,6 +17,39 @@ use pv_opening::{Response, Status, Stop, refuse, refuse_path};
 use pv_words::push_number;
 use std::alloc::{AllocError, Global};
 
+/// What is told: a response, and whether it is a document that may not be least.
+#[derive(Drop)]
+pub struct Told {
+    pub response: Response,
+    pub not_least: bool,
+}
+
+impl Told {
+    /// A response that isn't a document that may not be least.
+    pub fn of(response: Response) -> Told
+        ensures response { result.response ≡ response }
+        ensures least { result.not_least ≡ false }
+    {
+        Told {
+            response,
+            not_least: false,
+        }
+    }
+
+    // A completed document.
+    fn document(output: Vec<u8>, not_least: bool) -> Told
+        ensures response { plain_response result.response
+            ≡ record { status = Done; output = output.items } }
+        ensures least { result.not_least ≡ not_least }
+    {
+        let status = Status::Done;
+        Told {
+            response: Response { status, output },
+            not_least,
+        }
+    }
+}
+
 // The line of two bounds.
 fn bounds_line(alloc: Global, least: u32, most: u32) -> Result<Response, AllocError>
     ensures { IfOk result (λ r. plain_response r ≡ with_line Done (bounds_text least most)) }
@@ -29,11 +62,12 @@ fn bounds_line(alloc: Global, least: u32, most: u32) -> Result<Response, AllocEr
 }
 
 // The line of what is told.
-fn number_line(alloc: Global, told: &Missing) -> Result<Response, AllocError>
-    ensures { (root : List ℕ) (g : PlainDtd) (doc : PlainDoc Mark) → IsMissing g root doc told.now →
+fn number_line(alloc: Global, missing: &Missing) -> Result<Response, AllocError>
+    ensures { (root bytes : List ℕ) (g : PlainDtd) (doc : PlainDoc Mark) →
+        IsMissing g root doc bytes missing.now →
         IfOk result (λ r. TellsNumber root g doc (plain_response r)) }
 {
-    match told {
+    match missing {
         Missing::Exactly(c) => {
             Response::with_number(alloc, Status::Done, b"need ", u64::from(c.count))
         }
@@ -42,30 +76,27 @@ fn number_line(alloc: Global, told: &Missing) -> Result<Response, AllocError>
 }
 
 // The completed document.
-fn document_of(told: Missing) -> Response
-    ensures { (root : List ℕ) (g : PlainDtd) (doc : PlainDoc Mark) → IsMissing g root doc told →
-        TellsDocument root g doc (plain_response result) }
+fn document_of(missing: Missing) -> Told
+    ensures { (root bytes : List ℕ) (g : PlainDtd) (doc : PlainDoc Mark) →
+        IsMissing g root doc bytes missing →
+        TellsDocument root g doc bytes result.not_least (plain_response result.response) }
 {
-    match told {
-        Missing::Exactly(Completion { body, .. }) => Response {
-            status: Status::Done,
-            output: body,
-        },
-        Missing::Between(_, Completion { body, .. }) => Response {
-            status: Status::Negative,
-            output: body,
-        },
+    match missing {
+        Missing::Exactly(Completion { body, .. }) => Told::document(body, false),
+        Missing::Between(_, Completion { body, .. }) => Told::document(body, true),
     }
 }
 
 /// What a question is answered by what is told.
-pub fn response_to(alloc: Global, question: Question, told: Missing) -> Result<Response, AllocError>
-    ensures { (root : List ℕ) (g : PlainDtd) (doc : PlainDoc Mark) → IsMissing g root doc told →
-        IfOk result (λ r. TellsFor question root g doc (plain_response r)) }
+pub fn response_to(alloc: Global, question: Question, missing: Missing) -> Result<Told, AllocError>
+    ensures { (root bytes : List ℕ) (g : PlainDtd) (doc : PlainDoc Mark) →
+        IsMissing g root doc bytes missing →
+        IfOk result (λ t. TellsFor question root g doc bytes t.not_least
+        (plain_response t.response)) }
 {
     match question {
-        Question::Need => number_line(alloc, &told),
-        Question::Complete => Ok(document_of(told)),
+        Question::Need => Ok(Told::of(number_line(alloc, &missing)?)),
+        Question::Complete => Ok(document_of(missing)),
     }
 }
 

@@ -1,3 +1,4 @@
+use Rattle.std.proofs.Common.{arith}
 use Rattle.pv_dtd.proofs.Proper.{proper}
 use Rattle.pv_productive.specs.PlainForms.{dtd_of}
 use Rattle.pv_tree.specs.PlainDocs.{plain_doc}
@@ -6,9 +7,13 @@ use Rattle.pv_long.proofs.telling.bounds_of.Goals as goal
 
 pub returns-clause-least : goal.returns-clause-least
 returns-clause-least c =
-    are_missing (dtd_of c.args.grammar.now) c.args.root.now (plain_doc c.args.doc.now) c.bounds_add_up_law.ensures c.in_ok-found.found.least
-    (proper c.args.grammar.now.layout.dtd) c.proper_doc_law.ensures
+    are_missing (dtd_of c.args.grammar.now) c.args.root.now (plain_doc c.args.doc.now) c.bounds_add_up_law.ensures c.possible_missing_law.ensures c.in_ok-found.found.least c.in_ok-least.least
+    c.args.verdicts.now.verdicts (proper c.args.grammar.now.layout.dtd) c.proper_doc_law.ensures
     (rw (c.in_ok-plan.ensures, c.in_ok-layout.ensures) at c.in_ok-found.ensures)
+    c.requires.possible.verdicts.are_verdicts c.in_ok-least.ensures
+
+pub returns-clause-lists : goal.returns-clause-lists
+returns-clause-lists c = omega (arith, c.in_ok-least.ensures)
 
 pub returns-clause-completion : goal.returns-clause-completion
-returns-clause-completion c = rw c.dtd-dtd.ensures at (c.in_ok-completion.ensures (plain_doc c.args.doc.now) c.requires)
+returns-clause-completion c = rw c.dtd-dtd.ensures at (c.in_ok-completion.ensures (plain_doc c.args.doc.now) c.requires.text)
