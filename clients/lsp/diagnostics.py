@@ -132,6 +132,7 @@ class Judging:
             # What the DTD declares is asked beside the session.
             with self.work.session(plain, root, self.document.data) as session:
                 grammar = self.watch.finder.grammar(*about, wait)
+                self.document.prepare()
                 self.listed(session, grammar)
             self.attributes(grammar)
         except Ended as ended:

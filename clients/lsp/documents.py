@@ -1,4 +1,5 @@
 """An open document as it is at one time."""
+import contextlib
 import threading
 from collections import Counter
 from collections.abc import Callable
@@ -9,7 +10,7 @@ from grammar import Finder, Grammar
 from nodes import Tree
 from pvtag.long import Counted
 from pvtag.masks import same_length
-from reading import Typed, Whole
+from reading import Typed, Whole, may_be_whole
 from text import Json, Text
 from wire import INVALID_PARAMS, Error
 from work import Work
@@ -71,6 +72,7 @@ class Document:
         self.lock = threading.Lock()
         self.read: Tree | None = None
         self.masked: bytes | None = None
+        self.prepared: Whole | None = None
         self.judged: Judged | None = None
         self.settled = threading.Event()
 
@@ -94,10 +96,18 @@ class Document:
         last = self.accepted.tree
         return last if last is not None and last.data == data else Typed(data)
 
+    def prepare(self) -> None:
+        """Reads the nodes as those of a document, while the program has yet to say whether it is one."""
+        if (self.accepted.tree is None or self.accepted.tree.data != self.data) and may_be_whole(self.data):
+            with contextlib.suppress(ValueError, AssertionError, IndexError):
+                self.prepared = Whole(self.data)
+                self.prepared.first_list()
+
     def accept(self) -> Whole:
         """Called where the program has read the text."""
         last = self.accepted.tree
-        whole = last if last is not None and last.data == self.data else Whole(self.data)
+        whole = last if last is not None and last.data == self.data else self.prepared or Whole(self.data)
+        self.prepared = None
         with self.lock:
             self.accepted.tree = self.read = whole
         return whole

@@ -13,6 +13,12 @@ SIMPLE = re.compile(rb"<" + NAME + rb"(?>(?:[^<>\"']|\"[^\"<]*\"|'[^'<]*')*)(?<!
 HIDDEN = re.compile(rb"<!--(?s:.*?)-->|<\?(?s:.*?)\?>|<!\[CDATA\[(?s:.*?)\]\]>")
 
 
+def may_be_whole(data: bytes) -> bool:
+    """Whether each item that is looked for has an end, so that none is looked for up to the text's end again and again."""
+    ends = (*SOUGHT[:2], (b"<!--", b"-->"))
+    return all(data.rfind(start) <= data.rfind(end) for start, end in ends) and data.count(b"<!DOCTYPE") < 2
+
+
 def items(data: bytes) -> Iterator[re.Match[bytes]]:
     """The items of a text. Where many that never end would each be looked for up to its end, none of that kind is
     looked for."""
@@ -123,6 +129,12 @@ class Whole(Tree):
         while (item := ITEM.match(data, at)) and item.lastindex != START:
             at = item.end()
         self.top.known = [self.element(self.top, 0, at)]
+
+    def first_list(self) -> None:
+        """Reads the root's list, which almost all paths go through."""
+        root = self.root
+        if root is not None:
+            len(root.kids)
 
     def element(self, owner: Element, number: int, at: int, closes: int | None = None) -> Element:
         """The element whose start tag stands here; where its end tag does, if that is known."""
