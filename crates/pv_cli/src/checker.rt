@@ -16,11 +16,9 @@ pub enum Checker {
 pub fn checker_of(word: &str) -> Option<Checker>
     ensures { result ≡ checker_of word.now }
 {
-    if word == "verify" {
-        Some(Checker::Verify)
-    } else if word == "deny" {
-        Some(Checker::Deny)
-    } else {
-        None
+    match word {
+        "verify" => Some(Checker::Verify),
+        "deny" => Some(Checker::Deny),
+        _ => None,
     }
 }

@@ -22,17 +22,12 @@ pub enum Verb {
 pub fn verb_of(word: &str) -> Option<Verb>
     ensures { result ≡ verb_of word.now }
 {
-    if word == "valid" {
-        Some(Verb::Valid)
-    } else if word == "check" {
-        Some(Verb::Check)
-    } else if word == "session" {
-        Some(Verb::Session)
-    } else if word == "complete" {
-        Some(Verb::Complete)
-    } else if word == "why" {
-        Some(Verb::Why)
-    } else {
-        None
+    match word {
+        "valid" => Some(Verb::Valid),
+        "check" => Some(Verb::Check),
+        "session" => Some(Verb::Session),
+        "complete" => Some(Verb::Complete),
+        "why" => Some(Verb::Why),
+        _ => None,
     }
 }
