@@ -4,6 +4,7 @@ Words: PROGRAM, and names of cases, all where there are none. Prints each differ
 """
 import functools
 import os
+import subprocess
 import sys
 import tempfile
 import threading
@@ -21,6 +22,7 @@ from comments import Comments  # noqa: E402
 from completions import Completions  # noqa: E402
 from costs import Costs  # noqa: E402
 from declared import declared_by  # noqa: E402
+from downloads import Downloads  # noqa: E402
 from editor import Editor  # noqa: E402
 from everywhere import Everywhere  # noqa: E402
 from explain import Explainer  # noqa: E402
@@ -495,7 +497,36 @@ def keeps_comments(program):
         place.editor = type("None", (), {"close": lambda self: None})()
 
 
-CASES = [keeps_comments, knows_values, keeps_nobody_waiting, suggests_what_was_tagged, gives_reasons_one_can_read, tags_each_line, offers_what_is_wanted, has_a_palette, gives_required_attributes]
+def gives_other_forms(program):
+    """The document is had as its source, as ranges, HTML and a table of names, and what has changed of it since it was saved."""
+    source = ("<letter><opener><salute>Dear &amp;</salute></opener><body><p>I met <person key='a\"b'>Mr <lb/>Adams</person>, <person>Tom</person> and "
+              "<person>Tom</person>, &lt;<![CDATA[<b>]]></p></body></letter>\n")
+    with Place(program, source) as place:
+        editor = place.editor
+        downloads = Downloads(editor, "doc.xml")
+        same(downloads.source({}), {"text": source, "more": False}, "the source")
+        same(downloads.changes({}), {"changes": []}, "nothing has changed")
+        place.wrap("place", place.run_of("met"))
+        changes = downloads.changes({})["changes"]
+        same([row for row in changes if row[0]], [("new", "<place>"), ("new", "</place>")], "two tags are new")
+        need(len("".join(text for _, text in changes)) < 200, f"what is as it was is shortened: {changes}")
+        same(downloads.download({"kind": "names"}), {"name": "doc-names.csv", "type": "text/csv", "text": "element,words,attributes,count\nperson,Tom,,2\nplace,met,,1\n"}, "names")
+        told = downloads.download({"kind": "html"})
+        need(told["name"] == "doc.html" and '<p class="salute">Dear &amp;amp;'.replace("&amp;amp;", "&amp;") in told["text"] and "&lt;&lt;b&gt;</p>" in told["text"], told["text"])
+        need('<span class="person" title="person key=&#x27;a&quot;b&#x27;">Mr <span class="lb" title="lb"></span>Adams</span>' in told["text"], told["text"])
+        told = downloads.download({"kind": "ranges"})
+        with tempfile.NamedTemporaryFile(suffix=".xml") as file:
+            file.write(editor.whole_source())
+            file.flush()
+            ran = subprocess.run([sys.executable, os.path.join(os.path.dirname(FOLDER), "ranges"), "--program", program, file.name], capture_output=True, text=True)
+        same((told["name"], told["text"]), ("doc.ranges", ran.stdout), "the ranges of `ranges`")
+        need(" place\n" in told["text"], told["text"])
+        same(downloads.download({"kind": "xml"})["text"], editor.whole_source().decode(), "as it is")
+        editor.save({"version": editor.version})
+        same(downloads.changes({}), {"changes": []}, "saved")
+
+
+CASES = [gives_other_forms, keeps_comments, knows_values, keeps_nobody_waiting, suggests_what_was_tagged, gives_reasons_one_can_read, tags_each_line, offers_what_is_wanted, has_a_palette, gives_required_attributes]
 
 
 def main():

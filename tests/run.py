@@ -196,9 +196,9 @@ CHECKS = [
         "links, pipes, a server killed round a Save"),
     row("annotate_letters", "what makes a letter quick on the page", "", 3600, "python3 tests/annotate_letters.py PVTAG",
         "what makes a letter quick on the page: a tag round each line or paragraph; the palette and its file; suggestions of exact "
-        "words, for which nothing waits; values of attributes from what has them and from a table of names; comments; reasons "
-        "with first names; that under 60 names the wanted one is among the first five in nine of ten moves, where another letter lies "
-        "beside it"),
+        "words, for which nothing waits; values of attributes from what has them and from a table of names; comments; other forms of the "
+        "document; reasons with first names; that under 60 names the wanted one is among the first five in nine of ten moves, where another "
+        "letter lies beside it"),
     row("annotate_drawer", "a folder of documents on the page", "+lxml", 1800, "python3 tests/annotate_drawer.py PVTAG",
         "the list of a folder's documents: each with the verdict that `report` has of it, judged again where it changed; marks in a file "
         "that several write; texts that begin documents; documents that another has open, that changed outside, or were left; "

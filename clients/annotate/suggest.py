@@ -40,7 +40,14 @@ class Suggestions:
 
     def tag(self, ask: Any) -> Told:
         """Makes these tags, each with its own attributes, in one move; one that is refused is left out, and told."""
-        rows = [(row["place"], name_of(row), self.attributes.asked(row)) for row in ask["places"]]
+        return self.make(ask, [(row["place"], name_of(row), self.attributes.asked(row)) for row in ask["places"]])
+
+    def tag_all(self, ask: Any) -> Told:
+        """Makes one tag at all these places, in one move."""
+        name, attrs = name_of(ask), self.attributes.asked(ask)
+        return self.make(ask, [(place, name, attrs) for place in ask["places"]])
+
+    def make(self, ask: Any, rows: list[tuple[Any, str, str]]) -> Told:
         editor = self.editor
         with editor.lock:
             since = editor.known(ask)

@@ -11,6 +11,7 @@ from comments import Comments
 from completions import Completions
 from costs import Costs
 from declared import Declared
+from downloads import Downloads
 from editor import Differs, Editor, Unseen
 from everywhere import Everywhere
 from explain import Explainer
@@ -49,7 +50,7 @@ class Work:
         self.completions, self.palette = Completions(editor, self.attributes), Palette(editor.dtd, self.attributes)
         self.pieces = Pieces(editor, self.everywhere)
         self.suggestions = Suggestions(editor, self.around, self.everywhere, self.attributes)
-        self.comments = Comments(editor)
+        self.comments, self.downloads = Comments(editor), Downloads(editor, title)
         self.values = Values(editor, self.around, self.attributes, names or Names(None))
         # The windows that show it, and whether the program is about to end.
         self.windows: set[str] = set()
@@ -187,6 +188,10 @@ ASKED: dict[str, Callable[[Work, Any], Told]] = {
     "take-suggestions": lambda work, ask: work.suggestions.tag(ask),
     "comments": lambda work, ask: work.comments.all(ask),
     "comment": lambda work, ask: work.comments.put(ask),
+    "source": lambda work, ask: work.downloads.source(ask),
+    "unsaved": lambda work, ask: work.downloads.changes(ask),
+    "download": lambda work, ask: work.downloads.download(ask),
+    "tag-found": lambda work, ask: work.suggestions.tag_all(ask),
     "pieces": lambda work, ask: work.pieces.of(ask),
     "tag-pieces": lambda work, ask: work.pieces.tag(ask, work.attributes.asked(ask)),
     "why": lambda work, ask: work.explainer.of_lists(ask),

@@ -153,7 +153,25 @@ export class View {
     for (const wait of this.waiting.splice(0)) this.fillList(...wait)
   }
 
+  // Draws all of it, and nothing is taken away until `letGo`.
+  fillAll() {
+    this.isKept = true
+    for (;;) {
+      const chunks = [...this.host.querySelectorAll(".chunk")].filter((each) => !each.filled)
+      if (chunks.length === 0) return
+      for (const chunk of chunks) this.fill(chunk)
+    }
+  }
+  letGo() {
+    this.isKept = false
+    for (const chunk of this.host.querySelectorAll(".chunk")) {
+      this.seen.unobserve(chunk)
+      this.seen.observe(chunk)
+    }
+  }
+
   empty(chunk) {
+    if (this.isKept) return
     chunk.style.height = `${chunk.getBoundingClientRect().height}px`
     this.drop(chunk)
   }

@@ -1,11 +1,14 @@
 // Finding in the whole document, of which only what is near sight is drawn.
-import { app, listeners } from "./app.js"
-import { choose, chosen, rest, scrollTo } from "./choose.js"
-import { plainTextOf, rangeOf } from "./place.js"
+import { app, listeners, tell } from "./app.js"
+import { choose, chooseElement, chosen, rest, scrollTo } from "./choose.js"
+import { make } from "./draw.js"
+import { offerNames } from "./offers.js"
+import { plainTextOf, rangeOf, told } from "./place.js"
+import { aboutText, showPlaces } from "./places.js"
 import { holdsText, lengthOf } from "./tree.js"
 
 const bar = document.getElementById("finder")
-const [input, count] = bar.querySelectorAll("input, output")
+const [input, by, count, all] = bar.querySelectorAll("input, select, output, [value=tag]")
 // So many places are found at most.
 const MOST = 10000
 
@@ -33,7 +36,8 @@ export function closeFinder() {
   bar.hidden = true
   CSS.highlights?.delete("found")
   const match = found[at]
-  if (match) choosePart(match)
+  if (match?.node) chooseElement(match.node)
+  else if (match) choosePart(match)
   rest()
 }
 
@@ -54,34 +58,64 @@ function read() {
   return { text, starts, nodes }
 }
 
-function search(isNew) {
-  book ??= read()
+// What is looked for; none where nothing is, and why where a pattern is none.
+function wanted() {
   const words = input.value.trim().split(/\s+/).map((word) => word.replace(/[.*+?^${}()|[\]\\/]/g, "\\$&"))
+  if (!input.value.trim()) return {}
+  if (by.value !== "pattern") return { wanted: new RegExp(words.join("\\s+"), "giu") }
+  try {
+    return { wanted: new RegExp(input.value, "gmu") }
+  } catch ({ message }) {
+    return { why: message.split(": ").at(-1) }
+  }
+}
+
+let whyNot = ""
+function search(isNew) {
+  const { wanted: pattern, why = "" } = wanted()
+  whyNot = why
   found = []
-  if (input.value.trim()) {
-    const wanted = new RegExp(words.join("\\s+"), "giu")
-    for (const match of book.text.matchAll(wanted)) {
-      found.push([match.index, match.index + match[0].length])
+  if (pattern && by.value === "attributes") found = withAttributes(pattern)
+  else if (pattern) {
+    book ??= read()
+    for (const match of book.text.matchAll(pattern)) {
+      if (match[0]) found.push([match.index, match.index + match[0].length])
       if (found.length === MOST) break
     }
   }
+  all.hidden = by.value === "attributes" || found.length === 0
   if (isNew) at = found.length ? 0 : -1
   else at = Math.min(at, found.length - 1)
   show()
 }
 
-function step(by) {
+// The elements that have such attributes.
+function withAttributes(pattern) {
+  const nodes = []
+  for (const node of app.tree.all(app.tree.root)) {
+    pattern.lastIndex = 0
+    if (node.attrs && pattern.test(node.attrs)) nodes.push({ node })
+    if (nodes.length === MOST) break
+  }
+  return nodes
+}
+
+function step(way) {
   if (found.length === 0) return
-  at = (at + by + found.length) % found.length
+  at = (at + way + found.length) % found.length
   show()
 }
 
 function show() {
-  const none = input.value.trim() ? "nothing found" : ""
+  const none = whyNot ? `no pattern: ${whyNot}` : input.value.trim() ? "nothing found" : ""
   count.textContent = found.length ? `${at + 1} of ${found.length === MOST ? `${MOST} or more` : found.length}` : none
   CSS.highlights?.delete("found")
   const match = found[at]
   if (!match) return
+  if (match.node) {
+    app.view.reveal(match.node).scrollIntoView({ block: "center" })
+    return chooseElement(match.node)
+  }
   const [start, end] = match.map(placeOf)
   for (const [node] of [start, end]) app.view.reveal(node)
   const ranges = [rangeOf({ from: start, to: end }, app.view)].filter(Boolean)
@@ -105,18 +139,49 @@ function placeOf(place, isEnd) {
 
 // Selects what was found, where it stands in one list; else goes to its start.
 function choosePart(match) {
-  const [from, to] = [placeOf(match[0], 0), placeOf(match[1], 1)]
+  const [from, to] = [placeOf(match[0]), placeOf(match[1], true)]
   const owner = from[0].owner
   choose(to[0].owner === owner ? { owner, from, to } : { owner, from, to: from })
 }
 
+// A tag round all that was found, as far as each stands in one text: it is chosen as for the one that is shown.
+function tagAll() {
+  const runs = found.map((match) => runOf(match)).filter(Boolean)
+  const shown = found[at] && runOf(found[at])
+  if (runs.length === 0 || !shown) return tell("What was found stands in several elements, and no tag can go round it.", true)
+  bar.hidden = true
+  CSS.highlights?.delete("found")
+  choose(shown)
+  offerNames(`Tags round all ${runs.length} that were found`, { kind: "wrap", run: shown }, { all: (name, pairs) => listAll(name, pairs, runs) })
+}
+
+function listAll(name, pairs, runs) {
+  const isIn = (node) => node !== null && (node.name === name || isIn(node.owner))
+  const open = runs.filter(({ owner }) => !isIn(owner))
+  const rows = open.map((run) => ({ place: told(run), parts: [make("mark", "", plainTextOf(run))], note: `in ${run.owner.name}`, isTicked: true }))
+  const ask = () => ({ rows, pairs, about: aboutText(rows.length, "place", 0, false) })
+  showPlaces({ heading: `⟨${name}⟩ round what was found`, name, request: "tag-found", ask })
+}
+
+// What was found, as a run of texts side by side; none where it is in several lists, or goes over tags.
+function runOf(match) {
+  const [from, to] = [placeOf(match[0]), placeOf(match[1], true)]
+  const run = { owner: from[0].owner, from, to }
+  return to[0].owner === run.owner && plainTextOf(run) ? run : null
+}
+
 input.addEventListener("input", () => search(true))
+by.addEventListener("change", () => {
+  search(true)
+  input.focus()
+})
 bar.addEventListener("submit", (event) => {
   event.preventDefault()
   step(1)
 })
 bar.addEventListener("click", ({ target }) => {
   if (target.value === "close") closeFinder()
+  else if (target.value === "tag") tagAll()
   else if (target.value === "-1") step(-1)
 })
 bar.addEventListener("keydown", (event) => {

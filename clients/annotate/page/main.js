@@ -16,13 +16,15 @@ import { openSuggestions, showSuggestions, tagAll } from "./suggest.js"
 import { attributesSentence, attributesValid, countWrong, onWrong } from "./wrong.js"
 import "./type.js"
 import { toStart } from "./keys.js"
+import { showSource } from "./source.js"
 
 const host = document.getElementById("document")
 const button = (id) => document.getElementById(id)
 const counted = (count, one) => `${count} ${one}${count === 1 ? "" : "s"}`
 
 // The head: how many elements are missing, what can't be finished, what can be undone.
-function showState() {
+let isOpen = false
+function showState(changed) {
   const { open, bad, made, undone, saved } = app.state
   showNext(null)
   showVerdict()
@@ -30,7 +32,15 @@ function showState() {
   button("redo").disabled = undone === 0
   button("save").disabled = saved
   button("save").textContent = saved ? "Saved" : "Save"
+  if (changed && isOpen) showKept()
+  isOpen = true
   countMissing()
+}
+
+// When the last move was put on the disk.
+function showKept() {
+  const time = new Date().toLocaleTimeString([], { hour: "2-digit", minute: "2-digit" })
+  button("kept").textContent = `kept ${time}`
 }
 
 // Green only where elements and attributes are valid.
@@ -121,7 +131,7 @@ function toggleMore(isOpen) {
 
 const DO = {
   next: () => goToNext(1), undo: () => act("undo"), redo: () => act("redo"), save: () => act("save"),
-  tags: toggleTags, history: showHistory, list: showElements, lacks: showMissing, colours: showPalette, before: showSuggestions, said: showComments, search: openFinder, preview: showPreview, help: () => button("keys").showModal(),
+  tags: toggleTags, history: showHistory, list: showElements, lacks: showMissing, colours: showPalette, before: showSuggestions, said: showComments, written: showSource, search: openFinder, preview: showPreview, help: () => button("keys").showModal(),
 }
 for (const [id, call] of Object.entries(DO)) button(id).addEventListener("click", call)
 button("more").addEventListener("click", () => toggleMore())
@@ -161,6 +171,8 @@ document.addEventListener("keydown", (event) => {
   event.preventDefault()
 })
 
+addEventListener("beforeprint", () => app.view.fillAll())
+addEventListener("afterprint", () => app.view.letGo())
 addEventListener("beforeunload", (event) => !app.state?.saved && event.preventDefault())
 addEventListener("pagehide", sayBye)
 addEventListener("pageshow", (event) => event.persisted && hello().then(catchUp))

@@ -187,23 +187,23 @@ export function missingParts({ missing, no, least }) {
 
 // The names that the session offers for a move, as their costs come in; another that is typed is tried. A move is about a
 // run, which follows what becomes of it, or about a node.
-// What else may be done there stands `first` in its menu, or `last`.
-export function offerNames(name, { kind, run = null, node = null }, { first, last } = {}) {
+// What else may be done there stands `first` in its menu, or `last`; `all` takes a name in place of that move.
+export function offerNames(name, { kind, run = null, node = null }, { first, last, all } = {}) {
   const marks = run && markRun(app.tree, run)
   const told_ = (label) => {
     if (node) return app.tree.isThere(node) ? { kind, node: node.id, name: label } : null
     const place = runAt(app.tree, marks)
     return place && { kind, place: told(place), name: label }
   }
-  const take = (label, pairs = []) => make(() => withPairs(told_(label), pairs), pairs.length ? "tag" : "move")
+  const take = all ?? ((label, pairs = []) => make(() => withPairs(told_(label), pairs), pairs.length ? "tag" : "move"))
   const at = () => marks && runAt(app.tree, marks)
   const others = (call) => (call && at() ? call(at()).map((each) => ({ ...each, isOther: true, take: () => each.take(null, at) })) : [])
   const here = { marks, told: told_, take, count: null, all: (names) => [...others(first), ...names, ...others(last)] }
   here.fill = () => fillNames(here)
   begin(here)
   const menu = { name, box: boxOfChosen, around: boxRoundChosen, choices: [], isWaiting: true, typed: take, names: app.names, inSight: () => here.count?.() }
-  const each = kind === "wrap" && hasLines(run) ? (label, pairs) => at() && openPieces(label, at(), pairs) : null
-  const text = kind === "wrap" ? plainTextOf(run) : ""
+  const each = !all && kind === "wrap" && hasLines(run) ? (label, pairs) => at() && openPieces(label, at(), pairs) : null
+  const text = kind === "wrap" && !all ? plainTextOf(run) : ""
   const everywhere = text ? (label, pairs) => openEverywhere(label, text, null, pairs) : null
   openMenu({ ...menu, each, everywhere, closed, keepFocus: isByTouch() })
   fillNames(here)

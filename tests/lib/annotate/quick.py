@@ -1,7 +1,7 @@
 """The page of `clients/annotate`: what makes a letter quick: a tag round each line, rows by their digits, and the list of what
 is missing. Cases of `annotate.py`."""
 from .browser import Page
-from .fixture import ARTICLE, LETTER as DTD, Server, same, soon
+from .fixture import ARTICLE, LETTER as DTD, Server, need, same, soon
 from selenium.webdriver.common.keys import Keys
 
 BODY = "<body>\nOne line here,\nand two.\n\nThree\nlines.\n</body>"
@@ -393,4 +393,82 @@ def puts_comments(driver, program):
         same(server.text(), want, "the file")
 
 
-CASES = [tags_each_line, takes_rows_by_digits, lists_what_is_missing, keeps_words_in_sight, has_a_palette, tells_reasons_one_can_read, suggests_tags, copies_over_tags, tags_places_with_attributes, takes_attributes_behind_a_name, tags_all_suggestions, completes_values, puts_comments]
+def finds_by_patterns(driver, program):
+    """Find takes a pattern, and looks in attributes too; all that was found gets a tag, in one move."""
+    body = "<body><p>On 3 May 1764 I met <person key='adams'>Mr Adams</person>, on <date>12 May 1764</date> him.</p><p>1 June 1765, 2 Ju<lb n='x'/>ly 1765</p></body>"
+    with Server(program, LETTER.replace(BODY, body)) as server:
+        page = Page(driver, server.url)
+
+        def look(by, text):
+            page.js("const by = document.querySelector('#finder select'); by.value = arguments[0]; by.dispatchEvent(new Event('change'))", by)
+            page.js("document.querySelector('#finder input').select()")
+            page.keys(text)
+            return page.find("#finder output").text
+
+        page.keys(Keys.CONTROL, "f")
+        soon(lambda: look("pattern", r"\d+ \w+ \d{4}"), "1 of 4", "dates")
+        soon(lambda: look("pattern", "("), lambda text: text.startswith("no pattern"), "what is none is told")
+        soon(lambda: look("words", r"\d+"), "nothing found", "as words it stands for itself")
+        soon(lambda: look("attributes", "adams"), "1 of 1", "in attributes")
+        same((page.texts(".chosen > .tag:not(.end) .attrs"), page.find("#finder [value=tag]").is_displayed()), (["key='adams'"], False), "the element")
+        page.keys(Keys.ESCAPE)
+        same(page.texts(".chosen > .tag:not(.end)"), ["person key='adams'"], "it is chosen then")
+        page.keys(Keys.CONTROL, "f")
+        soon(lambda: look("pattern", r"\d+ \w+ \d{4}"), "1 of 4", "the pattern again")
+        page.press("#finder [value=tag]")
+        soon(lambda: page.find("#menu h2").text, "Tags round all 3 that were found", "the menu")
+        page.open_menu()
+        page.keys("date n=1", Keys.ENTER)
+        soon(lambda: page.texts("#everywhere mark"), ["3 May 1764", "1 June 1765"], "where there is no such tag")
+        soon(lambda: page.js("return document.activeElement.className"), "tag-all", "they can be tagged")
+        page.keys(Keys.ENTER)
+        soon(lambda: page.texts("#document .attrs"), ['n="1"', "key='adams'", 'n="1"', "n='x'"], "both, with attributes")
+        same((page.moves(), page.written().count("<date>")), (1, 3), "in one move")
+
+
+def shows_its_source(driver, program):
+    """The source as it would be written, what has changed since it was saved, and when the last move was kept."""
+    with Server(program, LETTER) as server:
+        page = Page(driver, server.url)
+        same(page.find("#kept").text, "", "nothing was kept yet")
+        page.select("brother")
+        page.open_menu()
+        page.keys(Keys.ESCAPE)
+        page.keys(Keys.F2)
+        soon(lambda: page.js("return document.getElementById('kept').textContent"), lambda text: text.startswith("kept ") and ":" in text, "when it was kept")
+        page.press("#written")
+        want = LETTER.replace("<salute>", "<!-- to check --><salute>")
+        soon(lambda: page.js("return document.querySelector('#source pre').textContent"), want, "the source")
+        page.press("#source input")
+        soon(lambda: page.texts("#source ins"), ["<!-- to check -->"], "what is new")
+        page.press("#source .close")
+        page.keys(Keys.CONTROL, "s")
+        soon(lambda: page.find("#save").text, "Saved", "saved")
+        page.press("#written")
+        soon(lambda: page.find("#source .about").text, "Nothing has changed since it was saved.", "nothing then")
+        page.press("#source input")
+        soon(lambda: page.js("return document.querySelector('#source pre').textContent"), want, "the source again")
+        page.js("document.addEventListener('click', ({ target }) => { if (target.download) window.got = [target.download, target.href.slice(0, 5)] }, true)")
+        page.js("HTMLAnchorElement.prototype.click = function () { window.got = [this.download, this.href.slice(0, 5)] }")
+        page.press("#source [data-kind=html]")
+        soon(lambda: page.js("return window.got"), ["doc.html", "blob:"], "a file to be taken away")
+        page.press("#source .close")
+
+
+def prints_all(driver, program):
+    """On paper there is all of a long document, and nothing else."""
+    lines = "".join(f"<p>Paragraph {number} of many.</p>" for number in range(900))
+    with Server(program, f"<doc><head>H</head><sec><head>x</head>{lines}</sec></doc>", ARTICLE, "doc") as server:
+        page = Page(driver, server.url)
+        need("Paragraph 899 of" not in page.written(), "only what is near sight is drawn")
+        page.js("dispatchEvent(new Event('beforeprint'))")
+        need(page.written().count("<p>") == 900, "all of it, to be printed")
+        driver.execute_cdp_cmd("Emulation.setEmulatedMedia", {"media": "print"})
+        same([page.find(css).is_displayed() for css in ("#document", "body > header", "#moves")], [True, False, False], "what is printed")
+        same(page.js("const { scrollHeight, clientHeight } = document.getElementById('document'); return scrollHeight <= clientHeight + 2"), True, "nothing is hidden by scrolling")
+        driver.execute_cdp_cmd("Emulation.setEmulatedMedia", {"media": ""})
+        page.js("dispatchEvent(new Event('afterprint'))")
+        soon(lambda: page.written().count("<p>") < 900, True, "and less again")
+
+
+CASES = [tags_each_line, takes_rows_by_digits, lists_what_is_missing, keeps_words_in_sight, has_a_palette, tells_reasons_one_can_read, suggests_tags, copies_over_tags, tags_places_with_attributes, takes_attributes_behind_a_name, tags_all_suggestions, completes_values, puts_comments, finds_by_patterns, shows_its_source, prints_all]
