@@ -327,11 +327,11 @@ class Finder:
         key = key_of_file(named)
         with self.lock:
             making = self.made.get(key)
-        if making is not None and making.is_old:
-            making = None
+        # Files aren't looked at under the lock.
+        old = making if making is not None and making.is_old else None
         with self.lock:
-            making = making and self.made.get(key)
-            if making is None:
+            making = self.made.get(key)
+            if making is None or making is old:
                 # Of a file that has changed nothing is kept.
                 self.made = {each: it for each, it in self.made.items() if each[0] != key[0]}
                 making = self.made[key] = Making()
