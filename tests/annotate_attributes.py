@@ -15,15 +15,13 @@ from pathlib import Path
 import attributes as letters
 from lib.annotate.fixture import EXAMPLES, FOLDER
 
-sys.path[:0] = [FOLDER, os.path.dirname(FOLDER)]
-# The test of the same name is known by now.
-del sys.modules["attributes"]
-from attributes import Attributes  # noqa: E402
-from editor import Editor  # noqa: E402
+sys.path.insert(0, os.path.dirname(FOLDER))
+from annotate.attributes import Attributes  # noqa: E402
+from annotate.editor import Editor  # noqa: E402
 from pvtag.attributes import python_with_lxml  # noqa: E402
-from script import Script  # noqa: E402
-from texts import Texts  # noqa: E402
-from work import entities_of, note_of  # noqa: E402
+from annotate.script import Script  # noqa: E402
+from annotate.texts import Texts  # noqa: E402
+from annotate.work import entities_of, note_of  # noqa: E402
 
 SUBSET = '<!DOCTYPE letter [\n<!ENTITY me "Anna"> <!ENTITY sp " "><!-- ]> -->\n]>\n'
 LETTER = SUBSET + "<letter id='&me;'>Dear &me;,&sp;<p>I &amp; &me; &none; met &#233;</p></letter>\n"

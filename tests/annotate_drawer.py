@@ -16,16 +16,16 @@ sys.dont_write_bytecode = True
 from lib.annotate.fixture import FOLDER, LETTER, Server, fault_of, need, run_cases, same, soon  # noqa: E402
 from lib.annotate.thirty import DTD, letters  # noqa: E402
 
-sys.path[:0] = [FOLDER, os.path.dirname(FOLDER)]
+sys.path.insert(0, os.path.dirname(FOLDER))
 
-import drawer as drawers  # noqa: E402
+from annotate import drawer as drawers  # noqa: E402
 from annotate_letters import in_order, line_of  # noqa: E402
-from declared import declared_by  # noqa: E402
-from drawer import Drawer, address_of  # noqa: E402
-from listing import Marks  # noqa: E402
+from annotate.declared import declared_by  # noqa: E402
+from annotate.drawer import Drawer, address_of  # noqa: E402
+from annotate.listing import Marks  # noqa: E402
 from pvtag import program as programs  # noqa: E402
 from pvtag.program import Trouble  # noqa: E402
-from work import Refusal  # noqa: E402
+from annotate.work import Refusal  # noqa: E402
 
 VALID = "<letter><opener><salute>Dear</salute></opener><body><p>I met him.</p></body></letter>\n"
 FILES = {

@@ -20,17 +20,17 @@ sys.dont_write_bytecode = True
 from lib.annotate.fixture import DRAFT, FOLDER, LETTER, Fault, fault_of, need, run_cases, same  # noqa: E402
 from lib.waiting import PATIENCE  # noqa: E402
 
-sys.path[:0] = [FOLDER, os.path.dirname(FOLDER)]
+sys.path.insert(0, os.path.dirname(FOLDER))
 
-import files as kept_files  # noqa: E402
-from attributes import Attributes  # noqa: E402
-from editor import Editor  # noqa: E402
-from everywhere import Everywhere  # noqa: E402
-from plain import Across  # noqa: E402
+from annotate import files as kept_files  # noqa: E402
+from annotate.attributes import Attributes  # noqa: E402
+from annotate.editor import Editor  # noqa: E402
+from annotate.everywhere import Everywhere  # noqa: E402
+from annotate.plain import Across  # noqa: E402
 from pvtag.document import TEXT  # noqa: E402
 from pvtag.program import Trouble  # noqa: E402
-from script import Changed, Question, Script, hash_of  # noqa: E402
-from texts import Texts  # noqa: E402
+from annotate.script import Changed, Question, Script, hash_of  # noqa: E402
+from annotate.texts import Texts  # noqa: E402
 
 BODY = "<p>I have met Mr Adams in Delft, and Mrs Adams in Leiden.</p>\n<p>He lives there.</p>"
 WIDE = f"<letter><opener><salute>Dear brother,</salute></opener>\n<body>{BODY}</body></letter>\n"
@@ -534,7 +534,7 @@ def opens_files_alone(program):
 
 def locks_the_file_that_is_there(program):
     """Of many that begin and end at once on a document, one has it at a time."""
-    code = ("import sys; sys.dont_write_bytecode = True; sys.path[:0] = sys.argv[2:4]\nfrom script import Script\nfrom pvtag.program import Trouble\nimport os\n"
+    code = ("import sys; sys.dont_write_bytecode = True; sys.path.insert(0, sys.argv[3])\nfrom annotate.script import Script\nfrom pvtag.program import Trouble\nimport os\n"
             "for _ in range(60):\n try: script = Script(sys.argv[1])\n except Trouble: continue\n"
             " path = sys.argv[1] + '.alone'\n os.close(os.open(path, os.O_CREAT | os.O_EXCL)); os.unlink(path); script.close()\n")
     with Place(program) as place:
@@ -549,9 +549,9 @@ def locks_the_file_that_is_there(program):
 SAVES = """
 import sys
 sys.dont_write_bytecode = True
-sys.path[:0] = sys.argv[3:5]
-from editor import Editor
-from script import Script
+sys.path.insert(0, sys.argv[4])
+from annotate.editor import Editor
+from annotate.script import Script
 editor = Editor([sys.argv[1]], sys.argv[5], "letter", Script(sys.argv[2]))
 place = next(node for node in editor.document.nodes.values() if node.kind == "text" and "have" in "".join(node.units))
 at = "".join(place.units).index("have")

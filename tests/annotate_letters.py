@@ -15,26 +15,26 @@ sys.dont_write_bytecode = True
 from lib.annotate.fixture import FOLDER, LETTER, fault_of, need, run_cases, same  # noqa: E402
 from lib.annotate.letter import DTD, PLAIN, WHOLE  # noqa: E402
 
-sys.path[:0] = [FOLDER, os.path.dirname(FOLDER)]
+sys.path.insert(0, os.path.dirname(FOLDER))
 
-from attributes import Attributes  # noqa: E402
-from comments import Comments  # noqa: E402
-from completions import Completions  # noqa: E402
-from costs import Costs  # noqa: E402
-from declared import declared_by  # noqa: E402
-from downloads import Downloads  # noqa: E402
-from editor import Editor  # noqa: E402
-from everywhere import Everywhere  # noqa: E402
-from explain import Explainer  # noqa: E402
-from neighbours import Neighbours  # noqa: E402
-from palette import Palette  # noqa: E402
-from pieces import Pieces  # noqa: E402
+from annotate.attributes import Attributes  # noqa: E402
+from annotate.comments import Comments  # noqa: E402
+from annotate.completions import Completions  # noqa: E402
+from annotate.costs import Costs  # noqa: E402
+from annotate.declared import declared_by  # noqa: E402
+from annotate.downloads import Downloads  # noqa: E402
+from annotate.editor import Editor  # noqa: E402
+from annotate.everywhere import Everywhere  # noqa: E402
+from annotate.explain import Explainer  # noqa: E402
+from annotate.neighbours import Neighbours  # noqa: E402
+from annotate.palette import Palette  # noqa: E402
+from annotate.pieces import Pieces  # noqa: E402
 from pvtag.program import Trouble  # noqa: E402
-from runs import Stale  # noqa: E402
-from script import Script  # noqa: E402
-from suggest import Suggestions  # noqa: E402
-from uses import Uses  # noqa: E402
-from values import Names, Values  # noqa: E402
+from annotate.runs import Stale  # noqa: E402
+from annotate.script import Script  # noqa: E402
+from annotate.suggest import Suggestions  # noqa: E402
+from annotate.uses import Uses  # noqa: E402
+from annotate.values import Names, Values  # noqa: E402
 
 LINES = "<letter><opener><salute>Dear</salute></opener><body>\n  One <lb/> here,\n\tTwo.\n\n<!-- no -->\n<p>Three.</p>\nFour &#10;five\n \n Six</body></letter>\n"
 

@@ -14,19 +14,19 @@ sys.dont_write_bytecode = True
 
 from lib.annotate.fixture import DRAFT, EXAMPLES, FOLDER, LETTER, Fault, fault_of, need, run_cases, same  # noqa: E402
 
-sys.path[:0] = [FOLDER, os.path.dirname(FOLDER)]
+sys.path.insert(0, os.path.dirname(FOLDER))
 
-from attributes import Attributes  # noqa: E402
-from costs import Costs  # noqa: E402
-from declared import declared_by  # noqa: E402
-from editor import Differs, Editor, Stale, Unseen, sum_of  # noqa: E402
-from everywhere import Everywhere  # noqa: E402
-from explain import Explainer  # noqa: E402
+from annotate.attributes import Attributes  # noqa: E402
+from annotate.costs import Costs  # noqa: E402
+from annotate.declared import declared_by  # noqa: E402
+from annotate.editor import Differs, Editor, Stale, Unseen, sum_of  # noqa: E402
+from annotate.everywhere import Everywhere  # noqa: E402
+from annotate.explain import Explainer  # noqa: E402
 from pvtag.document import ELEMENT, TEXT, Document  # noqa: E402
 from pvtag.program import Trouble  # noqa: E402
 from pvtag.session import Ended, Made, Refused, Session  # noqa: E402
-from script import Script  # noqa: E402
-from texts import Texts  # noqa: E402
+from annotate.script import Script  # noqa: E402
+from annotate.texts import Texts  # noqa: E402
 
 
 # Sessions.

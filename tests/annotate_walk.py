@@ -23,15 +23,15 @@ sys.dont_write_bytecode = True
 from lib.annotate.copy_of_tree import Copy  # noqa: E402
 from lib.annotate.fixture import ARTICLE, DRAFT, EXAMPLES, FOLDER, LETTER, Fault, need, same  # noqa: E402
 
-sys.path[:0] = [FOLDER, os.path.dirname(FOLDER)]
+sys.path.insert(0, os.path.dirname(FOLDER))
 
-from declared import declared_by  # noqa: E402
-from editor import Editor  # noqa: E402
+from annotate.declared import declared_by  # noqa: E402
+from annotate.editor import Editor  # noqa: E402
 from pvtag.document import ELEMENT, Document  # noqa: E402
 from pvtag.program import file_of  # noqa: E402
 from pvtag.session import Ended, Session  # noqa: E402
-from script import Changed, Script  # noqa: E402
-from work import Refusal, Work  # noqa: E402
+from annotate.script import Changed, Script  # noqa: E402
+from annotate.work import Refusal, Work  # noqa: E402
 
 ASKS = 2000
 PAGE = os.path.join(EXAMPLES, "page.dtd")

@@ -202,7 +202,8 @@ def takes_all_back(session: Session) -> bool:
 
 
 def installs(trial: Expecting, pvtag: str, folder: Path) -> None:
-    """The package is installed without a network into an environment of its own, is found there by a tool and by mypy, and leaves nothing."""
+    """The packages are installed without a network into an environment of their own, are found there by a tool and by mypy, and leave nothing; the page and
+    the language server are commands there."""
     python = next((it for it in (sys.executable, "/usr/bin/python3") if not subprocess.run(
         [it, "-c", "import setuptools, wheel, pip"], capture_output=True, check=False).returncode), None)
     if python is None:
@@ -224,6 +225,14 @@ def installs(trial: Expecting, pvtag: str, folder: Path) -> None:
     (folder / "bin" / "pvtag").symlink_to(pvtag)
     told = run([inside, "-c", script, LETTER, "letter", DRAFT], cwd=folder, env={**os.environ, "PATH": f"{folder}/bin:{os.environ['PATH']}"})
     trial.expect("it is found there", re.fullmatch(rf"7 1 [0-9][0-9.]*(\+[0-9a-g.]+)? {re.escape(str(folder))}/venv/.*\n", told.stdout) is not None, told)
+    bin_ = folder / "venv" / "bin"
+    told = run([str(bin_ / "pvtag-annotate"), "--help"], cwd=folder)
+    trial.expect("the page's command", told.returncode == 0 and told.stdout.startswith("usage: pvtag-annotate "), told)
+    trial.expect("the page's files", run([inside, "-c", "import pvtag.annotate.server as it; print(sorted(__import__('os').listdir(it.FOLDER)))"], cwd=folder).stdout
+                 == f"{sorted(it.name for it in (TOP / 'clients/annotate/page').iterdir())}\n")
+    asked = '{"jsonrpc":"2.0","id":1,"method":"initialize","params":{"capabilities":{}}}'
+    told = run([str(bin_ / "pvtag-lsp")], cwd=folder, input=f"Content-Length: {len(asked)}\r\n\r\n{asked}")
+    trial.expect("the language server", '"capabilities"' in told.stdout and "Traceback" not in told.stderr, told)
     if shutil.which("mypy"):
         (folder / "tool.py").write_text("from pvtag.session import Session\n\n\ndef paths(session: Session) -> list[str]:\n    nodes = session.tree()\n    return [it.path for it in nodes] if isinstance(nodes, list) else []\n")
         told = run(["mypy", "--strict", f"--cache-dir={folder}/cache", f"--python-executable={inside}", "tool.py"], cwd=folder)

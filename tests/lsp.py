@@ -15,7 +15,7 @@ import tracemalloc
 sys.dont_write_bytecode = True
 sys.path.insert(0, os.path.join(os.path.dirname(os.path.dirname(os.path.abspath(__file__))), "clients"))
 
-from lib.lsp_client import CAPABILITIES, DRAFT, EXAMPLES, LETTER, TOP, URI, Client  # noqa: E402
+from lib.lsp_client import CAPABILITIES, DRAFT, EXAMPLES, LETTER, URI, Client  # noqa: E402
 from lib.lsp_client import at, codes, edited, edits_of, finished, need, run_cases, same, uri_of  # noqa: E402
 from lib.waiting import until  # noqa: E402
 from pvtag.attributes import python_with_lxml  # noqa: E402
@@ -648,9 +648,8 @@ def random_element(dice, depth=0):
 
 def finds_tags(_):
     """A tag is found by what stands near as by the lists that it stands in."""
-    sys.path.insert(0, os.path.join(TOP, "clients", "lsp"))
-    from nodes import Tree
-    from reading import Whole
+    from lsp.nodes import Tree
+    from lsp.reading import Whole
 
     def shown(tag):
         if tag is None:
@@ -668,9 +667,8 @@ def finds_tags(_):
 
 def reads_nodes(_):
     """The nodes of a document are the same whether it is known to be one or not; a list of many takes little memory."""
-    sys.path.insert(0, os.path.join(TOP, "clients", "lsp"))
-    from lists import cut, kids_of
-    from reading import Typed, Whole
+    from lsp.lists import cut, kids_of
+    from lsp.reading import Typed, Whole
 
     def shown(node):
         if node.kind != "element":

@@ -239,8 +239,7 @@ def waits_for_no_other_document(program):
 
 def waits_once_for_attributes(_):
     """Where libxml2 doesn't tell what a DTD declares of attributes, all names of a completion together wait a second."""
-    sys.path.insert(0, os.path.join(TOP, "clients", "lsp"))
-    from grammar import NOTHING, SOON, Grammar
+    from lsp.grammar import NOTHING, SOON, Grammar
 
     declared = types.SimpleNamespace(program=[], plain=types.SimpleNamespace(path=""), dtd=None, asking=None, read_attributes=Future)
     declared.attributes = types.SimpleNamespace(declares_any=True)

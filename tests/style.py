@@ -48,8 +48,9 @@ def sources(of: str) -> list[Path]:
     return [it for it in files if it.is_file() and "__pycache__" not in it.parts and language(it) == of]
 
 
-# What finds faults of types, and the commands of the clients that are typed.
+# What finds faults of types, and the packages and the commands of the clients, which are typed.
 MYPY = ["mypy", "--strict"]
+PACKAGES = ("pvtag", "reporting", "annotate", "lsp")
 TYPED = ("report", "why", "complete", "ranges", "standoff", "mark")
 
 
@@ -78,7 +79,7 @@ def typed() -> Iterator[tuple[str, str]]:
         print("skipped: types (no mypy)")
         return
     with tempfile.TemporaryDirectory() as cache:
-        for words in (["-p", "pvtag", "-p", "reporting"], *([command] for command in TYPED)):
+        for words in ([word for package in PACKAGES for word in ("-p", package)], *([command] for command in TYPED)):
             run = subprocess.run([*MYPY, f"--cache-dir={cache}", *words], cwd=TOP / "clients", capture_output=True, text=True, errors="replace")
             yield " ".join(words), run.stdout + run.stderr if run.returncode else ""
 

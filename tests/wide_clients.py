@@ -18,11 +18,11 @@ from lib.beside import VALID, WIDE, Beside  # noqa: E402
 from lib.lsp_client import CAPABILITIES, Client, edited, edits_of, finished, uri_of  # noqa: E402
 from lib.waiting import PATIENCE, until  # noqa: E402
 
-sys.path[:0] = [FOLDER, os.path.dirname(FOLDER)]
+sys.path.insert(0, os.path.dirname(FOLDER))
 
-from completions import Completions  # noqa: E402
-from editor import Editor  # noqa: E402
-from script import Script  # noqa: E402
+from annotate.completions import Completions  # noqa: E402
+from annotate.editor import Editor  # noqa: E402
+from annotate.script import Script  # noqa: E402
 
 
 @contextlib.contextmanager

@@ -9,18 +9,18 @@ from collections import Counter
 from collections.abc import Callable, Mapping, Sequence
 from typing import TYPE_CHECKING, Any
 
-from changes import lines_for, side_of
-from forms import check_forms
-from moves import BadLine, Line, Move, groups_of, is_edit, surviving, title_of
-from plain import Across, Plain
+from .changes import lines_for, side_of
+from .forms import check_forms
+from .moves import BadLine, Line, Move, groups_of, is_edit, surviving, title_of
+from .plain import Across, Plain
 from pvtag.document import ELEMENT, TEXT, Document, Node, Told
 from pvtag.masks import Masked, mask
 from pvtag.session import Refused
-from runs import Stale, run_of, stretch_of
-from script import Earlier, hash_of
+from .runs import Stale, run_of, stretch_of
+from .script import Earlier, hash_of
 
 if TYPE_CHECKING:
-    from editor import Editor
+    from .editor import Editor
 
 # A place of the second tree: a list, a kid of it, and a unit there.
 Place = tuple[Node, Node | None, int]

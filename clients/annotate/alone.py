@@ -8,7 +8,7 @@ from collections.abc import Iterable, Iterator
 from typing import NamedTuple
 
 from pvtag.document import ELEMENT, TEXT, CDATA, Document, Node
-from runs import Spot
+from .runs import Spot
 
 # What stands for a text: nobody asks what it says, but whether it is more than blanks.
 WORD, BLANK = "x", " "

@@ -8,16 +8,16 @@ import re
 import threading
 from typing import Any
 
-from changes import attributes_for, lines_of, name_of, one_line
-from editor import Editor
-from forms import are_attributes
-from moves import ATTRIBUTES
+from .changes import attributes_for, lines_of, name_of, one_line
+from .editor import Editor
+from .forms import are_attributes
+from .moves import ATTRIBUTES
 from pvtag import attributes as libxml
 from pvtag.document import NAMED, Told, decimal
 from pvtag.filling import given_to
 from pvtag.masks import mask
 from pvtag.program import Trouble, read_file
-from runs import below, element_of
+from .runs import below, element_of
 
 PAIR = re.compile(r"""([^\s=]+)\s*=\s*("[^"]*"|'[^']*')""")
 REFERENCE = re.compile(r"&(#x[0-9a-fA-F]+|#[0-9]+|\w+);")

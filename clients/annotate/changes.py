@@ -3,10 +3,10 @@ import itertools
 import re
 from typing import Any, NamedTuple
 
-from moves import ATTRIBUTES, COMMENT
+from .moves import ATTRIBUTES, COMMENT
 from pvtag.document import CDATA, ELEMENT, MISC, TEXT, Document, Node, escaped
 from pvtag.program import Trouble
-from runs import Spot, Stale, Stretch, below, element_of, run_between, run_of, spots_of
+from .runs import Spot, Stale, Stretch, below, element_of, run_between, run_of, spots_of
 
 ATTRIBUTE = re.compile(r"""([^\s=]+)\s*=\s*("[^"]*"|'[^']*')""")
 # A list, its path, and two places in it.

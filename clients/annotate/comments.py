@@ -4,12 +4,12 @@
 """
 from typing import Any
 
-from editor import Editor
-from forms import are_comments
-from moves import COMMENT
+from .editor import Editor
+from .forms import are_comments
+from .moves import COMMENT
 from pvtag.document import ELEMENT, MISC, Document, Node, Told, escaped
 from pvtag.program import Trouble
-from runs import Stale, node_of
+from .runs import Stale, node_of
 
 # What a flag says.
 FLAG = "to check"

@@ -10,17 +10,17 @@ from collections import Counter
 from collections.abc import Callable, Collection, Iterator
 from typing import Any, NamedTuple
 
-from alone import bare, completed, whole
-from attributes import Attributes
-from changes import attributes_for, name_of
-from editor import Editor
-from moves import short
+from .alone import bare, completed, whole
+from .attributes import Attributes
+from .changes import attributes_for, name_of
+from .editor import Editor
+from .moves import short
 from pvtag.document import TEXT, Document, Node, Told, shown
 from pvtag.program import Trouble, file_of
 from pvtag.long import Inserted
 from pvtag.session import Ended, Made, Refused, Session
-from runs import Spot, Stale, below, element_of, run_between
-from wide import Wide
+from .runs import Spot, Stale, below, element_of, run_between
+from .wide import Wide
 
 
 # So long the names that new elements may have are looked for, in seconds; and of so many what was found is kept.

@@ -5,16 +5,16 @@ import time
 from collections.abc import Iterator
 from typing import Any
 
-from alone import Alone, alone
-from declared import Declared
-from editor import Editor
-from neighbours import Neighbours
+from .alone import Alone, alone
+from .declared import Declared
+from .editor import Editor
+from .neighbours import Neighbours
 from pvtag.costs import TURN, Known, Task
 from pvtag.document import Node, Told
 from pvtag.program import file_of
 from pvtag.session import Ended, Made, Refused, Session
-from runs import below, element_of, run_between, run_of, spots_of
-from uses import Uses
+from .runs import below, element_of, run_between, run_of, spots_of
+from .uses import Uses
 
 # Of so many places what is known is kept.
 KEPT = 300

@@ -15,11 +15,11 @@ from collections import Counter
 from collections.abc import Iterator
 from typing import Any
 
-from editor import Editor
-from files import read
+from .editor import Editor
+from .files import read
 from pvtag.document import CDATA, ELEMENT, TEXT, Document, Node, Told, shown
 from pvtag.program import Trouble, file_of
-from values import text_of
+from .values import text_of
 
 RANGES = os.path.join(os.path.dirname(os.path.dirname(os.path.abspath(__file__))), "ranges")
 # So many seconds the ranges may take; so many characters of a source are shown, and so many pieces of it compared.

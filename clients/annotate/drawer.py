@@ -10,15 +10,15 @@ from collections.abc import Callable
 from typing import Any
 from urllib.parse import quote, unquote_to_bytes
 
-from declared import Declared
-from listing import Listed, Marks, Verdicts, document_of, has_moves, holder_of, in_order, listed
-from making import make_document, open_editor
+from .declared import Declared
+from .listing import Listed, Marks, Verdicts, document_of, has_moves, holder_of, in_order, listed
+from .making import make_document, open_editor
 from pvtag.document import Told
 from pvtag.program import RUNNING, Trouble, shown_name
 from reporting.rows import Row, shown
-from script import Changed
-from values import Names
-from work import Refusal, Work
+from .script import Changed
+from .values import Names
+from .work import Refusal, Work
 
 # So long a document stays open behind its last window, in seconds.
 LEFT = 60.0

@@ -10,18 +10,18 @@ import threading
 from collections.abc import Callable, Sequence
 from typing import Any
 
-from again import Again
-from changes import lines_of
-from forms import check_forms
-from moves import (
+from .again import Again
+from .changes import lines_of
+from .forms import check_forms
+from .moves import (
     BESIDE, EDITS, LONGEST, BadLine, Move, exchanged, groups_of, is_edit, is_main, move_of, surviving, title_of, undo_of,
 )
 from pvtag.document import ELEMENT, Document, Told
 from pvtag.masks import Masked, mask
 from pvtag.program import Trouble, file_of, read_file
 from pvtag.session import Ended, Made, Refused, Session
-from runs import Stale, below
-from script import Script, hash_of
+from .runs import Stale, below
+from .script import Script, hash_of
 
 # A window that was away for more moves than these gets the whole tree.
 KEPT = 1000

@@ -3,12 +3,12 @@ wanted."""
 from collections.abc import Iterator
 from typing import Any
 
-from changes import attributes_for, name_of
-from editor import Editor
+from .changes import attributes_for, name_of
+from .editor import Editor
 from pvtag.document import Document, Node, Told, shown
 from pvtag.session import Refused
-from runs import Stale, Stretch, below, run_over, texts_of
-from slices import in_slices
+from .runs import Stale, Stretch, below, run_over, texts_of
+from .slices import in_slices
 
 # So many places are listed at most, and so many characters beside each.
 MOST = 2000

@@ -4,12 +4,12 @@ import threading
 from collections.abc import Callable
 from typing import Any
 
-from editor import Editor
+from .editor import Editor
 from pvtag.document import Document, Told
 from pvtag.dtd import Dtd
 from pvtag.reasons import Reason, Reasons, kids_of
-from runs import element_of
-from takes import Takes
+from .runs import element_of
+from .takes import Takes
 
 
 class Explainer:

@@ -3,7 +3,7 @@ else."""
 import re
 from collections.abc import Sequence
 
-from moves import ATTRIBUTES, COMMENT, BadLine, Line
+from .moves import ATTRIBUTES, COMMENT, BadLine, Line
 from pvtag.document import unescaped
 from pvtag.program import file_of, run
 

@@ -14,8 +14,8 @@ import time
 from collections.abc import Iterator
 from typing import NamedTuple
 
-from files import put_file, read
-from palette import NAME as PALETTE
+from .files import put_file, read
+from .palette import NAME as PALETTE
 from pvtag.program import Stopped, Trouble, shown_name
 from reporting.judging import Judge, Options, seen_of
 from reporting.rows import Row

@@ -3,14 +3,14 @@ import os
 import re
 from xml.sax.saxutils import escape
 
-from editor import Editor
-from files import put_file
+from .editor import Editor
+from .files import put_file
 from pvtag.faults import fault_of
 from pvtag.masks import MaskedSource, mask
 from pvtag.places import Source
 from pvtag.program import Trouble, is_utf_8, read_file, shown_name
 from pvtag.session import Ended
-from script import Script
+from .script import Script
 
 DECLARATION = '<?xml version="1.0" encoding="UTF-8"?>'
 # What can't stand in the address of a file as it is.

@@ -9,9 +9,9 @@ import os
 import re
 from typing import Any
 
-from attributes import Attributes, pairs_of, written
-from changes import one_line
-from files import put_file, read
+from .attributes import Attributes, pairs_of, written
+from .changes import one_line
+from .files import put_file, read
 from pvtag.document import Told
 from pvtag.program import Trouble
 

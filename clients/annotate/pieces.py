@@ -6,11 +6,11 @@ isn't cut. White space at the ends of a piece stays outside of its tag.
 from collections.abc import Iterator
 from typing import Any
 
-from changes import attributes_for, name_of
-from editor import Editor
-from everywhere import MOST, Everywhere
+from .changes import attributes_for, name_of
+from .editor import Editor
+from .everywhere import MOST, Everywhere
 from pvtag.document import ELEMENT, MISC, TEXT, WHITE, Node, Told, shown
-from runs import Spot, below, run_of, spots_of
+from .runs import Spot, below, run_of, spots_of
 
 # So many line ends are between two pieces at least.
 APART = {"lines": 1, "paragraphs": 2}

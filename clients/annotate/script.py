@@ -13,8 +13,8 @@ import os
 import stat
 from typing import NamedTuple
 
-from files import Kept, check_file, locked, made_beside, put_file, read, sync_folder, write_into, written_beside
-from moves import INSTEAD, LONGEST, BadLine, count_in
+from .files import Kept, check_file, locked, made_beside, put_file, read, sync_folder, write_into, written_beside
+from .moves import INSTEAD, LONGEST, BadLine, count_in
 from pvtag.program import Trouble, shown_name
 
 SAVED, DOCUMENT = "saved ", "document "

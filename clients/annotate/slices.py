@@ -3,8 +3,8 @@ import time
 from collections.abc import Callable, Iterator
 from typing import TypeVar
 
-from editor import Editor
-from runs import Stale
+from .editor import Editor
+from .runs import Stale
 
 T = TypeVar("T")
 # So long the lock is held at a time, and let go between, in seconds; and so often the work is begun anew where the document

@@ -8,15 +8,15 @@ from collections import Counter
 from collections.abc import Iterable, Iterator
 from typing import Any
 
-from attributes import Attributes, pairs_of
-from changes import name_of
-from editor import Editor
-from everywhere import Everywhere, beside, in_order, stands_in
-from neighbours import LONGEST, Neighbours, Tag
+from .attributes import Attributes, pairs_of
+from .changes import name_of
+from .editor import Editor
+from .everywhere import Everywhere, beside, in_order, stands_in
+from .neighbours import LONGEST, Neighbours, Tag
 from pvtag.document import TEXT, Node, Told, shown
 from pvtag.session import Refused
-from runs import Stretch, element_of, spot_at, stretch_of, texts_of
-from slices import in_slices
+from .runs import Stretch, element_of, spot_at, stretch_of, texts_of
+from .slices import in_slices
 
 # So often words had their tag, at least.
 OFTEN = 3

@@ -4,12 +4,12 @@ What is typed on where the last keys left off is one move with them, so that und
 """
 from typing import Any, NamedTuple
 
-from changes import Side, lines_for, side_of
-from editor import Editor
-from moves import Move
+from .changes import Side, lines_for, side_of
+from .editor import Editor
+from .moves import Move
 from pvtag.document import Told
 from pvtag.session import Refused
-from runs import Stretch, element_of, spot_at, stretch_of
+from .runs import Stretch, element_of, spot_at, stretch_of
 
 # What was typed in one go, at most: more is another move.
 GO = 400

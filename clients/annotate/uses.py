@@ -2,8 +2,8 @@
 from collections import Counter
 from collections.abc import Iterable
 
-from editor import Editor
-from neighbours import Neighbours
+from .editor import Editor
+from .neighbours import Neighbours
 
 
 class Uses:

@@ -10,14 +10,14 @@ import os
 from collections.abc import Iterable, Iterator
 from typing import Any
 
-from attributes import Attributes, pairs_of
-from changes import name_of
-from editor import Editor
-from everywhere import in_order
-from neighbours import Neighbours
+from .attributes import Attributes, pairs_of
+from .changes import name_of
+from .editor import Editor
+from .everywhere import in_order
+from .neighbours import Neighbours
 from pvtag.document import ELEMENT, TEXT, Node, Told, shown
 from pvtag.program import Trouble, read_file, shown_name
-from runs import element_of
+from .runs import element_of
 
 # The attributes that name somebody or something, whatever the DTD says of them; and those of these that point at an ID.
 NAMING, POINTING = ("key", "ref", "corresp"), ("ref", "corresp")

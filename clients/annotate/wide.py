@@ -2,12 +2,12 @@
 ends what it does."""
 import threading
 
-from editor import Editor
+from .editor import Editor
 from pvtag import long
 from pvtag.document import Told
 from pvtag.long import Inserted
 from pvtag.program import Running, Stopped, file_of
-from runs import Stale
+from .runs import Stale
 
 
 class Wide:

@@ -6,27 +6,27 @@ import traceback
 from collections.abc import Callable
 from typing import Any
 
-from attributes import Attributes
-from comments import Comments
-from completions import Completions
-from costs import Costs
-from declared import Declared
-from downloads import Downloads
-from editor import Differs, Editor, Unseen
-from everywhere import Everywhere
-from explain import Explainer
-from neighbours import Neighbours
-from palette import Palette
-from pieces import Pieces
+from .attributes import Attributes
+from .comments import Comments
+from .completions import Completions
+from .costs import Costs
+from .declared import Declared
+from .downloads import Downloads
+from .editor import Differs, Editor, Unseen
+from .everywhere import Everywhere
+from .explain import Explainer
+from .neighbours import Neighbours
+from .palette import Palette
+from .pieces import Pieces
 from pvtag.document import Told
 from pvtag.program import Trouble, shown_name
 from pvtag.session import Ended
-from runs import Stale
-from script import Changed, Question
-from suggest import Suggestions
-from texts import Texts
-from uses import Uses
-from values import Names, Values
+from .runs import Stale
+from .script import Changed, Question
+from .suggest import Suggestions
+from .texts import Texts
+from .uses import Uses
+from .values import Names, Values
 
 
 class Refusal(Exception):

@@ -2,17 +2,17 @@
 missing."""
 from typing import Any
 
-import wire
-from documents import Asked, Document, put
-from lists import WHITE, cut, is_too_deep
-from mending import Move, changes_of, moves_of, wraps
-from missing import Completed, completed
-from nodes import Element
-from order import ordered, used
+from . import wire
+from .documents import Asked, Document, put
+from .lists import WHITE, cut, is_too_deep
+from .mending import Move, changes_of, moves_of, wraps
+from .missing import Completed, completed
+from .nodes import Element
+from .order import ordered, used
 from pvtag.long import Counted
-from text import Json
-from wire import INVALID_PARAMS, Error
-from work import Work
+from .text import Json
+from .wire import INVALID_PARAMS, Error
+from .work import Work
 
 REWRITE, FIX = "refactor.rewrite", "quickfix"
 ALL_KINDS = [FIX, REWRITE]

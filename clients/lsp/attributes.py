@@ -5,14 +5,14 @@ What is said of them is libxml2's, by `pvtag.attributes`; the program judges ele
 import re
 from typing import NamedTuple
 
-from documents import Asked, Document
-from grammar import Grammar
-from nodes import NAME
+from .documents import Asked, Document
+from .grammar import Grammar
+from .nodes import NAME
 from pvtag.attributes import Attribute, AttributeFault, Attributes
 from pvtag.masks import mask
 from pvtag.program import Trouble
-from text import Json
-from work import Work
+from .text import Json
+from .work import Work
 
 ERROR, WARNING, INFORMATION = 1, 2, 3
 # At most so many are told of.

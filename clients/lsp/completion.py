@@ -3,15 +3,15 @@ element, in a start tag names of attributes and their values."""
 import re
 from collections.abc import Mapping
 
-import attributes
-from documents import Asked, Document, put
-from grammar import Grammar, NewElement
-from lists import Cut, cut
-from mending import changes_of, wraps
-from nodes import ITEM, NAME, START, Element
-from order import Named, ordered, used
-from text import Json
-from work import Work
+from . import attributes
+from .documents import Asked, Document, put
+from .grammar import Grammar, NewElement
+from .lists import Cut, cut
+from .mending import changes_of, wraps
+from .nodes import ITEM, NAME, START, Element
+from .order import Named, ordered, used
+from .text import Json
+from .work import Work
 
 CLOSING, OPENING = re.compile(rb"</(?:" + NAME + rb")?\Z"), re.compile(rb"<(?:" + NAME + rb")?\Z")
 REST = re.compile(rb"[-.0-9:A-Z_a-z\x80-\xff]*")

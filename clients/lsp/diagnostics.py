@@ -5,23 +5,22 @@ import threading
 import time
 from collections.abc import Callable
 
-import attributes
-import wholeness
-from documents import Client, Document, Judged
-from grammar import Finder, Grammar, NoDtd
-from lists import WHITE, kids_of
-from moving import Change
-from nodes import Element, Node, Tree
-from order import refresh
+from . import attributes, wholeness
+from .documents import Client, Document, Judged
+from .grammar import Finder, Grammar, NoDtd
+from .lists import WHITE, kids_of
+from .moving import Change
+from .nodes import Element, Node, Tree
+from .order import refresh
 from pvtag.faults import fault_of
 from pvtag.long import Counted
 from pvtag.places import Source
 from pvtag.program import Trouble
 from pvtag.reasons import Reason
 from pvtag.session import Ended, Refused, Session
-from text import Json
-from wire import Writer
-from work import Cancelled, Work
+from .text import Json
+from .wire import Writer
+from .work import Cancelled, Work
 
 # So long a pause in typing, in seconds, before a text is judged, and so long until what is known by then is told.
 PAUSE, FIRST = 0.04, 0.12

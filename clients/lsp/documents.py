@@ -6,14 +6,14 @@ from collections.abc import Callable
 from dataclasses import dataclass
 from typing import Any
 
-from grammar import Finder, Grammar
-from nodes import Tree
+from .grammar import Finder, Grammar
+from .nodes import Tree
 from pvtag.long import Counted
 from pvtag.masks import same_length
-from reading import Typed, Whole, may_be_whole
-from text import Json, Text
-from wire import INVALID_PARAMS, Error
-from work import Work
+from .reading import Typed, Whole, may_be_whole
+from .text import Json, Text
+from .wire import INVALID_PARAMS, Error
+from .work import Work
 
 
 class Client:

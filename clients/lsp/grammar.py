@@ -17,8 +17,8 @@ from dataclasses import dataclass
 from typing import Any, NamedTuple
 from xml.sax.saxutils import quoteattr
 
-import memory
-from nodes import LITERAL, NAME
+from . import memory
+from .nodes import LITERAL, NAME
 from pvtag import program as programs
 from pvtag.attributes import Attributes, pythons
 from pvtag.costs import Known
@@ -29,7 +29,7 @@ from pvtag.places import Source
 from pvtag.program import RUNNING, TOP, Answer, Running, Stopped, Trouble, run
 from pvtag.reasons import Reason, Reasons
 from pvtag.tries import Kid
-from reading import front
+from .reading import front
 
 FLATTEN = os.path.join(TOP, "tools", "flatten")
 DOCTYPE = re.compile(

@@ -1,16 +1,16 @@
 """Hover on a tag: what the DTD declares, what the list is, and what it still needs."""
 from collections import Counter
 
-import attributes
-from diagnostics import sentence_of
-from documents import Asked
-from grammar import Grammar
-from lists import Alone, kids_of
-from missing import missing_in
-from nodes import Element
+from . import attributes
+from .diagnostics import sentence_of
+from .documents import Asked
+from .grammar import Grammar
+from .lists import Alone, kids_of
+from .missing import missing_in
+from .nodes import Element
 from pvtag.session import Ended
-from text import Json
-from work import Work
+from .text import Json
+from .work import Work
 
 # A declaration of more characters is cut, and a list in more bytes isn't judged by itself.
 LONGEST, LARGEST = 600, 1_000_000

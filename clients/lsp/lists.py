@@ -10,8 +10,8 @@ from array import array
 from collections.abc import Sequence
 from typing import NamedTuple
 
-from grammar import Grammar
-from nodes import END, ITEM, NAME, SLASH, START, Element, Kids
+from .grammar import Grammar
+from .nodes import END, ITEM, NAME, SLASH, START, Element, Kids
 from pvtag.session import Refused, Session
 from pvtag.tries import STUBS, Kid
 

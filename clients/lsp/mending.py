@@ -9,13 +9,13 @@ import time
 from collections.abc import Callable, Collection, Mapping, Sequence
 from typing import NamedTuple
 
-from grammar import Grammar
-from lists import Alone, kids_of, names
-from nodes import Element
-from order import Named, Times, costs_of, times_of
+from .grammar import Grammar
+from .lists import Alone, kids_of, names
+from .nodes import Element
+from .order import Named, Times, costs_of, times_of
 from pvtag.session import Ended, Made, Refused, Session
 from pvtag.tries import Kid
-from work import Work
+from .work import Work
 
 # So many reasons of a list are looked for, one after another.
 MOST_REASONS = 10

@@ -4,14 +4,14 @@ import re
 from collections.abc import Callable
 from typing import NamedTuple
 
-from documents import Document
-from grammar import Grammar, NewElement
-from lists import Alone
-from nodes import END, ITEM, NAME, SLASH, START
+from .documents import Document
+from .grammar import Grammar, NewElement
+from .lists import Alone
+from .nodes import END, ITEM, NAME, SLASH, START
 from pvtag.long import Inserted
 from pvtag.session import Ended, Refused
-from text import Json
-from work import Work
+from .text import Json
+from .work import Work
 
 NUMBERED = re.compile(rb"<" + NAME + rb' n="(\d+)"')
 WHY = {

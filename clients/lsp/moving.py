@@ -2,7 +2,7 @@
 import re
 from typing import Any
 
-from text import Json, Text
+from .text import Json, Text
 
 LINE = re.compile(r"\(line (\d+)\)")
 

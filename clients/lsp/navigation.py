@@ -6,14 +6,14 @@ import urllib.parse
 from bisect import bisect_right
 from typing import Any
 
-from documents import Asked, Document
-from grammar import DOCTYPE, INSTRUCTION, MODEL, PART, Named, files_of, folder_of, located, unquoted
-from nodes import END, ITEM, MISC, SLASH, START, Leaf
-from reading import front
-from tags import at_name
-from text import Json, Text
-from wire import INVALID_PARAMS, Error
-from work import Work
+from .documents import Asked, Document
+from .grammar import DOCTYPE, INSTRUCTION, MODEL, PART, Named, files_of, folder_of, located, unquoted
+from .nodes import END, ITEM, MISC, SLASH, START, Leaf
+from .reading import front
+from .tags import at_name
+from .text import Json, Text
+from .wire import INVALID_PARAMS, Error
+from .work import Work
 
 # So many places are told.
 MOST = 10_000

@@ -7,12 +7,12 @@ from collections import Counter
 from collections.abc import Mapping, Sequence
 from typing import NamedTuple
 
-from documents import Document
-from grammar import Grammar
-from nodes import END, ITEM, SLASH, START
+from .documents import Document
+from .grammar import Grammar
+from .nodes import END, ITEM, SLASH, START
 from pvtag.costs import Known, Task
 from pvtag.session import Session
-from work import Work
+from .work import Work
 
 # So long after a request, in seconds, names are looked at, and costs are counted; on a slow machine they are looked at for
 # as long at least once the session is there.

@@ -1,10 +1,10 @@
 """Symbols: the outline of a document, its elements with the front of their texts."""
 import itertools
 
-from documents import Asked, Document
-from nodes import Element, Leaf
-from text import Json
-from work import Work
+from .documents import Asked, Document
+from .nodes import Element, Leaf
+from .text import Json
+from .work import Work
 
 FIELD = 8
 # At most so many elements are told, the outer ones first, and so many in one another.

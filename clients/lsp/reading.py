@@ -4,7 +4,7 @@ import re
 from array import array
 from collections.abc import Iterator
 
-from nodes import END, ITEM, KINDS, LOOSE, NAME, SLASH, START, TEXT, Element, Kids, Leaf, Node, Tag, Tree
+from .nodes import END, ITEM, KINDS, LOOSE, NAME, SLASH, START, TEXT, Element, Kids, Leaf, Node, Tag, Tree
 
 # Items that are looked for up to the text's end, and how they end.
 SOUGHT = ((b"<![CDATA[", b"]]>"), (b"<?", b"?>"), (b"<!DOCTYPE", b">"))

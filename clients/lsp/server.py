@@ -5,21 +5,15 @@ from collections.abc import Callable
 from concurrent.futures import ThreadPoolExecutor
 from typing import Any
 
-import actions
-import completion
-import hover
-import navigation
-import outline
-import tags
-import wire
-from diagnostics import Watch
-from documents import Accepted, Asked, Client, Document, text_of
-from grammar import Finder, NoDtd, folder_of
+from . import actions, completion, hover, navigation, outline, tags, wire
+from .diagnostics import Watch
+from .documents import Accepted, Asked, Client, Document, text_of
+from .grammar import Finder, NoDtd, folder_of
 from pvtag.places import Unit
 from pvtag.program import Trouble, find
-from text import Json, Text, encoded
-from wire import Error, Message, Reader, Writer
-from work import Cancelled, Work
+from .text import Json, Text, encoded
+from .wire import Error, Message, Reader, Writer
+from .work import Cancelled, Work
 
 Answer = Callable[[Asked, Work], Any]
 ANSWERS: dict[str, Answer] = {

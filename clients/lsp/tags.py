@@ -2,18 +2,18 @@
 import contextlib
 import re
 
-import wire
-from actions import renaming
-from documents import Asked, text_of
-from grammar import Grammar
-from lists import alone_with, kids_of
-from nodes import Element, Tree
+from . import wire
+from .actions import renaming
+from .documents import Asked, text_of
+from .grammar import Grammar
+from .lists import alone_with, kids_of
+from .nodes import Element, Tree
 from pvtag.program import Trouble
 from pvtag.session import Ended, Made, Refused
 from pvtag.tries import Kid
-from text import Json
-from wire import Error
-from work import Work
+from .text import Json
+from .wire import Error
+from .work import Work
 
 NAME = r"[:A-Z_a-z\u00B7-\uFFFD][-.0-9:A-Z_a-z\u00B7-\uFFFD]*"
 # What isn't of this form is no name; of what is, the program tells.

@@ -4,7 +4,7 @@ from bisect import bisect_right
 from typing import Any
 
 from pvtag.places import LINE_END, Unit, front, width
-from wire import INVALID_PARAMS, Error
+from .wire import INVALID_PARAMS, Error
 
 Json = dict[str, Any]
 MOST = 2**31 - 1

@@ -1,7 +1,7 @@
 """Whether a text is well-formed, by expat: of a document that has no DTD nothing else is told."""
 from xml.parsers import expat
 
-from text import Text
+from .text import Text
 
 
 def fault_of(text: Text) -> tuple[int, str] | None:

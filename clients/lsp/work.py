@@ -5,8 +5,8 @@ from collections.abc import Callable, Iterator, Sequence
 from concurrent.futures import Future
 from typing import Any
 
-import memory
-from grammar import Grammar, List, Plain
+from . import memory
+from .grammar import Grammar, List, Plain
 from pvtag import long
 from pvtag.long import Counted, Inserted
 from pvtag.program import RUNNING, Running, Stopped, Trouble, took_too_long

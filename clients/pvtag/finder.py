@@ -5,6 +5,7 @@
 """
 import os
 import re
+import shutil
 import sys
 import threading
 import urllib.parse
@@ -107,6 +108,11 @@ def names_in(data: bytes, folder: str) -> tuple[Named | None, str]:
     return None, root
 
 
+def flatten() -> str:
+    """The tool that makes a DTD plain: that of the repository or the package, or on the path."""
+    return FLATTEN if os.path.isfile(FLATTEN) else shutil.which("pvtag-flatten") or FLATTEN
+
+
 class Finder:
     """Finds DTDs, each once: one in modules is made plain, and kept in memory. Several threads may ask at once.
 
@@ -179,7 +185,7 @@ class Finder:
         said = ""
         for python in dict.fromkeys((sys.executable, "/usr/bin/python3")):
             try:
-                ran = run_tool(python, FLATTEN, path)
+                ran = run_tool(python, flatten(), path)
             except OSError:
                 continue
             if ran.status == 0:

@@ -246,13 +246,8 @@ def shown_name(path: str) -> str:
 
 
 @contextlib.contextmanager
-def file_of(data: bytes, suffix: str = ".xml") -> Iterator[str]:
-    """A file with these bytes, for as long as it is wanted; its path.
-
-    >>> with file_of(b"<p>Anna</p>") as path:
-    ...     run(find(), "valid", "examples/letter.dtd", "p", path).line
-    'valid'
-    """
+def on_disk(data: bytes, suffix: str) -> Iterator[str]:
+    """The path of a temporary file with these bytes."""
     number, path = tempfile.mkstemp(prefix="pvtag.", suffix=suffix)
     try:
         with os.fdopen(number, "wb") as file:
@@ -260,3 +255,17 @@ def file_of(data: bytes, suffix: str = ".xml") -> Iterator[str]:
         yield path
     finally:
         os.unlink(path)
+
+
+# How bytes are held for the program. A client that writes nothing to a disk puts another here.
+hold: "Callable[[bytes, str], contextlib.AbstractContextManager[str]]" = on_disk
+
+
+def file_of(data: bytes, suffix: str = ".xml") -> "contextlib.AbstractContextManager[str]":
+    """A file with these bytes, for as long as it is wanted; its path.
+
+    >>> with file_of(b"<p>Anna</p>") as path:
+    ...     run(find(), "valid", "examples/letter.dtd", "p", path).line
+    'valid'
+    """
+    return hold(data, suffix)

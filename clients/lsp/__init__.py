@@ -1,0 +1,1 @@
+"""The language server. `main` begins it; `server` answers messages, which `wire` reads and writes, over `documents`."""
