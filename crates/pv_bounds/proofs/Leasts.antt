@@ -57,3 +57,17 @@ all_covered ones others extra h j =
 -- one reach more of a loop
 pub least_step : (j n : ℕ) (xs : List Reach) (i : ℕ) (d : Reach) → i < length xs → min (min n (cost_up_to j (get_or xs i d))) (least_to j (drop (i + 1) xs)) ≡ min n (least_to j (drop i xs))
 least_step j n xs i d lt = let e = drop_more xs i d lt in rw e (omega arith)
+
+-- the least cost is no more than that of a reach that goes so far
+pub least_below : (e : ℕ) (xs : List Reach) (i : ℕ) (d : Reach) → i < length xs → e ≤ (get_or xs i d).end → least_to e xs ≤ (get_or xs i d).cost
+least_below e [] i d lt le = omega arith
+least_below e (r ∷ rs) zero d lt le = let u = up_to_end e r le in omega arith
+least_below e (r ∷ rs) (suc i) d lt le = let t = least_below e rs i d (omega arith) le in omega arith
+
+-- the others cost no less than the ones, and so much, up to a place after one, where they do so up to the end of each of these that comes after that one
+pub after_covered : (ones others : List Reach) (extra place : ℕ) → ((m : ℕ) (d : Reach) → m < length others → place < (get_or others m d).end →
+    min heaviest (extra + least_to (get_or others m d).end ones) ≤ (get_or others m d).cost) → (k : ℕ) → place < k → min heaviest (extra + least_to k ones) ≤ least_to k others
+after_covered ones others extra place h k after =
+    let t : min heaviest (extra + least_to k ones) ≤ least_to k others + 0 =
+    least_above k (min heaviest (extra + least_to k ones)) 0 others (omega arith)
+    (λ m d lt le. let a = h m d lt (omega arith) in let b = least_rises k (get_or others m d).end ones le in omega arith) in omega arith

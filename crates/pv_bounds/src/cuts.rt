@@ -1,7 +1,9 @@
 //! Whether columns cost no more than one column and another after it.
 
-ghost use Rattle.std.specs.Prelude.{◌≡◌, ◌≤◌, ◌+◌, ◌<◌, ℕ, IfOk, IsTrue, length, map, suc};
+ghost use Rattle.std.specs.Prelude.{◌≡◌, ◌≤◌, ◌+◌, ◌<◌, ℕ, IfOk, IsTrue, OnOk};
+ghost use Rattle.std.specs.Prelude.{length, map, suc};
 ghost use Rattle.pv_model.specs.PlainForms.{plain_token};
+ghost use Rattle.pv_rules.specs.Derivations.{heaviest};
 ghost use Rattle.pv_layout.specs.FormForms.{plain_form};
 ghost use Rattle.pv_bounds.specs.Fronts.{cost_from, empty_cost, least_to};
 ghost use Rattle.pv_bounds.specs.HoldingForms.{CutsHold, FormCutsHold};
@@ -9,12 +11,23 @@ ghost use Rattle.pv_bounds.specs.Windows.{AllFalling, AreFalling, IsWindow, Tell
 ghost use Rattle.pv_bounds.specs.declared.fronts.Reach.{Reach};
 
 use crate::claim::Claim;
-use crate::covers::is_within;
+use crate::covers::{covers, covers_after, is_within};
 use crate::fronts::{Reach, least_to};
 use crate::windows::{Level, end_by, furthest, tell_all};
 use pv_chars::NoMemory;
 use pv_layout::Form;
 use std::alloc::Global;
+
+/// How many places are looked at by which the cuts at one before them may hold.
+const NEAR: u32 = 5;
+
+/// A column that may have a first one, and a second one after it.
+#[derive(Clone, Copy)]
+struct Pair {
+    column: u32,
+    first: u32,
+    second: u32,
+}
 
 /// The reaches of a column at a place, with what it costs up to a far place.
 #[derive(Clone, Copy)]
@@ -82,26 +95,154 @@ fn cuts_at(claim: &Claim<'_>, column: u32, first: u32, levels: &[Level], place: 
     true
 }
 
-// Whether a column costs no more than a first one, and a second one after it that has tokens too,
-// over the tokens from all places, the last place first.
-fn cuts_hold(
+// Whether a column costs no more over the tokens from a place than a first one up to a cut, and a
+// second one from there.
+fn cut_holds(claim: &Claim<'_>, pair: Pair, place: u32, cut: u32) -> bool
+    ensures { IsTrue result → (j : ℕ) → cost_from claim.now.fronts.now pair.column place j ≤
+        cost_from claim.now.fronts.now pair.first place cut +
+        cost_from claim.now.fronts.now pair.second cut j }
+{
+    let cost = least_to(claim.fronts.at(pair.first, place), cut);
+    covers(
+        claim.fronts.at(pair.column, place),
+        claim.fronts.at(pair.second, cut),
+        cost,
+    )
+}
+
+// The same up to each of the cuts that come after the place, up to a last one.
+fn near_cuts_hold(claim: &Claim<'_>, pair: Pair, place: u32, last: u32) -> bool
+    requires within { last < claim.now.tokens }
+    requires near { place < last }
+    ensures { IsTrue result → (k j : ℕ) → place < k → k ≤ last →
+        cost_from claim.now.fronts.now pair.column place j ≤
+        cost_from claim.now.fronts.now pair.first place k +
+        cost_from claim.now.fronts.now pair.second k j }
+{
+    for cut in place + 1..last + 1 {
+        if !cut_holds(claim, pair, place, cut) {
+            return false;
+        }
+    }
+    true
+}
+
+// How much more a front costs than another one, as far as that goes.
+fn more_than(ones: &[Reach], others: &[Reach]) -> u32 {
+    match others.last() {
+        Some(last) => u32::saturating_sub(least_to(ones, last.end), last.cost),
+        None => 0,
+    }
+}
+
+// Whether a first column goes no further than a place.
+fn ends_by(claim: &Claim<'_>, first: u32, place: u32, last: u32) -> bool
+    ensures { IsTrue result → (k : ℕ) → last < k →
+        heaviest ≤ cost_from claim.now.fronts.now first place k }
+{
+    covers_after(&[], claim.fronts.at(first, place), 0, last)
+}
+
+// Whether the cuts after a later place hold at a place where they hold at the later one: the first
+// column goes no further than that, or the column costs at most so much more from the place than
+// from the later one, and the first column as much more at least.
+fn is_alike(claim: &Claim<'_>, pair: Pair, place: u32, later: u32) -> bool
+    ensures { IsTrue result → (k j m : ℕ) → later < k →
+        cost_from claim.now.fronts.now pair.column later j ≤
+        cost_from claim.now.fronts.now pair.first later k + m →
+        cost_from claim.now.fronts.now pair.column place j ≤
+        cost_from claim.now.fronts.now pair.first place k + m }
+{
+    if ends_by(claim, pair.first, place, later) {
+        return true;
+    }
+    let here = claim.fronts.at(pair.column, place);
+    let there = claim.fronts.at(pair.column, later);
+    let more = more_than(here, there);
+    covers(here, there, more)
+        && covers_after(
+            claim.fronts.at(pair.first, later),
+            claim.fronts.at(pair.first, place),
+            more,
+            later,
+        )
+}
+
+// Whether all cuts hold at a place where they do at a later one.
+fn holds_by(claim: &Claim<'_>, pair: Pair, place: u32, later: u32) -> bool
+    requires within { later < claim.now.tokens }
+    requires near { place < later }
+    ensures { IsTrue result → CutsHold (map plain_token claim.now.word.now)
+        (empty_cost claim.now.fronts.now.empty.items) (cost_from claim.now.fronts.now)
+        pair.column later pair.first pair.second →
+        CutsHold (map plain_token claim.now.word.now)
+        (empty_cost claim.now.fronts.now.empty.items) (cost_from claim.now.fronts.now)
+        pair.column place pair.first pair.second }
+{
+    is_alike(claim, pair, place, later) && near_cuts_hold(claim, pair, place, later)
+}
+
+// Whether all cuts hold at a place where they do at all later ones, by one that is near.
+fn holds_by_later(claim: &Claim<'_>, pair: Pair, place: u32) -> bool
+    requires { place < claim.now.tokens }
+    ensures { IsTrue result → ((i : ℕ) → place < i → i < claim.now.tokens →
+        CutsHold (map plain_token claim.now.word.now)
+        (empty_cost claim.now.fronts.now.empty.items) (cost_from claim.now.fronts.now)
+        pair.column i pair.first pair.second) → CutsHold (map plain_token claim.now.word.now)
+        (empty_cost claim.now.fronts.now.empty.items) (cost_from claim.now.fronts.now)
+        pair.column place pair.first pair.second }
+{
+    let near = (claim.tokens - place).min(NEAR);
+    for beyond in 1..near {
+        if holds_by(claim, pair, place, place + beyond) {
+            return true;
+        }
+    }
+    false
+}
+
+// Tells levels of what a column reaches from the places before those that they tell of, back to the
+// one after a place.
+fn tell_from(
     alloc: Global,
     claim: &Claim<'_>,
     column: u32,
-    first: u32,
-    second: u32,
-) -> Result<bool, NoMemory>
+    levels: &mut Vec<Level>,
+    place: u32,
+    told: u32,
+) -> Result<(), NoMemory>
+    requires within { place < claim.now.tokens }
+    requires falling { AllFalling levels.old.items }
+    requires window { IsWindow claim.now.fronts.now.rows.items column told claim.now.tokens
+        levels.old.items }
+    ensures falling { OnOk result (AllFalling levels.new.items) }
+    ensures window { OnOk result (IsWindow claim.now.fronts.now.rows.items column (suc place)
+        claim.now.tokens levels.new.items) }
+{
+    for next in (place + 1..told).rev() {
+        tell_all(alloc, levels, claim.fronts.at(column, next), next)?;
+    }
+    Ok(())
+}
+
+// Whether a column costs no more than a first one, and a second one after it that has tokens too,
+// over the tokens from all places, the last place first.
+fn cuts_hold(alloc: Global, claim: &Claim<'_>, pair: Pair) -> Result<bool, NoMemory>
     ensures { IfOk result (λ hold. IsTrue hold → (i : ℕ) → i < claim.now.tokens →
         CutsHold (map plain_token claim.now.word.now)
         (empty_cost claim.now.fronts.now.empty.items) (cost_from claim.now.fronts.now)
-        column i first second) }
+        pair.column i pair.first pair.second) }
 {
     let mut levels = Vec::new(alloc);
+    let mut told = claim.tokens;
     for place in (0..claim.tokens).rev() {
-        if !cuts_at(claim, column, first, &levels, place) {
-            return Ok(false);
+        if !holds_by_later(claim, pair, place) {
+            tell_from(alloc, claim, pair.second, &mut levels, place, told)?;
+            told = place + 1;
+            if !cuts_at(claim, pair.column, pair.first, &levels, place) {
+                return Ok(false);
+            }
         }
-        tell_all(alloc, &mut levels, claim.fronts.at(second, place), place)?;
     }
     Ok(true)
 }
@@ -125,8 +266,32 @@ pub fn form_cuts_hold(
         Form::Nothing => Ok(true),
         Form::OneOf(_) => Ok(true),
         Form::Opt(_) => Ok(true),
-        Form::Star(one, _) => cuts_hold(alloc, claim, column, *one, column),
-        Form::Plus(one) => cuts_hold(alloc, claim, column, *one, column),
-        Form::Then(one, two) => cuts_hold(alloc, claim, column, *one, *two),
+        Form::Star(one, _) => cuts_hold(
+            alloc,
+            claim,
+            Pair {
+                column,
+                first: *one,
+                second: column,
+            },
+        ),
+        Form::Plus(one) => cuts_hold(
+            alloc,
+            claim,
+            Pair {
+                column,
+                first: *one,
+                second: column,
+            },
+        ),
+        Form::Then(one, two) => cuts_hold(
+            alloc,
+            claim,
+            Pair {
+                column,
+                first: *one,
+                second: *two,
+            },
+        ),
     }
 }

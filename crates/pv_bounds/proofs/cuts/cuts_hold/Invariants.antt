@@ -8,8 +8,9 @@ use Rattle.pv_bounds.proofs.cuts.cuts_hold.Given as goal
 abbrev pub invariant-loop-place : goal.invariant-loop-place
 invariant-loop-place l = record {
   falling : AllFalling l.levels.items;
-  window : IsWindow l.claim.fronts.now.rows.items l.second l.place l.claim.tokens l.levels.items;
+  window : IsWindow l.claim.fronts.now.rows.items l.pair.second l.told l.claim.tokens
+      l.levels.items;
   held : (i : ℕ) → l.place ≤ i → i < l.claim.tokens →
       CutsHold (map plain_token l.claim.word.now) (empty_cost l.claim.fronts.now.empty.items)
-      (cost_from l.claim.fronts.now) l.column i l.first l.second;
+      (cost_from l.claim.fronts.now) l.pair.column i l.pair.first l.pair.second;
 }

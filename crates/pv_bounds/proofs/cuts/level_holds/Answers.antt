@@ -6,7 +6,7 @@ pub returns-in-Some : goal.returns-in-Some
 returns-in-Some c = λ t k e le tells.
     let a = rw c.deref-2.ensures.value at c.in-Some.ensures in
     let b = a k e le tells in
-    let w = c.is_within.ensures.0 t in
+    let w = c.is_within.ensures t in
     let r = least_rises e c.in-Some.end c.args.ones.now.reaches.now b in omega arith
 
 pub returns-then-end_by : goal.returns-then-end_by
