@@ -146,6 +146,34 @@ def is_utf_8(name: str) -> bool:
     return not any("\udc80" <= char <= "\udcff" for char in name)
 
 
+def uninterrupted(begin: "Callable[[], subprocess.Popen[bytes]]") -> "subprocess.Popen[bytes]":
+    """The process that this begins, which no signal stops half way: handlers of signals run in the main thread, and there
+    another one begins it. Where a handler raises meanwhile, the process is killed."""
+    if threading.current_thread() is not threading.main_thread():
+        return begin()
+    begun, faults, over = list["subprocess.Popen[bytes]"](), list[BaseException](), threading.Event()
+
+    def work() -> None:
+        try:
+            begun.append(begin())
+        except BaseException as fault:  # pylint: disable=broad-except
+            faults.append(fault)
+        over.set()
+
+    try:
+        threading.Thread(target=work).start()
+        over.wait()
+    except BaseException:
+        # It may have been raised while the other thread began.
+        over.wait(5)
+        for it in begun:
+            it.kill()
+        raise
+    if faults:
+        raise faults[0]
+    return begun[0]
+
+
 class Running:
     """The runs of the program that haven't ended yet, of all threads. Each may take so many seconds, where that is told."""
 
@@ -163,12 +191,15 @@ class Running:
 
     def start(self, words: list[str], **how: Any) -> subprocess.Popen[bytes]:
         """Begins it by these words as they are."""
-        with self.lock:
-            if self.stopped:
-                raise Stopped
-            begun = popen(words, stdin=subprocess.PIPE, stdout=subprocess.PIPE, start_new_session=True, **how)
-            self.runs.add(begun)
-            return begun
+        def begin() -> subprocess.Popen[bytes]:
+            with self.lock:
+                if self.stopped:
+                    raise Stopped
+                begun = popen(words, stdin=subprocess.PIPE, stdout=subprocess.PIPE, start_new_session=True, **how)
+                self.runs.add(begun)
+                return begun
+
+        return uninterrupted(begin)
 
     def stop(self) -> None:
         """Ends all; no other begins."""

@@ -154,7 +154,8 @@ class Session:
         for path in files:
             can_be_read(path)
         with programs.handed_over(words) as (given, open_):
-            self.process = programs.popen(given, stdin=subprocess.PIPE, stdout=subprocess.PIPE, pass_fds=open_, start_new_session=True)
+            self.process = programs.uninterrupted(lambda: programs.popen(
+                given, stdin=subprocess.PIPE, stdout=subprocess.PIPE, pass_fds=open_, start_new_session=True))
         assert self.process.stdin is not None and isinstance(self.process.stdout, io.BufferedReader)
         self.input, self.output = self.process.stdin, self.process.stdout
         self.lock, self.moves = threading.RLock(), 0

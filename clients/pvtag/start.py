@@ -60,7 +60,7 @@ def is_open(number: int) -> bool:
 def run_command(work: Callable[[], int]) -> NoReturn:
     """Does a command's work, which gives its status, and ends."""
     from .faults import Refusal
-    from .program import Trouble, shown_name
+    from .program import RUNNING, Trouble, shown_name
     is_closed = False
     try:
         is_closed = begin()
@@ -78,6 +78,8 @@ def run_command(work: Callable[[], int]) -> NoReturn:
         status = 4 if isinstance(fault, BrokenPipeError) else said(sentence, 4)
     except KeyboardInterrupt:
         status = 130
+    finally:
+        RUNNING.stop()
     sys.exit(status)
 
 
