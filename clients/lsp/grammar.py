@@ -1,6 +1,7 @@
 """Which DTD and which root a document has, and that DTD as one plain file."""
 import contextlib
 import fnmatch
+import functools
 import hashlib
 import os
 import re
@@ -211,7 +212,7 @@ class Grammar:
 
     def key_of(self, each: List) -> Key:
         path, owner, kids = each
-        told = "\0".join(map(" ".join, kids)).encode()
+        told = b"".join([code_of(kid) for kid in kids])
         return self.root if path == "." else "", owner, hashlib.blake2b(told, digest_size=16).digest()
 
     def find_reasons(self, lists: Sequence[List], runs: Running = RUNNING) -> None:
@@ -232,6 +233,12 @@ class Grammar:
     def reason(self, path: str, owner: str, kids: Sequence[Kid], runs: Running = RUNNING) -> Reason | None:
         self.find_reasons([(path, owner, kids)], runs)
         return self.known_reason(path, owner, kids)
+
+
+@functools.lru_cache(maxsize=1 << 12)
+def code_of(kid: Kid) -> bytes:
+    """A kid in the bytes that a digest of a list is of."""
+    return f"{kid.kind} {kid.name}\0".encode()
 
 
 def key_of_file(named: Named) -> FileKey:

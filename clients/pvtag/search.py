@@ -6,6 +6,7 @@ is searched by halves, or by more parts in one run; and kids are left out one by
 """
 import bisect
 import itertools
+from array import array
 from collections.abc import Callable, Generator, Sequence
 from typing import NamedTuple
 
@@ -30,7 +31,7 @@ class Found(NamedTuple):
 
 def search(owner: str, kids: Sequence[Kid]) -> Asking:
     """Searches a list; finds none where it isn't impossible. Its owner isn't declared EMPTY."""
-    places = [at for at, kid in enumerate(kids) if kid.is_token]
+    places = array("I", (at for at, kid in enumerate(kids) if kid.is_token))
     word = [kids[at] for at in places]
     chosen = yield from near(owner, word)
     end = chosen[-1] if chosen else len(word)
@@ -53,9 +54,11 @@ def reverse(owner: str, word: Sequence[Kid], at: Sequence[int]) -> list[Try]:
 def near(owner: str, word: Sequence[Kid]) -> Generator[list[Try], list[bool], list[int]]:
     """One kid, or a pair of kids, that is impossible by itself: the one that ends first, of these the shortest, of
     pairs the last. None where there is none, or there are too many different kids for it."""
-    where: dict[Kid, list[int]] = {}
+    where: dict[Kid, array[int]] = {}
     for at, kid in enumerate(word):
-        where.setdefault(kid, []).append(at)
+        if kid not in where:
+            where[kid] = array("I")
+        where[kid].append(at)
     some = where if len(where) ** 2 <= MOST_PAIRS else ()
     pairs = [pair for pair in itertools.product(some, some) if where[pair[0]][0] < where[pair[1]][-1]]
     answers = yield [Try(owner, each) for each in (*((kid,) for kid in where), *pairs)]

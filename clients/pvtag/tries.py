@@ -5,6 +5,7 @@ of its name can. All tries of a run stand in one document, in an element of a na
 ANY behind it. No other model holds that name but those declared ANY, which hold each kid of it as well, so nothing else
 changes by it.
 """
+import functools
 import hashlib
 import re
 from collections.abc import Mapping, Sequence
@@ -40,6 +41,7 @@ ROW = re.compile(rb"^0\.(\d+) (\w+) ", re.M)
 MOST_IN_ONE, MOST_KEPT = 900, 1 << 20
 
 
+@functools.lru_cache(maxsize=1 << 12)
 def stub(kid: Kid) -> bytes:
     return b"<%s/>" % kid.name.encode() if kid.kind == "element" else STUBS[kid.kind]
 
