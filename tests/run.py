@@ -62,7 +62,7 @@ CHECKS = [
     row("annotate", "the page in a browser", "chromium chromedriver +selenium", 3600, "python3 tests/annotate.py PVTAG",
         "the page, by mouse and keyboard: keys at 0 to 300 ms after the mouse while the program is busy, a letter finished from a "
         "plain text, in at most 45 moves and 250 keys too, offers by their costs, refusals with their reasons, typing, attributes, finding, "
-        "undo, two windows, a folder of letters, contrasts, a phone's width, 100,000 nodes"),
+        "undo, two windows, a folder of letters, the place that was left, contrasts, a phone's width, 100,000 nodes"),
     row("examples", "the examples in comments of the crates", "rt", 3600, "python3 tests/examples.py",
         "the examples in comments of public items, compiled without proofs; that the tests which they name are there"),
     row("look", "a first look without proofs, against README", "rt", 3600, "tests/look.sh",

@@ -74,6 +74,9 @@ class Entry:
     def bye(self, ask: Any) -> Told:
         """A window was closed; where it was the last, and none comes, the document is closed in a while."""
         self.windows.discard(str(ask["window"]))
+        work = self.work
+        if work is not None:
+            work.answer("bye", ask)
         with self.lock:
             self.byes += 1
             timer = threading.Timer(LEFT, self.close_if_left, [self.byes])

@@ -27,6 +27,7 @@ from .suggest import Suggestions
 from .texts import Texts
 from .uses import Uses
 from .values import Names, Values
+from .views import Views
 
 
 class Refusal(Exception):
@@ -50,6 +51,7 @@ class Work:
         self.completions, self.palette = Completions(editor, self.attributes), Palette(editor.dtd, self.attributes)
         self.pieces = Pieces(editor, self.everywhere)
         self.suggestions = Suggestions(editor, self.around, self.everywhere, self.attributes)
+        self.views = Views(editor.script.document)
         self.comments, self.downloads = Comments(editor), Downloads(editor, title)
         self.values = Values(editor, self.around, self.attributes, names or Names(None))
         # The windows that show it, and whether the program is about to end.
@@ -70,6 +72,7 @@ class Work:
 
     def close(self) -> None:
         """Ends what runs beside the session, and the session."""
+        self.views.write()
         self.stop()
         self.editor.close()
 
@@ -130,7 +133,7 @@ def hello(work: Work, ask: Any) -> Told:
     work.windows.add(str(ask["window"]))
     empty = [name for name, declared in work.declared.items() if declared.kind == "empty"]
     return {"title": work.title, "names": list(work.declared), "empty": empty, "note": note_of(work.editor),
-            "entities": entities_of(work.editor), "comments": work.explainer.takes.comments}
+            "entities": entities_of(work.editor), "comments": work.explainer.takes.comments, "view": work.views.last}
 
 
 def note_of(editor: Editor) -> str:
@@ -147,6 +150,9 @@ def entities_of(editor: Editor) -> Told:
 
 def bye(work: Work, ask: Any) -> Told:
     work.windows.discard(str(ask["window"]))
+    if isinstance(ask.get("view"), dict):
+        work.views.put(ask["view"])
+    work.views.write()
     return {}
 
 
@@ -160,6 +166,8 @@ ASKED: dict[str, Callable[[Work, Any], Told]] = {
     "hello": hello,
     "bye": bye,
     "stop": stop,
+    "view": lambda work, ask: work.views.put(ask),
+    "outside": lambda work, _: {"changed": work.editor.script.is_changed},
     "state": lambda work, ask: work.editor.state(ask.get("since")),
     "history": lambda work, _: work.editor.history(),
     "need": lambda work, _: work.editor.need(),

@@ -21,6 +21,9 @@ export async function ask(name, what = {}) {
 
 export const hello = (what = {}) => ask("hello", what)
 
+// What is told when the window goes.
+let atBye = () => ({})
+export const beforeBye = (call) => (atBye = call)
 export function sayBye() {
-  fetch("bye", { method: "POST", keepalive: true, headers: { "Content-Type": "application/json" }, body: JSON.stringify({ window: window_ }) })
+  fetch("bye", { method: "POST", keepalive: true, headers: { "Content-Type": "application/json" }, body: JSON.stringify({ ...atBye(), window: window_ }) })
 }

@@ -37,6 +37,28 @@ export function commentOf(node) {
   return source.startsWith("<!--") ? source.slice(4, -3).trim() : ""
 }
 
+// The first words of an element, so that it can be told from others of its name.
+const WORDS = 40
+function firstWords(node) {
+  let text = ""
+  const todo = [node]
+  while (todo.length && text.length <= WORDS) {
+    const each = todo.pop()
+    if (each.kind === "text") text = `${text}${each.text.slice(0, 4 * WORDS)}`.replace(/\s+/g, " ").trimStart()
+    else if (each.kids && each !== node && text && !text.endsWith(" ") && !holdsText(each.owner)) text += " "
+    if (each.kids) for (let at = each.kids.length - 1; at >= 0; at--) todo.push(each.kids[at])
+  }
+  const words = text.trim()
+  return words.length > WORDS ? `${words.slice(0, WORDS).trimEnd()}…` : words
+}
+
+// The hue of a name: the same wherever it stands.
+export function hueOf(name) {
+  let sum = 7
+  for (const char of name) sum = (sum * 31 + char.codePointAt(0)) % 3600
+  return Math.round(sum * 137.5) % 360
+}
+
 // What a list's verdict is called.
 const VERDICTS = { possible: ", not finished", impossible: ", can't be finished" }
 
@@ -68,6 +90,7 @@ export class View {
 
   // A node's list has changed, or its name.
   redraw(node, renamed) {
+    for (let each = node; each?.owner; each = each.owner) this.mark(each)
     const box = node.owner === null ? this.host : this.box(node)
     if (!box) return
     if (node.owner !== null && (renamed || box.classList.contains("inline"))) this.refill((renamed ? box.parentElement : box).closest(".chunk"))
@@ -77,14 +100,26 @@ export class View {
   // A node's verdict has changed.
   mark(node) {
     const box = this.box(node)
-    if (box) this.judge(node, box)
+    if (box && node.kids) this.judge(node, box)
+  }
+
+  // Tells those that are drawn of an element's kids which of them they are, and how many there are.
+  number(node) {
+    const kids = (node?.kids ?? []).filter(({ kind }) => kind === "element")
+    for (const [at, kid] of kids.entries()) {
+      const box = this.box(kid)
+      if (!box) continue
+      box.ariaPosInSet = String(at + 1)
+      box.ariaSetSize = String(kids.length)
+    }
   }
 
   // Puts a verdict on a box: its colour, what it is called, and why nothing can mend it, which `explain` fills in.
   judge(node, box) {
     box.dataset.verdict = node.verdict ?? "valid"
     const said = commentOf(node)
-    const parts = [`${node.name}${VERDICTS[node.verdict] ?? ""}${node.new ? ", new" : ""}`, spelled(node.attrs ?? ""), said && `comment: ${said}`]
+    const words = firstWords(node)
+    const parts = [`${node.name}${VERDICTS[node.verdict] ?? ""}${node.new ? ", new" : ""}`, spelled(node.attrs ?? ""), said && `comment: ${said}`, words && `“${words}”`]
     box.ariaLabel = parts.filter(Boolean).join(", ")
     box.querySelector(":scope > .why")?.remove()
     if (node.verdict !== "impossible" || !this.explain) return
@@ -119,12 +154,16 @@ export class View {
     list.replaceChildren(...chunks)
     list.parentElement.classList.toggle("texts", holdsText(node))
     list.classList.toggle("nothing", chunks.length === 0)
-    if (chunks.length === 1) return this.fill(chunks[0])
+    if (chunks.length === 1) {
+      this.fill(chunks[0])
+      return this.number(node)
+    }
     for (const chunk of chunks) {
       if (!chunk.filled) chunk.style.height ||= `${heightOf(chunk.rows)}px`
       this.seen.observe(chunk)
     }
     this.fillNear(chunks)
+    this.number(node)
   }
 
   // Fills at once what is in sight, so that nothing flickers.
@@ -151,6 +190,7 @@ export class View {
     chunk.style.height = ""
     chunk.append(...chunk.rows.map((row) => this.row(row)))
     for (const wait of this.waiting.splice(0)) this.fillList(...wait)
+    this.number(chunk.rows[0]?.nodes[0]?.owner)
   }
 
   // Draws all of it, and nothing is taken away until `letGo`.
@@ -228,6 +268,8 @@ export class View {
     if (node.new) box.classList.add("new")
     // Elements round it have other colours than their own.
     box.style.setProperty("--own", this.colours.get(node.name) ?? "initial")
+    box.style.setProperty("--hue", hueOf(node.name))
+    this.number(node)
     this.judge(node, box)
     return box
   }

@@ -17,6 +17,7 @@ import { attributesSentence, attributesValid, countWrong, onWrong } from "./wron
 import "./type.js"
 import { toStart } from "./keys.js"
 import { showSource } from "./source.js"
+import { goBack, keepView } from "./view.js"
 
 const host = document.getElementById("document")
 const button = (id) => document.getElementById(id)
@@ -171,6 +172,15 @@ document.addEventListener("keydown", (event) => {
   event.preventDefault()
 })
 
+// A document that another program has changed is told once, when somebody looks at it again.
+let isTold = false
+addEventListener("focus", async () => {
+  if (!app.state) return
+  const { changed } = await ask("outside").catch(() => ({}))
+  if (changed && !isTold) tell(OUTSIDE)
+  isTold = Boolean(changed)
+})
+const OUTSIDE = "The file was changed by another program since it was opened. Save doesn't write over it, and asks for another name; begun anew with --again, annotate makes the moves on it as it is now."
 addEventListener("beforeprint", () => app.view.fillAll())
 addEventListener("afterprint", () => app.view.letGo())
 addEventListener("beforeunload", (event) => !app.state?.saved && event.preventDefault())
@@ -197,8 +207,12 @@ for (const [form, name] of Object.entries(known)) entities.set(form, name)
 for (const [name, text] of Object.entries(told)) comments.set(name, text)
 if (note) tell(note)
 await catchUp()
+if (opened.view) goBack(opened.view)
+keepView()
 question("palette").then((answer) => answer?.palette.length && setPalette(answer.palette))
-toStart()
-takeSelection()
+if (!opened.view?.caret) {
+  toStart()
+  takeSelection()
+}
 setTouch(matchMedia("(pointer: coarse)").matches)
 rest()

@@ -13,10 +13,19 @@ export function panel(id, opener, fill) {
     rest()
   })
   listeners.push((changed) => changed && !box.hidden && fill(box))
-  return () => {
+  const toggle = () => {
     show(box.hidden ? box : null)
     if (!box.hidden) fill(box)
   }
+  toggles.set(id, toggle)
+  return toggle
+}
+const toggles = new Map()
+
+// The panel that is open, and to open one.
+export const openPanel = () => [...panels.keys()].find((box) => !box.hidden)?.id ?? null
+export function showPanel(id) {
+  if (openPanel() !== id) toggles.get(id)?.()
 }
 
 function show(panel) {

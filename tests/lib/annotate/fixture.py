@@ -26,6 +26,10 @@ ARTICLE = os.path.join(EXAMPLES, "article.dtd")
 DRAFT = "<letter><opener>Dear brother,</opener>\n<body><p>I have met Mr Adams in Delft.</p></body></letter>\n"
 
 
+# What is kept of a user's windows is kept for these tests alone.
+STATE = tempfile.TemporaryDirectory()
+os.environ["XDG_STATE_HOME"] = STATE.name
+
 # What is raised where something isn't there yet, or is just being drawn anew.
 NOT_YET = (LookupError, TypeError, ValueError, AttributeError, FileNotFoundError)
 if browsers is not None:

@@ -376,7 +376,7 @@ def puts_comments(driver, program):
         page.keys(Keys.ESCAPE)
         page.keys(Keys.F2)
         soon(lambda: page.texts(".tag .flag"), [" ⚑"], "a flag")
-        soon(lambda: page.js("return document.querySelector('[aria-label^=salute]').ariaLabel"), "salute, comment: to check", "for those who hear it")
+        soon(lambda: page.js("return document.querySelector('[aria-label^=salute]').ariaLabel"), "salute, comment: to check, “Dear brother,”", "for those who hear it")
         page.press("#document [data-comment]")
         soon(lambda: page.js("return document.querySelector('#comment textarea').value"), "whose?", "the one that stands there")
         page.press("#comment .drop")

@@ -1,7 +1,9 @@
 """The page of `clients/annotate` for everyone: what is told to those who hear it, contrasts, dark and narrow windows,
 fingers. Cases of `annotate.py`."""
+import time
+
 from .browser import Page
-from .fixture import Server, need, same, soon
+from .fixture import ARTICLE, Server, need, same, soon
 from selenium.webdriver.common.keys import Keys
 
 LETTER = "<letter><opener>Dear brother,</opener>\n<closer>Yours</closer><body n='1'><p>I have met <person>Mr Adams</person>.</p><p></p></body></letter>\n"
@@ -56,7 +58,8 @@ def tells_those_who_hear(driver, program):
         nodes = driver.execute_cdp_cmd("Accessibility.getFullAXTree", {})["nodes"]
         rows = [(node["name"]["value"], *(each["value"]["value"] for each in node["properties"] if each["name"] == "level"))
                 for node in nodes if node.get("role", {}).get("value") == "treeitem"]
-        want = [("letter, can't be finished", 1), ("opener, not finished", 2), ("closer", 2), ("body, n='1'", 2), ("p", 3), ("p", 3), ("person", 4)]
+        want = [("letter, can't be finished, “Dear brother, Yours I have met Mr Adams.”", 1), ("opener, not finished, “Dear brother,”", 2),
+                ("closer, “Yours”", 2), ("body, n='1', “I have met Mr Adams.”", 2), ("p, “I have met Mr Adams.”", 3), ("p", 3), ("person, “Mr Adams”", 4)]
         same(sorted(rows), sorted(want), "the elements")
         texts = [node["name"]["value"] for node in nodes if node.get("role", {}).get("value") == "StaticText"]
         need("Dear brother," in texts and any("closer" in text for text in texts), "the texts are there too")
@@ -67,7 +70,13 @@ def tells_those_who_hear(driver, program):
         same(chosen, "true", "the choice is told")
         page.keys(Keys.ESCAPE)
         page.keys(Keys.ALT, Keys.ARROW_RIGHT)
-        same(page.js("return document.getElementById(document.activeElement.getAttribute('aria-activedescendant'))?.ariaLabel"), "closer", "what is chosen is told")
+        same(page.js("return document.getElementById(document.activeElement.getAttribute('aria-activedescendant'))?.ariaLabel"), "closer, “Yours”", "what is chosen is told")
+        same(page.js("return [...document.querySelectorAll('#document [role=treeitem]')].map((each) => [each.ariaPosInSet, each.ariaSetSize].join(' of '))"),
+             ["1 of 1", "1 of 3", "2 of 3", "3 of 3", "1 of 2", "1 of 1", "2 of 2"], "which of how many each is")
+        page.select("met")
+        page.take("place")
+        soon(lambda: page.js("return document.querySelector('[aria-label^=place]')?.ariaLabel"), "place, “met”", "a new one")
+        soon(lambda: page.js("return document.querySelector('[aria-label^=person]').ariaPosInSet"), "2", "the other is the second now")
         style = page.js("const { outlineStyle, outlineWidth } = getComputedStyle(document.getElementById('document')); return [outlineStyle, outlineWidth]")
         same(style, ["solid", "2px"], "the focus is seen")
         unnamed = [node for node in nodes if node.get("role", {}).get("value") in ("button", "textbox", "combobox", "searchbox") and not node["name"]["value"]]
@@ -174,4 +183,65 @@ def keeps_forced_colours(driver, program):
         same(page.js("return getComputedStyle(document.querySelector('.in-way')).outlineStyle"), "dashed", "its outline")
 
 
-CASES = [tells_those_who_hear, has_contrast, fits_a_phone, keeps_forced_colours]
+def begins_where_it_was_left(driver, program):
+    """A window that is loaded again, and a program that is begun again, show the place that was looked at, the caret, and the panel."""
+    lines = "".join(f"<p>Paragraph {number} of many, with more words in it.</p>" for number in range(400))
+    with Server(program, f"<doc><head>H</head><sec><head>x</head>{lines}</sec></doc>", ARTICLE, "doc") as server:
+        page = Page(driver, server.url)
+        page.press("#list")
+        page.js("document.getElementById('document').scrollTop = 6000")
+        first = "const { left, top, width } = document.getElementById('document').getBoundingClientRect();" \
+            "return document.elementFromPoint(left + width / 2, top + 60).closest('[data-id]').textContent.slice(0, 14)"
+        seen = soon(lambda: page.js(first), lambda text: text.startswith("Paragraph"), "a place far down")
+        page.click_text(f"{seen.strip()} of")
+        time.sleep(1.2)
+        for again in (driver.refresh, lambda: (server.stop(), server.start(), driver.get(server.url))):
+            again()
+            soon(lambda: page.js("return document.getElementById('next').textContent"), lambda text: text != "…", "it opens")
+            number = int(seen.split(" ")[1])
+            soon(lambda: int(page.js(first).split(" ")[1]), lambda at: abs(at - number) <= 2, f"the place, near paragraph {number}")
+            soon(lambda: page.find("#elements").is_displayed(), True, "the panel")
+            caret = "return import('./choose.js').then(({ caretPlace }) => caretPlace()?.to[0]?.text.slice(0, 14))"
+            soon(lambda: page.js(caret), seen, "the caret")
+
+
+def tells_changes_outside(driver, program):
+    """Where another program has written the file, that is told when the window has the focus again."""
+    with Server(program, LETTER) as server:
+        page = Page(driver, server.url)
+        page.js("dispatchEvent(new Event('focus'))")
+        page.rest()
+        same(page.find("#note").is_displayed(), False, "nothing is told")
+        server.write(LETTER.replace("met", "seen"))
+        page.js("dispatchEvent(new Event('focus'))")
+        soon(page.tell, lambda text: text.startswith("The file was changed by another program"), "it is told")
+        page.press("#note button")
+        page.js("dispatchEvent(new Event('focus'))")
+        page.rest()
+        same(page.find("#note").is_displayed(), False, "once")
+
+
+def colours_names(driver, program):
+    """A name has one colour wherever it stands, and others mostly another, which can be told from the ground in light and dark."""
+    with Server(program, LETTER) as server:
+        page = Page(driver, server.url)
+        hues = page.js("return import('./draw.js').then(({ hueOf }) => ['p', 'persName', 'placeName', 'date', 'item', 'list', 'hi', 'title'].map(hueOf))")
+        need(len({round(hue / 12) for hue in hues}) >= 6, f"hues: {hues}")
+        drawn = page.js("return [...document.querySelectorAll('#document .element')].map((each) => [each.querySelector('.tag').firstChild.data, each.style.getPropertyValue('--hue')])")
+        same(len({tuple(row) for row in drawn}), len({name for name, _ in drawn}), "the same name has the same")
+        draw = """
+        const canvas = document.createElement('canvas').getContext('2d', { willReadFrequently: true })
+        const rgb = (colour) => { canvas.fillStyle = colour; canvas.fillRect(0, 0, 1, 1); return [...canvas.getImageData(0, 0, 1, 1).data].slice(0, 3) }
+        const channel = (value) => (value /= 255) <= 0.03928 ? value / 12.92 : ((value + 0.055) / 1.055) ** 2.4
+        const luminance = ([r, g, b]) => 0.2126 * channel(r) + 0.7152 * channel(g) + 0.0722 * channel(b)
+        const ground = luminance(rgb(getComputedStyle(document.getElementById('document')).backgroundColor))
+        const named = getComputedStyle(document.documentElement).getPropertyValue('--named')
+        const contrast = (hue) => { const own = luminance(rgb(`oklch(${named} ${hue})`)); return (Math.max(own, ground) + 0.05) / (Math.min(own, ground) + 0.05) }
+        return Math.min(...Array.from({ length: 360 }, (_, hue) => contrast(hue)))
+        """
+        for name in ("light", "dark"):
+            scheme(driver, name)
+            need(page.js(draw) >= 3, f"the least contrast in {name}: {page.js(draw)}")
+
+
+CASES = [tells_those_who_hear, has_contrast, fits_a_phone, keeps_forced_colours, begins_where_it_was_left, tells_changes_outside, colours_names]
