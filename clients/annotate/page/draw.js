@@ -52,12 +52,10 @@ function firstWords(node) {
   return words.length > WORDS ? `${words.slice(0, WORDS).trimEnd()}…` : words
 }
 
-// The hue of a name: the same wherever it stands.
-export function hueOf(name) {
-  let sum = 7
-  for (const char of name) sum = (sum * 31 + char.codePointAt(0)) % 3600
-  return Math.round(sum * 137.5) % 360
-}
+// The hue of a name, the same wherever it stands: those of names that are declared one after another are far apart.
+export const hues = new Map()
+export const setHues = (names) => names.forEach((name, at) => hues.set(name, Math.round(at * 137.508) % 360))
+const hueOf = (name) => hues.get(name) ?? [...name].reduce((sum, char) => (sum * 31 + char.codePointAt(0)) % 360, 7)
 
 // What a list's verdict is called.
 const VERDICTS = { possible: ", not finished", impossible: ", can't be finished" }

@@ -4,7 +4,7 @@ import { app, catchUp, change, listeners, question, tell } from "./app.js"
 import { ask, Gone, hello, sayBye } from "./ask.js"
 import { closedBecause, goOnward, setDrawer } from "./onward.js"
 import { showComments, toggleFlag } from "./comments.js"
-import { comments, empties, entities } from "./draw.js"
+import { comments, empties, entities, setHues } from "./draw.js"
 import { rest, setTouch, takeSelection } from "./choose.js"
 import { openFinder } from "./find.js"
 import { closeMenu, isMenuOpen } from "./menu.js"
@@ -141,8 +141,13 @@ button("others").addEventListener("click", () => toggleMore(false))
 const often = ["lacks", "search", "preview"].map(button)
 const isNarrow = matchMedia("(max-width: 900px)")
 const standOften = () => (isNarrow.matches ? button("others").prepend(...often) : button("more").before(...often))
-isNarrow.addEventListener("change", standOften)
-standOften()
+const ofDrawer = ["done", "onward"].map(button)
+const isPhone = matchMedia("(max-width: 600px)")
+const standOfDrawer = () => (isPhone.matches ? button("others").append(...ofDrawer) : button("save").after(...ofDrawer))
+for (const [query, call] of [[isNarrow, standOften], [isPhone, standOfDrawer]]) {
+  query.addEventListener("change", call)
+  call()
+}
 for (const dialog of document.querySelectorAll("dialog")) {
   const close = dialog.querySelector("button.close")
   if (!close.form) close.addEventListener("click", () => dialog.close())
@@ -202,6 +207,7 @@ const { title, names, empty, note, entities: known, comments: told, drawer } = o
 if (drawer) setDrawer(drawer)
 button("title").textContent = document.title = title
 app.names = new Set(names)
+setHues(names)
 for (const name of empty) empties.add(name)
 for (const [form, name] of Object.entries(known)) entities.set(form, name)
 for (const [name, text] of Object.entries(told)) comments.set(name, text)

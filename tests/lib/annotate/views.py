@@ -225,8 +225,8 @@ def colours_names(driver, program):
     """A name has one colour wherever it stands, and others mostly another, which can be told from the ground in light and dark."""
     with Server(program, LETTER) as server:
         page = Page(driver, server.url)
-        hues = page.js("return import('./draw.js').then(({ hueOf }) => ['p', 'persName', 'placeName', 'date', 'item', 'list', 'hi', 'title'].map(hueOf))")
-        need(len({round(hue / 12) for hue in hues}) >= 6, f"hues: {hues}")
+        hues = page.js("return import('./draw.js').then(({ hues }) => [...hues.values()])")
+        need(len(hues) == 11 and all(abs(one - other) > 10 for at, one in enumerate(hues) for other in hues[:at]), f"hues: {hues}")
         drawn = page.js("return [...document.querySelectorAll('#document .element')].map((each) => [each.querySelector('.tag').firstChild.data, each.style.getPropertyValue('--hue')])")
         same(len({tuple(row) for row in drawn}), len({name for name, _ in drawn}), "the same name has the same")
         draw = """
