@@ -40,8 +40,9 @@ function showState(changed) {
 
 // When the last move was put on the disk.
 function showKept() {
-  const time = new Date().toLocaleTimeString([], { hour: "2-digit", minute: "2-digit" })
+  const time = new Date().toLocaleTimeString("en-GB", { hour: "2-digit", minute: "2-digit" })
   button("kept").textContent = `kept ${time}`
+  button("save").title = `Write the document to its file (Ctrl+S). The last move was kept beside it at ${time}`
 }
 
 // Green only where elements and attributes are valid.

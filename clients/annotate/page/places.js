@@ -21,6 +21,7 @@ export async function showPlaces({ heading, name, request, ask, closed = () => {
   closeMenu()
   title.textContent = heading
   cut.hidden = true
+  attributes.closest("p").hidden = true
   refuse("")
   dialog.returnValue = ""
   const own = (shown += 1)
