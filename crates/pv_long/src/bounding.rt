@@ -16,7 +16,7 @@ ghost use Rattle.pv_long.specs.Bounding.{AreBounded};
 
 use crate::errors::MakeError;
 use crate::making::building::build;
-use crate::making::filling::fill;
+use crate::making::filling::{Filled, fill};
 use crate::making::plan::Plan;
 use crate::pieces::Piece;
 use pv_bounds::laws::below_sites_law;
@@ -96,19 +96,19 @@ fn word_bound(
     }
 }
 
-// The pieces of a list's completion that are made by fronts.
+// The pieces of a list's completion, by what is made of it.
 fn pieces_by(
     alloc: Global,
     plan: &Plan<'_>,
     of: Of,
     word: &[Token],
-    fronts: &Fronts,
+    filled: &Filled,
 ) -> Result<Vec<Piece>, MakeError> {
     let column = plan.layout.column(site_at(of));
     let Ok(tokens) = u32::try_from(word.len()) else {
         return Err(MakeError::TooMany);
     };
-    build(alloc, plan.layout.forms(), fronts, column, tokens)
+    build(alloc, plan.layout.forms(), filled, column, tokens)
 }
 
 // How many elements are missing in a list of these kids at least, and the pieces of a completion.
@@ -124,9 +124,9 @@ fn bound_kids(
         IsBound (dtd_of plan.now.layout.now.grammar.now) root list found.0) }
 {
     let word = word(alloc, plan.layout.grammar.dtd(), kids)?;
-    let fronts = fill(alloc, plan, word.as_slice())?;
-    let least = word_bound(alloc, plan.layout, of, word.as_slice(), &fronts)?;
-    let pieces = pieces_by(alloc, plan, of, word.as_slice(), &fronts)?;
+    let filled = fill(alloc, plan, word.as_slice())?;
+    let least = word_bound(alloc, plan.layout, of, word.as_slice(), &filled.fronts)?;
+    let pieces = pieces_by(alloc, plan, of, word.as_slice(), &filled)?;
     Ok((least, pieces))
 }
 

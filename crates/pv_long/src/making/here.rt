@@ -1,117 +1,390 @@
 //! The fronts of the place at hand.
 
-use crate::making::fronts::{covers, has, put, shorten};
+use crate::making::derivations::{Derivation, Derivations, Rule};
+use crate::making::fronts::{end_of, put};
+use crate::making::grain::{Grain, Way};
 use pv_bounds::Reach;
 use pv_chars::NoMemory;
 use pv_rules::HEAVIEST;
 use std::alloc::Global;
 
-/// How many costs have a list of their own of what waits; greater ones share the last.
-pub const KINDS: usize = 64;
+/// How many costs are told apart at a time.
+const COSTS: usize = 1_024;
 
-/// A reach of a column from which others may follow.
+/// A reach of a column from which others may follow, with its derivation.
 #[derive(Clone, Copy, Debug)]
 pub struct Step {
     pub column: u32,
     pub cost: u32,
     pub end: u32,
+    pub number: u32,
 }
 
-/// The fronts of the place at hand, and the reaches from which others may still follow, by cost.
+/// How far a column may go, and how. It goes nowhere where the end is 0.
+#[derive(Clone, Copy, Debug)]
+struct Offer {
+    end: u32,
+    rule: Rule,
+}
+
+/// An offer of a cost that isn't told apart yet.
+#[derive(Clone, Copy, Debug)]
+struct Dear {
+    column: u32,
+    cost: u32,
+    offer: Offer,
+}
+
+/// What is known of a column at the place at hand.
+#[derive(Drop)]
+struct Column {
+    front: Vec<Reach>,
+    /// What is offered and waits, by what it costs beyond `Here::least`.
+    offers: Vec<Offer>,
+    /// The least cost at which the last token is reached, among all that was offered.
+    whole: u32,
+    /// The cuts up to this place have been tried.
+    tried: u32,
+    /// How far on the place is at which its front is taken as an example.
+    shift: u32,
+    /// How many reaches of that front have been followed.
+    followed: usize,
+    /// Whether all cuts are tried, not only near ones and those of the example.
+    all: bool,
+}
+
+/// The fronts of the place at hand. Offers wait by their cost, and the cheapest is settled first: so
+/// a front grows at its end alone.
 #[derive(Drop)]
 pub struct Here {
     pub place: u32,
-    pub fronts: Vec<Vec<Reach>>,
-    /// The most reaches of a front.
-    most: usize,
-    waiting: Vec<Vec<Step>>,
+    grain: Grain,
+    /// How many reaches were looked at in all.
+    pub work: u64,
+    columns: Vec<Column>,
+    least: u32,
+    /// The columns that wait, by the cost of what is offered beyond `least`.
+    waiting: Vec<Vec<u32>>,
+    dear: Vec<Dear>,
+}
+
+// Takes off the last reach of a front, where a reach up to this end comes after it and they and the
+// one before them aren't told apart.
+fn thin(front: &mut Vec<Reach>, grain: Grain, place: u32, end: u32) {
+    let Some(number) = usize::checked_sub(front.len(), 2) else {
+        return;
+    };
+    if let Some(before) = front.get(number) {
+        if grain.told(place, before.end) == grain.told(place, end) {
+            front.pop();
+        }
+    }
+}
+
+impl Column {
+    // Notes an offer of a cost beyond the least, and tells whether the column is to wait for it.
+    fn note(&mut self, beyond: usize, offer: Offer) -> Result<bool, NoMemory> {
+        for _cost in self.offers.len()..usize::saturating_add(beyond, 1) {
+            self.offers.push(Offer {
+                end: 0,
+                rule: Rule::Token,
+            })?;
+        }
+        let Some(old) = self.offers.get_mut(beyond) else {
+            return Ok(false);
+        };
+        if old.end >= offer.end {
+            return Ok(false);
+        }
+        let is_new = old.end == 0;
+        *old = offer;
+        Ok(is_new)
+    }
+
+    // What was offered at a cost beyond the least, which no longer waits.
+    fn take(&mut self, beyond: usize) -> Option<Offer> {
+        let old = self.offers.get_mut(beyond)?;
+        let offer = *old;
+        old.end = 0;
+        Some(offer)
+    }
 }
 
 impl Here {
     /// Fronts without a reach, of so many columns.
-    pub fn new(alloc: Global, columns: usize, most: usize) -> Result<Here, NoMemory> {
-        let mut fronts = Vec::with_capacity(alloc, columns)?;
+    pub fn new(alloc: Global, columns: usize, grain: Grain) -> Result<Here, NoMemory> {
+        let mut made = Vec::with_capacity(alloc, columns)?;
         for _column in 0..columns {
-            fronts.push(Vec::new(alloc))?;
-        }
-        let mut waiting = Vec::with_capacity(alloc, KINDS)?;
-        for _kind in 0..KINDS {
-            waiting.push(Vec::new(alloc))?;
+            made.push(Column {
+                front: Vec::new(alloc),
+                offers: Vec::new(alloc),
+                whole: HEAVIEST,
+                tried: 0,
+                shift: 1,
+                followed: 0,
+                all: false,
+            })?;
         }
         Ok(Here {
             place: 0,
-            fronts,
-            most,
-            waiting,
+            grain,
+            work: 0,
+            columns: made,
+            least: 0,
+            waiting: Vec::new(alloc),
+            dear: Vec::new(alloc),
         })
     }
 
-    /// The front of a column.
-    pub fn front(&self, column: u32) -> &[Reach] {
-        match self.fronts.get(column as usize) {
-            Some(front) => front.as_slice(),
-            None => &[],
+    /// Goes to a place, where there is no reach so far.
+    pub fn go_to(&mut self, place: u32) {
+        self.place = place;
+        for column in self.columns.iter_mut() {
+            column.all = false;
         }
-    }
-
-    // Lets a reach wait for those that follow from it.
-    fn wait(&mut self, column: u32, reach: Reach) -> Result<(), NoMemory> {
-        let kind = (reach.cost as usize).min(KINDS - 1);
-        if let Some(waiting) = self.waiting.get_mut(kind) {
-            waiting.push(Step {
-                column,
-                cost: reach.cost,
-                end: reach.end,
-            })?;
-        }
-        Ok(())
-    }
-
-    /// Offers a reach to the front of a column, which takes it unless it has one that is as cheap
-    /// and as far.
-    pub fn offer(&mut self, column: u32, reach: Reach) -> Result<(), NoMemory> {
-        if reach.cost >= HEAVIEST || covers(self.front(column), reach.cost, reach.end) {
-            return Ok(());
-        }
-        if let Some(front) = self.fronts.get_mut(column as usize) {
-            put(front, reach)?;
-        }
-        self.wait(column, reach)?;
-        self.shorten(column)
-    }
-
-    // Makes the front of a column shorter where it has too many reaches.
-    fn shorten(&mut self, column: u32) -> Result<(), NoMemory> {
-        let most = self.most;
-        let Some(front) = self.fronts.get_mut(column as usize) else {
-            return Ok(());
-        };
-        if front.len() <= most {
-            return Ok(());
-        }
-        match shorten(front)? {
-            Some(made) => self.wait(column, made),
-            None => Ok(()),
-        }
-    }
-
-    /// The next reach of this kind of cost that waits.
-    pub fn take(&mut self, kind: usize) -> Option<Step> {
-        match self.waiting.get_mut(kind) {
-            Some(waiting) => waiting.pop(),
-            None => None,
-        }
-    }
-
-    /// Whether a column still has this reach.
-    pub fn has(&self, step: Step) -> bool {
-        has(self.front(step.column), step.cost, step.end)
+        self.clear();
     }
 
     /// Takes all reaches off.
     pub fn clear(&mut self) {
-        for front in self.fronts.iter_mut() {
-            front.truncate(0);
+        self.least = 0;
+        for column in self.columns.iter_mut() {
+            column.front.truncate(0);
+            column.whole = HEAVIEST;
+            column.tried = self.place;
+            column.followed = 0;
         }
+    }
+
+    /// Counts reaches that are looked at.
+    pub fn look(&mut self, reaches: usize) {
+        let reaches = u64::try_from(reaches).unwrap_or(u64::MAX);
+        self.work = u64::saturating_add(self.work, reaches);
+    }
+
+    /// Whether all cuts of a column are tried.
+    pub fn tries_all(&self, column: u32) -> bool {
+        match self.columns.get(column as usize) {
+            Some(known) => known.all,
+            None => true,
+        }
+    }
+
+    /// Lets all cuts of a column be tried from the next time on.
+    pub fn try_all(&mut self, column: u32) {
+        if let Some(known) = self.columns.get_mut(column as usize) {
+            known.all = true;
+        }
+    }
+
+    /// The place at which the front of a column is taken as an example.
+    pub fn example(&self, column: u32) -> u32 {
+        match self.columns.get(column as usize) {
+            Some(known) => u32::saturating_add(self.place, known.shift),
+            None => self.place,
+        }
+    }
+
+    /// Takes the front of a column so far on as an example from now on.
+    pub fn follow_shift(&mut self, column: u32, shift: u32) {
+        if let Some(known) = self.columns.get_mut(column as usize) {
+            known.shift = shift;
+        }
+    }
+
+    /// How many reaches of the example have been followed.
+    pub fn followed(&self, column: u32) -> usize {
+        match self.columns.get(column as usize) {
+            Some(known) => known.followed,
+            None => usize::MAX,
+        }
+    }
+
+    /// One more reach of the example has been followed.
+    pub fn follow_one(&mut self, column: u32) {
+        if let Some(known) = self.columns.get_mut(column as usize) {
+            known.followed = usize::saturating_add(known.followed, 1);
+        }
+    }
+
+    /// The front of a column.
+    pub fn front(&self, column: u32) -> &[Reach] {
+        match self.columns.get(column as usize) {
+            Some(known) => known.front.as_slice(),
+            None => &[],
+        }
+    }
+
+    /// The least cost that is of no use to a column: at this cost or less it reaches the last token.
+    pub fn whole(&self, column: u32) -> u32 {
+        match self.columns.get(column as usize) {
+            Some(known) => known.whole,
+            None => 0,
+        }
+    }
+
+    /// The cuts of a column up to a place: the first one that hasn't been tried. All are tried now.
+    pub fn try_cuts(&mut self, column: u32, end: u32) -> u32 {
+        let Some(known) = self.columns.get_mut(column as usize) else {
+            return end;
+        };
+        let tried = known.tried;
+        known.tried = tried.max(end);
+        u32::saturating_add(tried, 1)
+    }
+
+    /// Offers a reach to a column, which takes it in its turn unless it goes as far at no more cost.
+    pub fn offer(
+        &mut self,
+        alloc: Global,
+        column: u32,
+        cost: u32,
+        end: u32,
+        rule: Rule,
+    ) -> Result<(), NoMemory> {
+        self.work = u64::saturating_add(self.work, 1);
+        let beyond = u32::saturating_sub(cost, self.least) as usize;
+        let tokens = self.grain.tokens;
+        let end = match self.grain.way {
+            Way::Further => self.grain.told(self.place, end),
+            Way::Fewer => end,
+        };
+        let Some(known) = self.columns.get_mut(column as usize) else {
+            return Ok(());
+        };
+        if cost >= known.whole || end_of(known.front.as_slice()) >= end {
+            return Ok(());
+        }
+        if end >= tokens {
+            known.whole = cost;
+        }
+        let offer = Offer { end, rule };
+        if beyond >= COSTS {
+            self.dear.push(Dear {
+                column,
+                cost,
+                offer,
+            })?;
+            return Ok(());
+        }
+        if known.note(beyond, offer)? {
+            self.wait(alloc, beyond, column)?;
+        }
+        Ok(())
+    }
+
+    // Lets a column wait for its turn at a cost beyond the least.
+    fn wait(&mut self, alloc: Global, beyond: usize, column: u32) -> Result<(), NoMemory> {
+        for _cost in self.waiting.len()..usize::saturating_add(beyond, 1) {
+            self.waiting.push(Vec::new(alloc))?;
+        }
+        if let Some(waiting) = self.waiting.get_mut(beyond) {
+            waiting.push(column)?;
+        }
+        Ok(())
+    }
+
+    // The next column that waits at a cost beyond the least.
+    fn next(&mut self, beyond: usize) -> Option<u32> {
+        self.waiting.get_mut(beyond)?.pop()
+    }
+
+    /// How many costs beyond the least there are at which columns have waited.
+    pub fn costs(&self) -> usize {
+        self.waiting.len()
+    }
+
+    /// Settles the next offer at a cost beyond the least: the column reaches so far. None where no
+    /// offer waits any more.
+    pub fn settle(
+        &mut self,
+        beyond: usize,
+        derivations: &mut Derivations,
+    ) -> Result<Option<Step>, NoMemory> {
+        let cost = u32::saturating_add(self.least, u32::try_from(beyond).unwrap_or(u32::MAX));
+        for _offer in 0..usize::MAX {
+            let Some(column) = self.next(beyond) else {
+                break;
+            };
+            if let Some(step) = self.take(column, cost, beyond, derivations)? {
+                return Ok(Some(step));
+            }
+        }
+        Ok(None)
+    }
+
+    // Puts what is offered to a column into its front, unless it goes as far by now.
+    fn take(
+        &mut self,
+        column: u32,
+        cost: u32,
+        beyond: usize,
+        derivations: &mut Derivations,
+    ) -> Result<Option<Step>, NoMemory> {
+        let Some(known) = self.columns.get_mut(column as usize) else {
+            return Ok(None);
+        };
+        let Some(Offer { end, rule }) = known.take(beyond) else {
+            return Ok(None);
+        };
+        if end_of(known.front.as_slice()) >= end {
+            return Ok(None);
+        }
+        if self.grain.way == Way::Fewer {
+            thin(&mut known.front, self.grain, self.place, end);
+        }
+        let number = derivations.add(Derivation { end, rule })?;
+        put(
+            &mut known.front,
+            Reach {
+                cost,
+                end,
+                via: number,
+            },
+        )?;
+        Ok(Some(Step {
+            column,
+            cost,
+            end,
+            number,
+        }))
+    }
+
+    /// Tells greater costs apart, once no offer waits any more, and tells whether there are any.
+    pub fn go_dearer(&mut self, alloc: Global) -> Result<bool, NoMemory> {
+        let mut least = HEAVIEST;
+        for dear in self.dear.iter() {
+            least = least.min(dear.cost);
+        }
+        if self.dear.is_empty() {
+            return Ok(false);
+        }
+        self.least = least;
+        let mut dear = Vec::new(alloc);
+        std::mem::swap(&mut dear, &mut self.dear);
+        for Dear {
+            column,
+            cost,
+            offer,
+        } in dear.iter().copied() {
+            self.again(alloc, column, cost, offer)?;
+        }
+        Ok(true)
+    }
+
+    // Offers again what was too dear.
+    fn again(
+        &mut self,
+        alloc: Global,
+        column: u32,
+        cost: u32,
+        offer: Offer,
+    ) -> Result<(), NoMemory> {
+        if let Some(known) = self.columns.get_mut(column as usize) {
+            if offer.end >= self.grain.tokens && known.whole == cost {
+                known.whole = HEAVIEST;
+            }
+        }
+        self.offer(alloc, column, cost, offer.end, offer.rule)
     }
 }

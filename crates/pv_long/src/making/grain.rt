@@ -1,0 +1,72 @@
+//! Which ends of reaches are told apart, where a list has too many.
+
+/// What becomes of the reaches whose ends aren't told apart.
+#[derive(Clone, Copy, Debug, PartialEq, Eq)]
+pub enum Way {
+    /// Each goes up to the next end that is told apart: it costs no more than is known there.
+    Further,
+    /// Of those up to one of these ends, the cheapest and the furthest are kept.
+    Fewer,
+}
+
+/// Ends that are up to so many places away are told apart; further on those at each second place,
+/// then at each fourth one, and so on. What was told apart from a place is so from all before it.
+#[derive(Clone, Copy, Debug)]
+pub struct Grain {
+    pub near: u32,
+    pub tokens: u32,
+    pub way: Way,
+}
+
+/// A number, or the next one that is a multiple of a step.
+fn up_to(number: u32, step: u32) -> u32 {
+    if step == 0 {
+        return number;
+    }
+    let over = number % step;
+    if over == 0 {
+        number
+    } else {
+        u32::saturating_add(number - over, step)
+    }
+}
+
+/// What is told apart from all places is at most this part of what was from the last ones.
+const PART: u64 = 8;
+
+impl Grain {
+    /// The first end at this one or after it that is told apart from a place.
+    pub fn told(&self, place: u32, end: u32) -> u32 {
+        let mut told = end;
+        let mut step = 1u32;
+        let mut reach = self.near;
+        for _step in 0..32 {
+            if u32::saturating_sub(told, place) <= reach || told >= self.tokens {
+                break;
+            }
+            step = u32::saturating_mul(step, 2);
+            reach = u32::saturating_mul(reach, 2);
+            told = up_to(told, step);
+        }
+        told.min(self.tokens)
+    }
+
+    /// Fewer ends, where there were too many reaches from the last places, which are so many.
+    pub fn coarser(&self, places: u32) -> Grain {
+        let room = u64::from(places) * u64::from(places) / PART;
+        let mut near = self.near / 2;
+        let mut times = 1u64;
+        for _half in 0..32 {
+            let most = u64::from(self.tokens) * u64::from(near);
+            if u64::saturating_mul(most, times) <= room {
+                break;
+            }
+            near /= 2;
+            times = u64::saturating_add(times, 1);
+        }
+        Grain {
+            near: near.max(1),
+            ..*self
+        }
+    }
+}
