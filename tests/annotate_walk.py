@@ -172,7 +172,21 @@ class Walk:
         places = [row["place"] for row in self.ask("places", {"text": words, "name": name}).get("places", ())]
         if random.random() < 0.2:
             places.append(random.choice([[0, 0, 0, 1], "x", [1, 2], [10 ** 6, 0, 0, 1]]))
-        self.ask("tag-places", {"name": name, "places": random.sample(places, k=min(4, len(places)))})
+        pairs = random.choice([[], [], [["n", "1"]], [["a b", ""]], [["n", "\ud800"]]])
+        self.ask("tag-places", {"name": name, "places": random.sample(places, k=min(4, len(places))), "pairs": pairs})
+
+    def found(self):
+        """One tag at several places, each a part of a text, or each place with a tag of its own."""
+        places = [self.place() for _ in range(random.randint(0, 3))]
+        if random.random() < 0.5:
+            return self.ask("tag-found", {"name": random.choice(NAMES), "places": places, "pairs": []})
+        rows = [{"place": place, "name": random.choice(NAMES), "pairs": random.choice([[], [["n", "x"]]])} for place in places]
+        return self.ask("take-suggestions", {"places": rows + random.choice([[], [], [{"place": 5}]])})
+
+    def look(self):
+        """What is only shown."""
+        self.ask(random.choice(["source", "unsaved", "suggestions", "outside", "view"]), {"path": [0], "caret": "x", "panel": 5})
+        self.ask("download", {"kind": random.choice(["html", "names", "xml", "x"])})
 
     def take(self):
         if random.random() < 0.5:
@@ -323,7 +337,7 @@ class Walk:
     def step(self):
         random.choices(*zip((self.move, 30), (self.type, 20), (self.undo, 8), (self.redo, 6), (self.attributes, 6), (self.everywhere, 4), (self.take, 5),
                             (self.offer, 6), (self.back, 3), (self.save, 5), (self.save_beside, 2), (self.with_full_disk, 2), (self.changes_outside, 2),
-                            (self.comment, 5), (self.kill_session, 3), (self.kill_server, 2), (self.again, 1)))[0]()
+                            (self.comment, 5), (self.found, 6), (self.look, 2), (self.kill_session, 3), (self.kill_server, 2), (self.again, 1)))[0]()
         self.check()
         if random.random() < 0.05:
             self.check_script()

@@ -1,5 +1,7 @@
 """The same tag round all places of the same text: which places there are, and the move that makes those that are
 wanted."""
+import math
+import time
 from collections.abc import Iterator
 from typing import Any
 
@@ -65,14 +67,16 @@ class Everywhere:
         answer = self.editor.answer(since, lines) if lines else self.editor.state(since)
         return {**answer, "refused": len(refused)}
 
-    def tried(self, moves: list[list[str]]) -> tuple[list[str], list[int]]:
+    def tried(self, moves: list[list[str]], most: float = math.inf) -> tuple[list[str], list[int]]:
         """The lines of those that the session makes, one behind another, and the numbers of those that it refuses; nothing
-        is changed."""
+        is changed. What isn't tried in so many seconds is in neither."""
         made: list[str] = []
         refused: list[int] = []
-        editor, start = self.editor, self.editor.ahead
+        editor, start, end = self.editor, self.editor.ahead, time.monotonic() + most
         try:
             for at, lines in enumerate(moves):
+                if time.monotonic() > end:
+                    break
                 before = editor.ahead
                 if any(isinstance(editor.play(line), Refused) for line in lines):
                     editor.rewind(before)

@@ -16,6 +16,8 @@ from .runs import Spot, below, run_of, spots_of
 APART = {"lines": 1, "paragraphs": 2}
 # So much of a piece's text is told.
 EXCERPT = 90
+# So long other requests wait for it at most, in seconds.
+LONG = 0.3
 # A node of the run, and the unit there of a text.
 Atom = tuple[Node, int | None]
 
@@ -40,9 +42,10 @@ class Pieces:
             return {"by": by, "pieces": rows, "more": len(pieces) > MOST}
 
     def refused(self, places: list[Told], name: str) -> set[int]:
-        """The numbers of the places where the tag is refused, the others being made; nothing is changed."""
+        """The numbers of the places where the tag is refused, the others being made; nothing is changed. Where there are so many
+        that trying them takes long, the rest is tried when it is made."""
         moves = [self.lines_for(place, name) for place in reversed(places)]
-        return {len(places) - 1 - at for at in self.everywhere.tried(moves)[1]}
+        return {len(places) - 1 - at for at in self.everywhere.tried(moves, LONG)[1]}
 
     def lines_for(self, place: Any, name: str, attrs: str = "") -> list[str]:
         cuts, path, start, end = run_of(self.editor.document, place)
