@@ -200,6 +200,7 @@ ASKED: dict[str, Callable[[Work, Any], Told]] = {
     "unsaved": lambda work, ask: work.downloads.changes(ask),
     "download": lambda work, ask: work.downloads.download(ask),
     "tag-found": lambda work, ask: work.suggestions.tag_all(ask),
+    "known": lambda work, ask: work.values.known(ask),
     "pieces": lambda work, ask: work.pieces.of(ask),
     "tag-pieces": lambda work, ask: work.pieces.tag(ask, work.attributes.asked(ask)),
     "why": lambda work, ask: work.explainer.of_lists(ask),

@@ -26,7 +26,7 @@ const DIGITS = 9
 // takes a name that isn't among the choices; `names` are those that are declared; `hint` stands where there is no choice,
 // `about` above them all. `inSight` is called where other choices come into sight. `each`, where it is there, takes a name
 // for each line or paragraph, by Alt+Enter, and `everywhere` one for all places of the text, by Shift+Enter. All of them take
-// the attributes too that were typed behind a name, where there is `typed`.
+// the attributes too that were typed behind a name, where there is `typed`; `known` gives those that a name had before.
 export function openMenu({ closed, keepFocus = false, ...menu }) {
   const before = open
   open = { closed, names: new Set(), entered: null, ...menu }
@@ -58,7 +58,7 @@ export function setChoices(choices, about = null) {
   open.isWaiting = false
   tellWaiting()
   if (about !== null) {
-    wanted ??= shown[at]?.label ?? null
+    wanted ??= shown[at] ? keyOf(shown[at]) : null
     tellAbout(about)
   }
   const top = list.scrollTop
@@ -93,7 +93,8 @@ function takeHeld() {
 
 // What is no name of an element, as a row that extends one, has nothing to do with each line, or with all places.
 function carryOut(choice, on) {
-  const { pairs, text } = typedIn(input.value)
+  const { pairs: typed, text } = typedIn(input.value)
+  const pairs = choice.pairs ?? typed
   if (pairs === null) return refuse(`Attributes are written as key=adams or key="Mr Adams", and not as ${text}.`)
   const take = choice.isOther ? choice.take : { each: open.each, everywhere: open.everywhere }[on] ?? choice.take
   take(choice.label, pairs)
@@ -202,10 +203,14 @@ function ranked(text) {
   return isDeclared ? [typed, ...rest] : [...rest, typed]
 }
 
+// A row is told from others by its name, and by its own attributes.
+const keyOf = ({ label, pairs }) => (pairs ? `${label} ${pairsText(pairs)}` : label)
+
 function filter() {
   const { name: text, pairs, text: attributes } = typedIn(input.value)
   shown = open.isWaiting && open.choices.length === 0 ? [] : ranked(text)
-  const kept = shown.findIndex(({ label }) => label === wanted)
+  if (/^\s*\S+\s/.test(input.value) && shown.length) shown = withKnown(shown, attributes)
+  const kept = shown.findIndex((choice) => keyOf(choice) === wanted)
   at = Math.max(0, kept)
   const items = shown.map((choice, number) => itemOf(choice, number, pairs?.length ? pairsText(pairs) : attributes))
   list.replaceChildren(...(text ? items : grouped(items)))
@@ -214,7 +219,26 @@ function filter() {
   open.inSight?.()
 }
 
-function itemOf({ label, note, isTyped, isOther }, number, attributes) {
+// The first row, also with the attributes that are known for it and begin as those that are typed do; then the others.
+function withKnown([first, ...others], attributes) {
+  const { known } = open
+  const { label } = first
+  if (!known || first.isOther) return [first, ...others]
+  if (open.knownOf !== label) {
+    const menu = open
+    Object.assign(open, { knownOf: label, knownTags: [] })
+    known(label).then((tags) => {
+      if (open !== menu || open.knownOf !== label || tags.length === 0) return
+      open.knownTags = tags
+      filter()
+    })
+  }
+  const fits = open.knownTags.filter((pairs) => pairsText(pairs).startsWith(attributes) || pairsText(pairs).replaceAll('"', "").startsWith(attributes))
+  return [first, ...fits.slice(0, DIGITS).map((pairs) => ({ ...first, pairs })), ...others]
+}
+
+function itemOf({ label, note, isTyped, isOther, pairs }, number, typed) {
+  const attributes = pairs ? pairsText(pairs) : typed
   const item = line("li", isTyped ? "typed" : "", label)
   item.id = `choice${number}`
   item.role = "option"
@@ -279,7 +303,7 @@ input.addEventListener("keydown", (event) => {
   if (step && shown.length) {
     const isOne = Math.abs(step) === 1
     at = isOne ? (at + step + shown.length) % shown.length : Math.max(0, Math.min(shown.length - 1, at + step))
-    wanted = shown[at].label
+    wanted = keyOf(shown[at])
     seen.time = -Infinity
     show()
   } else if (event.key === "Enter") event.repeat || take(at, seen.labels[seen.at], event.shiftKey ? "everywhere" : event.altKey || isEach.checked ? "each" : "")

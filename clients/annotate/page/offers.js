@@ -205,7 +205,8 @@ export function offerNames(name, { kind, run = null, node = null }, { first, las
   const each = !all && kind === "wrap" && hasLines(run) ? (label, pairs) => at() && openPieces(label, at(), pairs) : null
   const text = kind === "wrap" && !all ? plainTextOf(run) : ""
   const everywhere = text ? (label, pairs) => openEverywhere(label, text, null, pairs) : null
-  openMenu({ ...menu, each, everywhere, closed, keepFocus: isByTouch() })
+  const known = text ? async (label) => (await ask("known", { name: label, text })).known ?? [] : null
+  openMenu({ ...menu, each, everywhere, known, closed, keepFocus: isByTouch() })
   fillNames(here)
 }
 

@@ -352,6 +352,14 @@ def completes_values(driver, program):
         page.keys(Keys.SHIFT, Keys.ENTER)
         soon(lambda: page.js("return [...document.querySelectorAll('#known-tags option')].map((each) => each.value)"), ['key="adams"', 'n="1" key="adams"'], "the tags of these words")
         page.press("#everywhere .close")
+        page.select("Mr Adams", nth=2)
+        page.open_menu()
+        page.keys("person ")
+        soon(lambda: [row[1:] for row in page.notes()], [["person", ""], ["person", 'key="adams"'], ["person", 'n="1" key="adams"']], "after a name, what it had before")
+        page.keys("n")
+        soon(lambda: [row[2] for row in page.notes()], ["n", 'n="1" key="adams"'], "that begins so")
+        page.keys(Keys.ARROW_DOWN, Keys.ENTER)
+        soon(lambda: page.texts("#document .attrs")[2:], ['n="1" key="adams"'], "an arrow key takes it")
 
 
 def puts_comments(driver, program):
