@@ -1,5 +1,5 @@
 -- What is told of a document is so.
-use Rattle.std.proofs.Common.{List, [], arith, length, lit≤, max, refl, ℕ, ◌∙◌, ◌∷◌, ◌<◌, ◌≡◌, ◌≤◌}
+use Rattle.std.proofs.Common.{List, [], arith, length, lit≤, max, refl, sym, ℕ, ◌∙◌, ◌∷◌, ◌<◌, ◌≡◌, ◌≤◌}
 use Rattle.pv_dtd.specs.Hedge.{IsValid, elements}
 use Rattle.pv_dtd.specs.Plain.{PlainDtd}
 use Rattle.pv_dtd.specs.Proper.{IsProperDtd}
@@ -9,8 +9,9 @@ use Rattle.pv_tree.specs.Plain.{PlainDoc}
 use Rattle.pv_tree.specs.View.{view}
 use Rattle.pv_tree.specs.declared.nodes.Mark.{Mark}
 use Rattle.pv_tree.specs.declared.nodes.Verdict.{Verdict}
-use Rattle.pv_read.specs.DocumentLaws.{MeansSameWithinWider}
+use Rattle.pv_read.specs.DocumentLaws.{GrammarsAgree, MeansSameWithinWider}
 use Rattle.pv_read.specs.Meaning.{DocumentMeans, document_limits, is_document}
+use Rattle.pv_write.specs.Laws.{WritesWhatIsSpelled}
 use Rattle.pv_flat.specs.Coming.{flat_limits}
 use Rattle.pv_missing.specs.Completing.{Completes, HasCompletion}
 use Rattle.pv_missing.specs.DocumentLaws.{BoundsAddUp, ExtensionsComplete, PossibleAreMissing, TagsExtend}
@@ -21,10 +22,12 @@ use Rattle.pv_missing.proofs.OneList.{extends_refl}
 use Rattle.pv_fresh.specs.Answers.{HasPossibility}
 use Rattle.pv_compare.specs.Kept.{IsBodyText, KeepsDocument}
 use Rattle.pv_long.specs.Bounding.{AreBounded}
+use Rattle.pv_long.specs.NewTags.{IsWrittenWithTags}
 use Rattle.pv_long.specs.Told.{AreMissing, IsCompletion, IsCompletionText, IsExact, IsOwnText, IsWithinBounds, OneLeast, SaysNothing, TellsNone}
 use Rattle.pv_long.specs.declared.answers.Completion.{Completion}
 use Rattle.pv_long.specs.declared.errors.LongError.{LongError}
 use Rattle.pv_long.specs.declared.errors.LongError.TheVariants as error
+use Rattle.pv_long.proofs.WrittenTags.{own_tags}
 
 -- a document within its limits is one within wider ones
 pub wide_text : MeansSameWithinWider → (root bytes : List ℕ) (doc : PlainDoc Mark) → DocumentMeans blank_mark root bytes (is_document doc) → IsBodyText root bytes doc
@@ -37,8 +40,8 @@ module _ {M : Type 0} (g : PlainDtd) (root : List ℕ) (doc : PlainDoc M) where
   -- a valid document that is this one with marked elements completes it
   pub completion_text : TagsExtend → (body : PlainDoc Mark) (marks bytes : List ℕ) →
       IsBodyText root bytes body → IsValid g root (view body.root) → KeepsDocument doc body marks →
-      IsCompletionText g root doc (length marks) marks bytes
-  completion_text tags_extend body marks bytes text valid kept =
+      IsWrittenWithTags g doc bytes → IsCompletionText g root doc (length marks) marks bytes
+  completion_text tags_extend body marks bytes text valid kept written =
       let tags = tags_extend 0 (elements (view body.root)) marks (view doc.root) (view body.root) kept.tags in
       record {
         completed = body;
@@ -52,6 +55,7 @@ module _ {M : Type 0} (g : PlainDtd) (root : List ℕ) (doc : PlainDoc M) where
           counted = refl;
           tags = kept.tags;
         };
+        written = written;
       }
 
   inserts : (c : Completion) → IsCompletion g root doc c → HasCompletion g root c.count (view doc.root)
@@ -112,14 +116,16 @@ nothing_long [] e = refl
 nothing_long (x ∷ xs) e = absurd (omega (arith, e))
 
 -- a valid document is its own completion
-pub own_exact : MeansSameWithinWider → ExtensionsComplete Mark Mark → (g : PlainDtd) (root : List ℕ) (doc : PlainDoc Mark) (bytes : List ℕ) (c : Completion) →
+pub own_exact : MeansSameWithinWider → GrammarsAgree → WritesWhatIsSpelled → ExtensionsComplete Mark Mark → (g : PlainDtd) (root : List ℕ) (doc : PlainDoc Mark) (bytes : List ℕ) (c : Completion) →
     DocumentMeans blank_mark root bytes (is_document doc) → IsValid g root (view doc.root) → IsOwnText bytes c → IsExact g root doc bytes c
-own_exact wider complete g root doc bytes c means valid own =
+own_exact wider agree writes complete g root doc bytes c means valid own =
     let all = complete g root doc doc valid (extends_refl (view doc.root)) refl refl in
     let none : all.1 ≡ 0 = let e = all.2.inserted in omega (arith, e) in
     let no_marks : all.0 ≡ [] = nothing_long all.0 (all.2.counted ∙ none) in
     let same : Completes g root doc doc [] 0 = rw (no_marks, none) at all.2 in
-    let text : IsCompletionText g root doc 0 [] bytes = record { completed = doc; is_text = wide_text wider root bytes doc means; completes = same } in
+    let spelled = ((agree document_limits blank_mark root bytes doc).0 means).0.spelled in
+    let written = own_tags g doc bytes (sym (writes root bytes doc spelled)) in
+    let text : IsCompletionText g root doc 0 [] bytes = record { completed = doc; is_text = wide_text wider root bytes doc means; completes = same; written = written } in
     let is : IsCompletion g root doc c = rw (own.count, own.marks, own.body) text in
     record {
       completion = is;

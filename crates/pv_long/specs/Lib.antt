@@ -1,2 +1,3 @@
 pub mod Told
 pub mod Bounding
+pub mod NewTags

@@ -13,6 +13,7 @@ use Rattle.pv_missing.specs.Verdicts.{HavePossible}
 use Rattle.pv_missing.specs.Widths.{IsFirstTooWide, IsListForVerdict}
 use Rattle.pv_fresh.specs.Answers.{IsImpossibleAt}
 use Rattle.pv_compare.specs.Kept.{IsBodyText}
+use Rattle.pv_long.specs.NewTags.{IsWrittenWithTags}
 use Rattle.pv_long.specs.declared.answers.Completion.{Completion}
 use Rattle.pv_long.specs.declared.answers.Missing.{Missing}
 use Rattle.pv_long.specs.declared.answers.Missing.TheVariants.{Between, Exactly}
@@ -20,13 +21,15 @@ use Rattle.pv_long.specs.declared.errors.LongError.{LongError}
 use Rattle.pv_long.specs.declared.errors.LongError.TheVariants.{Impossible, NoMemory, TooMany}
 use Rattle.pv_long.specs.declared.errors.LongError.TheVariants.{TooWide, Unproved}
 
--- The body is the text of a valid document that is this one with count elements inserted. The marks
--- are their numbers in it, in document order, the root having the number 0.
+-- The body is the text of a valid document that is this one with count elements inserted, and
+-- written as this one is. The marks are their numbers in it, in document order, the root having the
+-- number 0.
 pub record IsCompletionText {M : Type 0} (g : PlainDtd) (root : List ℕ) (doc : PlainDoc M)
     (count : ℕ) (marks body : List ℕ) : Type 0 where
   pub completed : PlainDoc Mark
   pub is_text : IsBodyText root body completed
   pub completes : Completes g root doc completed marks count
+  pub written : IsWrittenWithTags g doc body
 
 abbrev pub IsCompletion : {M : Type 0} → PlainDtd → List ℕ → PlainDoc M → Completion → Type 0
 IsCompletion g root doc c = IsCompletionText g root doc c.count c.marks.items c.body.items

@@ -6,6 +6,7 @@ ghost use Rattle.pv_tree.specs.Marks.{blank_mark};
 ghost use Rattle.pv_tree.specs.Plain.{PlainDoc};
 ghost use Rattle.pv_tree.specs.declared.nodes.Mark.{Mark};
 ghost use Rattle.pv_read.specs.Meaning.{DocumentMeans, is_document};
+ghost use Rattle.pv_long.specs.NewTags.{IsWrittenWithTags};
 ghost use Rattle.pv_long.specs.Told.{IsCompletionText};
 
 use crate::errors::MakeError;
@@ -19,7 +20,7 @@ use pv_read::laws::wider_limits_law;
 use std::alloc::Global;
 
 /// Whether a body is the text of a document that completes the one that the bytes are, by the
-/// elements with these numbers.
+/// elements with these numbers, where it is written as that is.
 pub fn is_completion(
     alloc: Global,
     dtd: &Dtd,
@@ -30,6 +31,7 @@ pub fn is_completion(
 ) -> Result<bool, MakeError>
     ensures { IfOk result (λ is. IsTrue is → (doc : PlainDoc Mark) →
         DocumentMeans blank_mark root.now bytes.now (is_document doc) →
+        IsWrittenWithTags (plain_dtd dtd.now) doc body.now →
         IsCompletionText (plain_dtd dtd.now) root.now doc (length marks.now) marks.now
         body.now) }
 {

@@ -10,6 +10,7 @@ ghost use Rattle.pv_tree.specs.declared.nodes.Mark.{Mark};
 ghost use Rattle.pv_read.specs.Meaning.{DocumentMeans, is_document};
 ghost use Rattle.pv_missing.specs.Verdicts.{possible_in};
 ghost use Rattle.pv_fresh.specs.Answers.{HasPossibility};
+ghost use Rattle.pv_long.specs.NewTags.{IsWrittenWithTags};
 ghost use Rattle.pv_long.specs.Told.{AreMissing, IsCompletion, IsMissing, IsOwnText, TellsNone};
 
 use crate::answers::{Completion, Missing};
@@ -28,8 +29,9 @@ use pv_missing::laws::documents::{
 use pv_missing::laws::proper::proper_doc_law;
 use pv_missing::laws::verdicts::none_possible_law;
 use pv_productive::Grammar;
-use pv_read::laws::wider_limits_law;
+use pv_read::laws::{agreement_law, wider_limits_law};
 use pv_tree::{Doc, Mark};
+use pv_write::laws::spelled_is_written_law;
 use std::alloc::Global;
 
 // The verdicts of the lists of a document that isn't impossible.
@@ -61,6 +63,7 @@ fn completion_of(
 ) -> Result<Completion, MakeError>
     ensures { IfOk result (λ c. (doc : PlainDoc Mark) →
         DocumentMeans blank_mark root.now bytes.now (is_document doc) →
+        IsWrittenWithTags (plain_dtd dtd.now) doc text.body.items →
         IsCompletion (plain_dtd dtd.now) root.now doc c) }
 {
     let Text { body, marks, .. } = text;
@@ -150,6 +153,8 @@ fn missing_by(
     none_possible_law::<Mark>();
     extensions_complete_law::<Mark, Mark>();
     wider_limits_law();
+    agreement_law();
+    spelled_is_written_law();
     proper_doc_law(doc);
     if verdicts.left() == 0 {
         return Ok(Missing::Exactly(own_text(alloc, bytes)?));

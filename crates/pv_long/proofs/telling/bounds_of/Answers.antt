@@ -16,4 +16,4 @@ pub returns-clause-lists : goal.returns-clause-lists
 returns-clause-lists c = omega (arith, c.in_ok-least.ensures)
 
 pub returns-clause-completion : goal.returns-clause-completion
-returns-clause-completion c = rw c.dtd-dtd.ensures at (c.in_ok-completion.ensures (plain_doc c.args.doc.now) c.requires.text)
+returns-clause-completion c = rw c.dtd-dtd.ensures at (c.in_ok-completion.ensures (plain_doc c.args.doc.now) c.requires.text c.in_ok-text.ensures)

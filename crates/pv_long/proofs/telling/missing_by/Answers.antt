@@ -12,7 +12,7 @@ returns-then-left-eq0 c =
     let root = c.args.root.now in
     let doc = plain_doc c.args.doc.now in
     let none : possible_in c.args.verdicts.now.verdicts ≡ 0 = omega arith in
-    own_exact c.wider_limits_law.ensures c.extensions_complete_law.ensures g root doc c.args.bytes.now c.in_ok-own_text.field-0 c.requires.text
+    own_exact c.wider_limits_law.ensures c.agreement_law.ensures c.spelled_is_written_law.ensures c.extensions_complete_law.ensures g root doc c.args.bytes.now c.in_ok-own_text.field-0 c.requires.text
     (is_valid g root doc c.none_possible_law.ensures c.args.verdicts.now (proper c.args.grammar.now.layout.dtd) c.proper_doc_law.ensures c.requires.possible none)
     c.in_ok-own_text.ensures
 
