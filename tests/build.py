@@ -271,8 +271,10 @@ def try_other(trial: Trial) -> None:
         source.write("// changed\n")
     states = [trial.run("tools/build", *names, "--check")[0] for names in (["pvtag"], ["pvlong"], ["pvtag", "pvlong"], ["all"])]
     trial.expect("one is older than its sources", states == [0, 1, 1, 1], states)
-    told = trial.run("tools/build", "all")
+    told = trial.run("tools/build", "pvtag", "pvlong")
     trial.expect("what is older is built", told[0] == 0 and trial.count() == before + 2 and trial.run("tools/build", "pvlong", "--check")[0] == 0, told)
+    told = trial.run("tools/build", "all")
+    trial.expect("and what wasn't there", told[0] == 0 and trial.count() == before + 3 and trial.run("tools/build", "all", "--check")[0] == 0, told)
     sums = trial.run("tools/build", "pvtag", "pvlong", "--sum")[1].split()
     trial.expect("a sum of each", len(set(sums)) == 2 and sums[1] == (trial.top / "build/pvlong.sum").read_text().strip(), sums)
     told = trial.run("tools/build", "pvlong", "--put", str(trial.top / "other"))

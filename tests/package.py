@@ -28,7 +28,7 @@ class Trial(Expecting):
         super().__init__()
         self.folder, self.clone, self.root = folder, folder / "clone", folder / "root"
         subprocess.run(["git", "clone", "-q", str(TOP), str(self.clone)], check=True)
-        for name, program in zip(("pvtag", "pvlong"), programs):
+        for name, program in zip(("pvtag", "pvlong", "pvmany"), programs):
             subprocess.run([self.clone / "tools/build", name, "--put", str(program)], check=True)
 
     def make(self, name: str, **more: str) -> list[Path]:
@@ -66,7 +66,7 @@ def same_bytes(trial: Trial) -> tuple[Path, Path]:
 
 
 # What the package puts on the path.
-COMMANDS = ("pvtag", "pvlong", "pvtag-annotate", "pvtag-complete", "pvtag-flatten", "pvtag-lsp", "pvtag-mark", "pvtag-ranges", "pvtag-report", "pvtag-standoff", "pvtag-why")
+COMMANDS = ("pvtag", "pvlong", "pvmany", "pvtag-annotate", "pvtag-complete", "pvtag-flatten", "pvtag-lsp", "pvtag-mark", "pvtag-ranges", "pvtag-report", "pvtag-standoff", "pvtag-why")
 
 
 def copy_file(root: Path, file: str) -> None:
@@ -120,12 +120,13 @@ def try_installed(trial: Trial, deb: Path) -> None:
         ("the program", ["pvtag", "valid", *letter], 0, "valid\n"),
         ("an unknown word", ["pvtag", "--version"], 2, "usage\n"),
         ("the other program", ["pvlong", "need", *letter], 0, "need 0\n"),
+        ("the program for many documents", ["pvmany", "valid", *letter[:2]], 0, ""),
         ("reasons", ["pvtag-why", *swapped], 0, "`closer`"),
         ("a report", ["pvtag-report", *letter], 0, '"verdict": "valid"'),
         ("the page's words", ["pvtag-annotate", "--help"], 0, "usage: "),
         ("flattening without lxml", ["pvtag-flatten", letter[0]], 2, ""),
     ):
-        if (trial.root / "usr/bin" / words[0]).is_symlink() or words[0] in ("pvtag", "pvlong"):
+        if (trial.root / "usr/bin" / words[0]).is_symlink() or words[0] in ("pvtag", "pvlong", "pvmany"):
             told = trial.inside(*words)
             trial.expect(what, told.returncode == status and wanted in told.stdout, (told.returncode, told.stdout, told.stderr))
         else:
@@ -147,8 +148,8 @@ def try_installed(trial: Trial, deb: Path) -> None:
         trial.expect("completion of each command", (trial.root / "usr/share/bash-completion/completions" / name).is_file(), name)
         with gzip.open(trial.root / f"usr/share/man/man1/{name}.1.gz", "rt") as file:
             manual = file.read()
-        trial.expect("what the manual tells", "rattle-kit" in manual or name not in ("pvtag", "pvlong"), manual[-600:])
-        told = trial.inside(name, "--help").stdout if name not in ("pvtag", "pvlong", "pvtag-flatten") else ""
+        trial.expect("what the manual tells", "rattle-kit" in manual or name not in ("pvtag", "pvlong", "pvmany"), manual[-600:])
+        told = trial.inside(name, "--help").stdout if name not in ("pvtag", "pvlong", "pvmany", "pvtag-flatten") else ""
         trial.expect("it names itself as it was called", not told or told.startswith(f"usage: {name} "), told[:200])
         options = set(re.findall("^ {2,}(?:-., )?(--[a-z-]+)", told, re.MULTILINE))
         trial.expect("the completion of its options", options <= set(completed(name, "-")), (name, options))
@@ -161,7 +162,7 @@ def try_installed(trial: Trial, deb: Path) -> None:
     built = (trial.root / "usr/share/doc/pvtag/built").read_text()
     trial.expect("what it is made of", "commit: " in built and "rattle-kit" in built, built)
     trial.expect("and that the programs were put there", "program came from: a file of the name pvtag, put in place by hand\n" in built
-                 and "proved by: not recorded for pvtag and pvlong\n" in built, built)
+                 and "proved by: not recorded for pvtag, pvlong and pvmany\n" in built, built)
     done = dpkg(trial, "--purge", "pvtag")
     left = files_in(trial.root) - before
     trial.expect("removal leaves nothing", done.returncode == 0 and left == set(), (done.stderr, left))
@@ -225,6 +226,10 @@ def try_completion(trial: Trial) -> None:
     for words, wanted in ((["n"], "need"), ([""], "need complete"), (["need", blank, "l"], "letter lb")):
         told = subprocess.run(["bash", "-c", script, TOP / "tools/completion.bash", other, *words], capture_output=True, text=True, check=False)
         trial.expect("a completion of pvlong", told.stdout == f"{wanted}\n", (words, told))
+    for words, wanted in (([""], "valid check"), (["c"], "check"), (["check", blank, "l"], "letter lb")):
+        told = subprocess.run(["bash", "-c", script, TOP / "tools/completion.bash", str(trial.clone / "build/pvmany"), *words], capture_output=True, text=True,
+                              check=False)
+        trial.expect("a completion of pvmany", told.stdout == f"{wanted}\n", (words, told))
     trial.expect("nothing typed is run", not (trial.folder / "run").exists())
 
 

@@ -52,7 +52,7 @@ head -c 67108864 long.xml | tr ' ' '\n' >lines.txt
 head -c 67108864 long.xml | tr ' ' x >long.txt
 printf 'show\n' >show.txt
 pvtag=$top/pvtag
-pvlong=$top/pvlong
+pvlong=$top/pvlong pvmany=$top/pvmany
 lf=$'\n'
 
 "$pvtag" valid text.dtd doc hello.xml >/dev/null || {
@@ -121,6 +121,9 @@ says "pvlong, another question" 2 "usage$lf" ".check. is no command: they are ne
 says "pvlong, a missing DTD" 3 "" "nothing.dtd: there is no such file" "$pvlong" need nothing.dtd doc hello.xml
 says "pvlong, a missing document" 3 "" "nothing.xml: there is no such file" "$pvlong" need a.dtd doc nothing.xml
 expect "pvlong, by a pipe" 0 "need 2$lf" bash -c 'printf "<doc><head/>t</doc>" | "$0" need a.dtd doc /dev/stdin' "$pvlong"
+says "pvmany, no words" 2 "usage$lf" "one of valid, check" "$pvmany"
+says "pvmany, a document too many" 2 "usage$lf" "valid takes 2 arguments, DTD ROOT, and has 3" "$pvmany" valid a.dtd doc hello.xml
+says "pvmany, a missing DTD" 3 "" "nothing.dtd: there is no such file" "$pvmany" valid nothing.dtd doc
 expect "pvlong, a full device" 4 "" bash -c '"$0" complete a.dtd doc hello.xml >/dev/full' "$pvlong"
 
 # Drills.
@@ -349,7 +352,7 @@ session "an edit past the width" "$(lines 'no limit' 'history 0' 'verdicts 2' '.
     'addtext 0 0 y' history verdicts
 
 # The pages. shows COMMAND OUTPUT: it prints this, in which a line of three dots is any lines
-mkdir page && ln -s "$pvtag" "$pvlong" "$top/examples" "$top/clients" page/ || exit 1
+mkdir page && ln -s "$pvtag" "$pvlong" "$pvmany" "$top/examples" "$top/clients" page/ || exit 1
 where=page
 shows() {
     local got
@@ -407,7 +410,7 @@ page <"$top/docs/CLIENTS.md"
 expect "the first of the two commands" 0 "valid$lf" bash -c "cd page && $(sed -n 's/^- `\(\.\/pvtag [^`]*\)`.*/\1/p' "$top/README.md")"
 # The manuals show commands among the examples, a long one over two lines.
 where=page/examples
-for manual in "$top/docs/pvtag.1" "$top/docs/pvlong.1"; do
+for manual in "$top/docs/pvtag.1" "$top/docs/pvlong.1" "$top/docs/pvmany.1"; do
     page < <(sed -n '/^\.Bd -literal/,/^\.Ed/ { s/^\.\(Bd\|Ed\).*/```/; s/\\e/\\/g; p }' "$manual" | sed ':join; /|$/ { N; s/\n */ /; b join }')
     if command -v groff >/dev/null; then
         expect "the manual page" 0 "" groff -ww -mdoc -Tutf8 -z "$manual"

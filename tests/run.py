@@ -29,7 +29,7 @@ COUNT = re.compile(r"^(?:[\w' -]+: )?(\d+) passed, (\d+) failed", re.MULTILINE)
 SKIPPED = re.compile(r"^skipped: ", re.MULTILINE)
 PAGE = TOP / "docs" / "PROVED.md"
 MARKED = re.compile(r"(<!-- tests/run\.py --table -->\n)(.*?)(<!-- end -->)", re.DOTALL)
-PROGRAMS = {"PVTAG": "build/pvtag", "PVLONG": "build/pvlong"}
+PROGRAMS = {"PVTAG": "build/pvtag", "PVLONG": "build/pvlong", "PVMANY": "build/pvmany"}
 
 
 class Check(NamedTuple):
@@ -117,6 +117,9 @@ CHECKS = [
         "`pvlong`: its bounds against `need`, the search that inserts elements and derivations by spans, on small documents; under "
         "DocBook, XHTML, the DTDs of `examples/` and made ones, that what it completes is valid, keeps texts and tags, and has as many "
         "new elements as it tells, and that no more are missing than tags were removed; files in fault"),
+    row("many", "many documents by one process", "", 3600, "python3 tests/many.py PVMANY PVTAG 10000 1",
+        "`pvmany`: each line against that of `pvtag` for the same document, with every kind of fault among good ones; 10,000 documents "
+        "in one process, whose memory stays; names in any pieces, and an answer before more is asked; files, input and output in fault"),
     row("completions", "completions: valid, whole, least", "", 3600, "python3 tests/completions.py PVTAG 400 1 60",
         "`need` and `complete` in sessions: the number against the search that inserts elements; what is shown is valid, also by "
         "`xmllint` where there is one, keeps texts and tags, and has that many elements more"),
@@ -128,7 +131,7 @@ CHECKS = [
         "summaries without names and numbers"),
     row("mixed", "one report over a mixed folder, against xmllint", "xmllint +lxml +dtds", 3600, "python3 tests/mixed.py PVTAG 300 1",
         "one report over a folder of letters, DocBook, XHTML, documents of this machine and broken ones: each row against `xmllint`"),
-    row("package", "the package, in a bare root", "", 3600, "python3 tests/package.py PVTAG PVLONG",
+    row("package", "the package, in a bare root", "", 3600, "python3 tests/package.py PVTAG PVLONG PVMANY",
         "the package that `tools/package` makes, unpacked in a bare root"),
     row("check_by_session", "check against the opening of a session", "", 3600, "python3 tests/check_by_session.py PVTAG 300 1",
         "`check` against the verdicts that a session tells, on random documents, broken ones too, on lists near the width for "

@@ -44,7 +44,7 @@ def language(file: Path) -> str:
 
 def sources(of: str) -> list[Path]:
     """The files of a language."""
-    files = [TOP / "pvtag", TOP / "pvlong", *(it for folder in FOLDERS for it in sorted((TOP / folder).rglob("*")))]
+    files = [TOP / "pvtag", TOP / "pvlong", TOP / "pvmany", *(it for folder in FOLDERS for it in sorted((TOP / folder).rglob("*")))]
     return [it for it in files if it.is_file() and "__pycache__" not in it.parts and language(it) == of]
 
 

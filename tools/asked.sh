@@ -1,5 +1,5 @@
 # shellcheck shell=sh
-# Runs the program at $program, which is $name, with the words that follow: the scripts `pvtag` and `pvlong` end here. Words that it takes are given to it
+# Runs the program at $program, which is $name, with the words that follow: the scripts `pvtag`, `pvlong` and `pvmany` end here. Words that it takes are given to it
 # as they are. For others, and where a file can't be read, its output and its status are the same, and a sentence on the standard error says what is
 # wrong. What is tested first is tested within the shell: a process more would cost as much as a short run of the program.
 # shellcheck disable=SC2154
@@ -39,6 +39,7 @@ pvtag.valid.4 | pvtag.check.4 | pvtag.session.4 | pvtag.complete.4 | pvtag.why.4
     is_name "$3" && is_file "$2" && is_file "$4"
     ;;
 pvtag.verify.5 | pvtag.deny.5 | pvtag.standoff.5) is_name "$3" && is_file "$2" && is_file "$4" && is_file "$5" ;;
+pvmany.valid.3 | pvmany.check.3) is_name "$3" && is_file "$2" ;;
 pvtag.dtd.2) is_file "$2" ;;
 pvtag.drill.2) is_count "$2" ;;
 *) false ;;
@@ -72,6 +73,7 @@ command=${1-}
 count=$(($# - 1))
 case $name in
 pvtag) commands='valid, check, session, complete, why, verify, deny, standoff, dtd, drill' ;;
+pvmany) commands='valid, check' ;;
 *) commands='need, complete' ;;
 esac
 case $status.$name.$command in
@@ -81,6 +83,7 @@ case $status.$name.$command in
 2.pvtag.valid | 2.pvtag.check | 2.pvtag.session | 2.pvtag.complete | 2.pvtag.why | 2.pvlong.need | 2.pvlong.complete)
     say_words 3 'DTD ROOT DOC' && say "ROOT is to be a name, and \`$3\` is none"
     ;;
+2.pvmany.valid | 2.pvmany.check) say_words 2 'DTD ROOT' && say "ROOT is to be a name, and \`$3\` is none" ;;
 2.pvtag.verify) say_words 4 'DTD ROOT DOC CERTIFICATE' && say "ROOT is to be a name, and \`$3\` is none" ;;
 2.pvtag.deny) say_words 4 'DTD ROOT DOC DENIAL' && say "ROOT is to be a name, and \`$3\` is none" ;;
 2.pvtag.standoff) say_words 4 'DTD ROOT TEXT RANGES' && say "ROOT is to be a name, and \`$3\` is none" ;;
@@ -90,7 +93,7 @@ case $status.$name.$command in
 2.*) say "\`$command\` is no command: they are $commands" ;;
 3.*)
     case $command.$# in
-    dtd.2) say_file "$2" ;;
+    dtd.2 | *.3) say_file "$2" ;;
     standoff.5 | verify.5 | deny.5) say_file "$2" && say_file "$4" && say_file "$5" ;;
     *.4) say_file "$2" && say_file "$4" ;;
     esac && say "a file couldn't be read"

@@ -1,4 +1,4 @@
-# Completion of `pvtag`, `pvlong` and the commands `pvtag-*` for bash: commands, options, files, and the declared names of the DTD for ROOT.
+# Completion of `pvtag`, `pvlong`, `pvmany` and the commands `pvtag-*` for bash: commands, options, files, and the declared names of the DTD for ROOT.
 
 # _pvtag_roots PROGRAM DTD WORD: the names that the DTD declares, by the program that is there: nothing is built for that
 _pvtag_roots() {
@@ -23,6 +23,7 @@ _pvtag() {
     local word=${COMP_WORDS[COMP_CWORD]} command=${COMP_WORDS[1]}
     local program=${COMP_WORDS[0]} commands='valid check session complete verify why deny standoff dtd drill'
     [[ ${program##*/} != pvlong ]] || program=${program%pvlong}pvtag commands='need complete'
+    [[ ${program##*/} != pvmany ]] || program=${program%pvmany}pvtag commands='valid check'
     COMPREPLY=()
     case $command.$COMP_CWORD in
     *.1) mapfile -t COMPREPLY < <(compgen -W "$commands" -- "$word") ;;
@@ -67,5 +68,5 @@ _pvtag_client() {
         _pvtag_files
     fi
 }
-complete -F _pvtag pvtag pvlong
+complete -F _pvtag pvtag pvlong pvmany
 complete -F _pvtag_client pvtag-annotate pvtag-complete pvtag-flatten pvtag-lsp pvtag-mark pvtag-ranges pvtag-report pvtag-standoff pvtag-why

@@ -23,8 +23,8 @@ from scratch import scratch  # noqa: E402
 from sources import TOP, copy, needs, sum_of  # noqa: E402
 
 BUILD = TOP / "build"
-# For each program the words of a call that reads a DTD, in whose place the pipe stands.
-CALLS = {"pvtag": ("valid", "doc"), "pvlong": ("need", "doc")}
+# For each program a call that reads a DTD, in whose place the pipe stands: its first word, a root, and how many documents it names.
+CALLS = {"pvtag": ("valid", "doc", 1), "pvlong": ("need", "doc", 1), "pvmany": ("valid", "doc", 0)}
 # The status of each program without words.
 USAGE = 2
 NOT_FOUND, FAILED = 11, 10
@@ -98,8 +98,8 @@ def make(name: str, held: Held) -> bool:
         copy(crates, room)
         temporary.mkdir()
         os.mkfifo(pipe)
-        verb, root = CALLS[name]
-        words = ["rt", "try", "--", verb, str(pipe), root, str(pipe)]
+        verb, root, documents = CALLS[name]
+        words = ["rt", "try", "--", verb, str(pipe), root, *[str(pipe)] * documents]
         with held.hold(), said.open("wb") as log:
             run = subprocess.Popen(words, cwd=room / "crates" / name, env={**os.environ, "TMPDIR": str(temporary)}, stdin=subprocess.DEVNULL, stdout=log,
                                    stderr=log, start_new_session=True, pass_fds=[lock])
@@ -164,7 +164,7 @@ def main(words: list[str]) -> int:
     sys.stderr = sys.stderr or open(os.devnull, "w")  # pylint: disable=consider-using-with
     name = words[0] if words else ""
     if name not in CALLS or words[1:2] not in ([], ["--"]):
-        print("usage: tools/unproved.py pvtag|pvlong [-- WORDS]", file=sys.stderr)
+        print("usage: tools/unproved.py pvtag|pvlong|pvmany [-- WORDS]", file=sys.stderr)
         return USAGE
     try:
         if not shutil.which("rt"):

@@ -1,0 +1,7 @@
+pub mod Inputs
+pub mod NamedAnswers
+pub mod NamesRead
+pub mod Pieces
+pub mod RequestWords
+pub mod Runs
+pub mod Written

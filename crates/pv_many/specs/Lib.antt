@@ -1,0 +1,5 @@
+pub mod Answers
+pub mod Archives
+pub mod Many
+pub mod Names
+pub mod Requests

@@ -1,0 +1,177 @@
+"""Tries `pvmany`, which answers the names of many documents: each line is the one that `pvtag` prints for that document.
+
+Words: PVMANY PVTAG COUNT SEED. COUNT documents go through one process. The last line says how many tests passed.
+"""
+import os
+import random
+import subprocess
+import sys
+import tempfile
+import threading
+from pathlib import Path
+
+sys.dont_write_bytecode = True
+from lib.counting import Expecting  # noqa: E402
+
+TOP = Path(__file__).resolve().parent.parent
+DTD = str(TOP / "examples" / "letter.dtd")
+# The questions that it takes.
+QUESTIONS = ("valid", "check")
+# Documents by the name of their file: good ones, and one of each kind of fault.
+DOCUMENTS = {
+    "valid.xml": (TOP / "examples" / "letter.xml").read_bytes(),
+    "draft.xml": (TOP / "examples" / "letter-draft.xml").read_bytes(),
+    "swapped.xml": (TOP / "examples" / "letter-swapped.xml").read_bytes(),
+    "empty.xml": b"",
+    "text.xml": b"no document",
+    "syntax.xml": b"<letter><body><p a='<'/></body></letter>",
+    "mismatch.xml": b"<letter><body></letter>",
+    "entity.xml": b"<letter>&nbsp;</letter>",
+    "subset.xml": b"<!DOCTYPE letter [<!ELEMENT a ANY>]><letter/>",
+    "doctype.xml": b"<!DOCTYPE other><letter/>",
+    "deep.xml": b"<letter>" + b"<p>" * 600 + b"</p>" * 600 + b"</letter>",
+    "bytes.xml": b"<letter>\xff</letter>",
+    "root.xml": b"<p/>",
+    "strange.xml": b"<letter><strange/></letter>",
+    "two lines\n.xml": (TOP / "examples" / "letter.xml").read_bytes(),
+    "caf\u00e9.xml": (TOP / "examples" / "letter.xml").read_bytes(),
+}
+# Names of no file that can be read: a folder, none, and bytes that aren't UTF-8.
+NO_FILES = [b"folder", b"nothing.xml", b"", b"a\xff.xml", b"x" * 5000]
+PATIENCE = 600
+
+
+class Trial(Expecting):
+    """A folder with the documents, and what passed."""
+
+    def __init__(self, many: str, one: str, folder: Path, seed: int) -> None:
+        super().__init__()
+        self.many, self.one, self.folder, self.chance = many, one, folder, random.Random(seed)
+        (folder / "folder").mkdir()
+        for name, data in DOCUMENTS.items():
+            (folder / name).write_bytes(data)
+        self.lines = {question: {name.encode(): self.line_of(question, name) for name in DOCUMENTS} for question in QUESTIONS}
+
+    def line_of(self, question: str, name: str) -> bytes:
+        """What `pvtag` prints for this document."""
+        return subprocess.run([self.one, question, DTD, "letter", name], cwd=self.folder, capture_output=True, check=False).stdout
+
+    def begin(self, question: str) -> "subprocess.Popen[bytes]":
+        return subprocess.Popen([self.many, question, DTD, "letter"], cwd=self.folder, stdin=subprocess.PIPE, stdout=subprocess.PIPE, stderr=subprocess.DEVNULL)
+
+    def ask(self, *words: str, given: bytes = b"") -> tuple[int, bytes]:
+        ran = subprocess.run([self.many, *words], cwd=self.folder, input=given, capture_output=True, timeout=PATIENCE, check=False)
+        return ran.returncode, ran.stdout
+
+    def wanted(self, question: str, names: list[bytes]) -> bytes:
+        """The answers to these names."""
+        return b"".join(name + b"\0" + self.lines[question].get(name, b"no file\n") for name in names)
+
+    def names(self, count: int) -> list[bytes]:
+        return self.chance.choices([*(name.encode() for name in DOCUMENTS), *NO_FILES], k=count)
+
+
+def answers_each(trial: Trial, question: str) -> None:
+    """Every document and every name of no file, each after and before others."""
+    for line in {*trial.lines[question].values()}:
+        trial.expect("a line of its own", line.endswith(b"\n") and line.count(b"\n") == 1, line)
+    names = [name for one in [*(name.encode() for name in DOCUMENTS), *NO_FILES] for name in (one, b"valid.xml", one)]
+    status, told = trial.ask(question, DTD, "letter", given=b"".join(name + b"\0" for name in names))
+    trial.expect("each document", (status, told) == (0, trial.wanted(question, names)), told[-300:])
+    status, told = trial.ask(question, DTD, "letter", given=b"valid.xml\0draft.xml")
+    trial.expect("a last name without its NUL", (status, told) == (0, trial.wanted(question, [b"valid.xml", b"draft.xml"])), told)
+    trial.expect("no name", trial.ask(question, DTD, "letter") == (0, b""))
+
+
+def answers_pieces(trial: Trial, question: str) -> None:
+    """Names in pieces, some of which end within a name."""
+    names = trial.names(200)
+    text = b"".join(name + b"\0" for name in names)
+    with trial.begin(question) as run:
+        assert run.stdin and run.stdout
+        told: list[bytes] = []
+        reader = threading.Thread(target=lambda: told.append(run.stdout.read() if run.stdout else b""))
+        reader.start()
+        while text:
+            size = trial.chance.choice((1, 2, 7, 100, 5000))
+            run.stdin.write(text[:size])
+            run.stdin.flush()
+            text = text[size:]
+        run.stdin.close()
+        reader.join(PATIENCE)
+        trial.expect("names in pieces", told == [trial.wanted(question, names)] and run.wait(PATIENCE) == 0)
+
+
+def answers_at_once(trial: Trial, question: str) -> None:
+    """Each name is answered while the input stays open."""
+    with trial.begin(question) as run:
+        assert run.stdin and run.stdout
+        for name in trial.names(20):
+            run.stdin.write(name + b"\0")
+            run.stdin.flush()
+            wanted = trial.wanted(question, [name])
+            told = run.stdout.read(len(wanted))
+            trial.expect("an answer before more is asked", told == wanted, (name, told))
+        run.stdin.close()
+        trial.expect("and then the end", run.stdout.read() == b"" and run.wait(PATIENCE) == 0)
+
+
+def memory_of(pid: int) -> int:
+    """The memory of a process at its peak, in kilobytes."""
+    line = next(it for it in Path(f"/proc/{pid}/status").read_text(encoding="ascii").splitlines() if it.startswith("VmHWM:"))
+    return int(line.split()[1])
+
+
+def stays_flat(trial: Trial, question: str, count: int) -> None:
+    """Many documents in one process, whose memory doesn't grow with their number."""
+    with trial.begin(question) as run:
+        assert run.stdin and run.stdout
+        peaks = []
+        for part in range(10):
+            names = trial.names(count // 10)
+            writer = threading.Thread(target=lambda text: (run.stdin.write(text), run.stdin.flush()), args=(b"".join(name + b"\0" for name in names),))
+            writer.start()
+            wanted = trial.wanted(question, names)
+            told = run.stdout.read(len(wanted))
+            writer.join(PATIENCE)
+            trial.expect("a tenth of many documents", told == wanted, (part, told[-300:]))
+            peaks.append(memory_of(run.pid))
+        run.stdin.close()
+        trial.expect("its end", run.wait(PATIENCE) == 0)
+        trial.expect("memory that stays", peaks[-1] <= peaks[1] * 1.1 + 512, peaks)
+
+
+def refuses(trial: Trial) -> None:
+    """Words, DTDs and devices in fault: nothing is answered, with the status and the line of `pvtag`."""
+    for words in ((), ("valid",), ("check", DTD), ("valid", DTD, "1"), ("check", DTD, "letter", "valid.xml"), ("session", DTD, "letter")):
+        trial.expect("words that are no request", trial.ask(*words) == (2, b"usage\n"), words)
+    (trial.folder / "bad.dtd").write_text("<!ELEMENT a (b)>\n<!ELEMENT a (b)>\n")
+    (trial.folder / "limit.dtd").write_text(f"<!ELEMENT a {'(' * 70}b{')' * 70}>\n")
+    for dtd in ("valid.xml", "bad.dtd", "limit.dtd", "nothing.dtd", "folder"):
+        one = subprocess.run([trial.one, "valid", dtd, "letter", "valid.xml"], cwd=trial.folder, capture_output=True, check=False)
+        told = trial.ask("valid", dtd, "letter", given=b"valid.xml\0")
+        trial.expect("a DTD in fault", told == (one.returncode, one.stdout) and told[0] in (3, 6, 8), (dtd, told))
+    with open("/dev/full", "wb") as full:
+        ran = subprocess.run([trial.many, "valid", DTD, "letter"], cwd=trial.folder, input=b"valid.xml\0", stdout=full, stderr=subprocess.DEVNULL, check=False)
+        trial.expect("a full device", ran.returncode == 4, ran.returncode)
+    with open("/proc/self/mem", "rb") as broken:
+        ran = subprocess.run([trial.many, "valid", DTD, "letter"], cwd=trial.folder, stdin=broken, capture_output=True, check=False)
+        trial.expect("an input that can't be read", (ran.returncode, ran.stdout) == (3, b""), ran)
+
+
+def main(many: str, one: str, count: str, seed: str) -> int:
+    # A program without proofs keeps what was freed for a while, unless it is told not to.
+    os.environ.setdefault("ASAN_OPTIONS", "quarantine_size_mb=0:thread_local_quarantine_size_kb=0")
+    with tempfile.TemporaryDirectory() as folder:
+        trial = Trial(str(Path(many).resolve()), str(Path(one).resolve()), Path(folder), int(seed))
+        for question in QUESTIONS:
+            answers_each(trial, question)
+            answers_pieces(trial, question)
+            answers_at_once(trial, question)
+            stays_flat(trial, question, int(count))
+        refuses(trial)
+    return trial.ended()
+
+
+if __name__ == "__main__":
+    sys.exit(main(*sys.argv[1:]))
