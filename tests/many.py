@@ -4,6 +4,7 @@ Words: PVMANY PVTAG COUNT SEED. COUNT documents go through one process. The last
 """
 import os
 import random
+import shutil
 import subprocess
 import sys
 import tempfile
@@ -39,6 +40,21 @@ DOCUMENTS = {
 # Names of no file that can be read: a folder, none, and bytes that aren't UTF-8.
 NO_FILES = [b"folder", b"nothing.xml", b"", b"a\xff.xml", b"x" * 5000]
 PATIENCE = 600
+# Stands for `pvmany` where it dies at a document, hangs at one, or has no memory for one.
+STAND_IN = f"""#!{sys.executable}
+import os, time
+held = b""
+while b"\\0" in held or (more := os.read(0, 65536)):
+    held = held if b"\\0" in held else held + more
+    name, nul, rest = held.partition(b"\\0")
+    if nul:
+        held = rest
+        if b"dies" in name:
+            os.kill(os.getpid(), 9)
+        if b"hangs" in name:
+            time.sleep(1000)
+        os.write(1, name + (b"\\0no memory\\n" if b"memory" in name else b"\\0valid\\n"))
+"""
 
 
 class Trial(Expecting):
@@ -159,6 +175,26 @@ def refuses(trial: Trial) -> None:
         trial.expect("an input that can't be read", (ran.returncode, ran.stdout) == (3, b""), ran)
 
 
+def reports(trial: Trial) -> None:
+    """`clients/report` asks it, and `pvtag` itself where it has no answer; one that hangs is ended in time."""
+    beside = trial.folder / "beside"
+    beside.mkdir()
+    for name, data in (("dies.xml", "draft.xml"), ("memory.xml", "swapped.xml"), ("hangs.xml", "valid.xml")):
+        (trial.folder / name).write_bytes(DOCUMENTS[data])
+    shutil.copy(trial.one, beside / "pvtag")
+    (beside / "pvmany").write_text(STAND_IN)
+    (beside / "pvmany").chmod(0o755)
+    for program, wanted in ((str(beside / "pvtag"), {"empty.xml": "valid", "hangs.xml": "failed"}), (trial.one, {"empty.xml": "refused", "hangs.xml": "valid"})):
+        names = ["valid.xml", "empty.xml", "dies.xml", "draft.xml", "memory.xml", "hangs.xml", "caf\u00e9.xml"]
+        wanted = {"valid.xml": "valid", "dies.xml": "possible", "draft.xml": "valid" if program != trial.one else "possible", "memory.xml": "impossible",
+                  "caf\u00e9.xml": "valid", **wanted}
+        ran = subprocess.run([TOP / "clients" / "report", "--program", program, "--format", "tsv", "--no-attributes", "--most", "5", "--jobs", "2", DTD, "letter", *names],
+                             cwd=trial.folder, capture_output=True, text=True, timeout=PATIENCE, check=False)
+        rows = [line.split("\t") for line in ran.stdout.splitlines() if not line.startswith("#")]
+        told = {row[0]: row[4] for row in rows[1:]}
+        trial.expect("a report by it", told == wanted, (told, wanted, ran.stderr))
+
+
 def main(many: str, one: str, count: str, seed: str) -> int:
     # A program without proofs keeps what was freed for a while, unless it is told not to.
     os.environ.setdefault("ASAN_OPTIONS", "quarantine_size_mb=0:thread_local_quarantine_size_kb=0")
@@ -170,6 +206,7 @@ def main(many: str, one: str, count: str, seed: str) -> int:
             answers_at_once(trial, question)
             stays_flat(trial, question, int(count))
         refuses(trial)
+        reports(trial)
     return trial.ended()
 
 

@@ -119,7 +119,8 @@ CHECKS = [
         "new elements as it tells, and that no more are missing than tags were removed; files in fault"),
     row("many", "many documents by one process", "", 3600, "python3 tests/many.py PVMANY PVTAG 10000 1",
         "`pvmany`: each line against that of `pvtag` for the same document, with every kind of fault among good ones; 10,000 documents "
-        "in one process, whose memory stays; names in any pieces, and an answer before more is asked; files, input and output in fault"),
+        "in one process, whose memory stays; names in any pieces, and an answer before more is asked; files, input and output in fault; reports by it, also where it dies or "
+        "hangs"),
     row("completions", "completions: valid, whole, least", "", 3600, "python3 tests/completions.py PVTAG 400 1 60",
         "`need` and `complete` in sessions: the number against the search that inserts elements; what is shown is valid, also by "
         "`xmllint` where there is one, keeps texts and tags, and has that many elements more"),

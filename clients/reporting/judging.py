@@ -24,6 +24,7 @@ from pvtag.program import Answer, Stopped, Trouble, file_of, find_long, is_utf_8
 from pvtag.reasons import Reasons
 
 from .earlier import sum_of
+from .many import Many, find_many
 from .rows import Head, Row, shown
 
 
@@ -79,6 +80,7 @@ class Judge:
         self.program, self.options, self.need, self.most = program, options, options.need, options.most
         # What is asked where a list is too wide for `need`.
         self.long = find_long(program) if options.need else None
+        self.many = Many(find_many(program))
         self.finder, self.lock, self.known = Finder(program), threading.Lock(), dict[tuple[str, str], Under]()
         self.given_pair = self.checked_pair(*pair) if pair is not None else None
 
@@ -143,6 +145,11 @@ class Judge:
             answer = run(program or self.program, *[word for word, _ in named], given=given, files=handed, most=self.most)
         return answer
 
+    def checked(self, given: Given) -> Answer:
+        """What `check` answers for a document."""
+        asked = given.under.path, given.under.root, given.path
+        return self.many.check(*asked, self.most) or self.run("check", *asked)
+
     def row(self, path: str) -> Row:
         """What this document comes to."""
         start = time.monotonic()
@@ -173,7 +180,7 @@ class Judge:
             row = replace(row, dtd=under.name, root=under.root, dtd_sum=under.sum)
         try:
             with given(path, data, under) as document:
-                told = self.told(row, document, self.run("check", under.path, under.root, document.path))
+                told = self.told(row, document, self.checked(document))
                 told = self.with_attributes(told, document) if document.masked is not None else told
         except (OSError, ValueError, Trouble) as fault:
             if isinstance(fault, Trouble) and os.access(path, os.R_OK):
