@@ -377,6 +377,32 @@ def wraps(program):
         same([*client.actions(URI, (start, start + 1), ["refactor"])], [], "blanks alone")
 
 
+def keeps_references(program):
+    """A wrap takes in a reference as a whole, a move keeps it as it is written, and the outline shows it so."""
+    front = '<!DOCTYPE letter SYSTEM "letter.dtd" [<!ENTITY me "Anna"><!ENTITY no " ">]>\n<letter>'
+    opener, body = "<opener><salute>Dear &me;</salute></opener>", "<body><p>\U0001d4b3 &me;, &no; and I</p></body>"
+    text = f"{front}{opener}{body}</letter>\n"
+    with Client(program) as client:
+        client.open(URI, text)
+        client.diagnostics(URI, lambda told: not told)
+        place, blank = text.index("&me;, "), text.index("&no;")
+        for start, end, wrapped in (
+            (place + 1, place + 3, "&me;"), (place, place + 2, "&me;"), (place - 2, place + 2, "\U0001d4b3 &me;"),
+            (place + 2, place + 5, "&me;,"), (blank + 1, blank + 8, "&no; and"), (blank - 1, blank + 1, "&no;"),
+        ):
+            found = client.actions(URI, (start, end), ["refactor"])["Wrap in <person>"]
+            before, _, behind = text.rpartition(wrapped)
+            same(edited(text, edits_of(found["edit"])), f"{before}<person>{wrapped}</person>{behind}", text[start:end])
+        (letter,) = client.ask("textDocument/documentSymbol", {"textDocument": {"uri": URI}})
+        same(letter["children"][0]["children"][0]["detail"], "Dear &me;", "a text's front")
+        swapped = f"{front}{body}{opener}</letter>\n"
+        client.open(URI, swapped, 9)
+        for tag, title in ("<body>", "Move <body> after <opener>"), ("<opener>", "Move <opener> before <body>"):
+            place = swapped.index(tag) + 1
+            found = client.actions(URI, (place, place), ["quickfix"])[title]
+            same(edited(swapped, edits_of(found["edit"])), text, title)
+
+
 def changes_tags(program):
     with Client(program) as client:
         client.open(URI, DRAFT)
@@ -773,6 +799,7 @@ CASES = [
     asks_for_one_of_many,
     completes_while_typing,
     wraps,
+    keeps_references,
     changes_tags,
     mends_lists,
     inserts_what_is_missing,

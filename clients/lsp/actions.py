@@ -59,7 +59,8 @@ def action(asked: Asked, title: str, edits: list[Json], is_fix: bool = False) ->
 def wrapping(asked: Asked, work: Work, start: int, end: int) -> list[Json]:
     """The selection, without the blanks at its ends, in an element of each name that is offered."""
     document = asked.document
-    start, end = trimmed(document.data, start, end)
+    # References to entities are masked in what the program is given.
+    start, end = trimmed(document.text.data, start, end)
     owner = document.tree.around(start)
     if start >= end or not document.tree.around(end).is_same(owner):
         return []
@@ -163,7 +164,7 @@ def moving(asked: Asked, element: Element, move: Move) -> Json:
     name = f"<{other.label}>" if isinstance(other, Element) else "the text"
     title = f"Move <{element.label}> {'after' if move.is_after else 'before'} {name}"
     place = other.end if move.is_after else other.start
-    text = document.data[element.start : element.end].decode()
+    text = document.text.data[element.start : element.end].decode()
     edits = [document.put(element.start, element.end, ""), document.put(place, place, text)]
     return action(asked, title, edits, is_fix=True)
 

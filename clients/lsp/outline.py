@@ -43,7 +43,7 @@ def symbol(document: Document, element: Element) -> Json:
         "range": document.text.range(element.start, element.end),
         "selectionRange": document.text.range(*element.names()[0]),
     }
-    text = front(document.data, element)
+    text = front(document.text.data, element)
     return told | ({"detail": text} if text else {})
 
 
