@@ -595,6 +595,13 @@ def defines(program):
         found = client.ask("textDocument/definition", client.about(uri, text.index("</b>") + 3))
         same((found["uri"], found["range"]["start"]), (uri_of("more.mod", folder), {"line": 2, "character": 20}), "a module")
         same(client.ask("textDocument/definition", client.about(uri, 1)), None, "no tag")
+        # What isn't read of the DTD declares nothing.
+        with open(os.path.join(folder, "e.dtd"), "w", encoding="utf-8") as file:
+            file.write('<!ENTITY x "<!ELEMENT b (c)>"><!ENTITY % no "IGNORE"><!ELEMENT a (b, b)>\n<![ IGNORE [<!ELEMENT b (a)>]]>\n')
+            file.write("<![%no;[<!ELEMENT b (b)>]]>\n<!ELEMENT b (c?)>\n<!ELEMENT c EMPTY>")
+        client.open(uri, text.replace("a.dtd", "e.dtd"), 2)
+        found = client.ask("textDocument/definition", client.about(uri, text.index("<b>") + 1))
+        same((found["uri"], found["range"]["start"]), (uri_of("e.dtd", folder), {"line": 3, "character": 10}), "beside what isn't read")
 
 
 def refers(program):
@@ -623,6 +630,13 @@ def refers(program):
         same(pieces[:2], ["One", "<p>One</p>"], "the text, the element")
         same((len(pieces), pieces[-1]), (7, text), "all up to the document")
         need(all(one in other for one, other in zip(pieces, pieces[1:])), pieces)
+        deep = LETTER + "<p>" * 1000 + "x" + "</p>" * 1000
+        client.open(URI, deep, 4)
+        (found,) = client.ask("textDocument/selectionRange", {"textDocument": {"uri": URI}, "positions": [place_of(deep, "x")]})
+        count = 1
+        while "parent" in found:
+            found, count = found["parent"], count + 1
+        same((count, at(deep, found["range"]["start"])), (201, 0), "selections in a document of 1,000 elements in one another")
         text = "<?xml-model href='article.dtd'?>\n" + text
         client.open(URI, text, 5)
         found = client.ask("textDocument/documentLink", {"textDocument": {"uri": URI}})

@@ -8,15 +8,17 @@ from typing import Any
 
 from .documents import Asked, Document
 from .grammar import DOCTYPE, INSTRUCTION, MODEL, PART, Named, files_of, folder_of, located, unquoted
-from .nodes import END, ITEM, MISC, SLASH, START, Leaf
+from .nodes import END, ITEM, LITERAL, MISC, SLASH, START, Leaf
 from .reading import front
 from .tags import at_name
 from .text import Json, Text
 from .wire import INVALID_PARAMS, Error
 from .work import Work
 
-# So many places are told.
-MOST = 10_000
+# So many places are told, and so many selections in one another.
+MOST, DEEPEST = 10_000, 200
+# What in a DTD declares no element, whatever it looks like.
+UNREAD = re.compile(rb"<!ENTITY\s(?:[^>\"']|" + LITERAL + rb")*>|<!\[\s*IGNORE\s*\[(?s:.*?)\]\]>")
 
 
 # ---- the declaration of a name ----
@@ -31,11 +33,19 @@ def declared(asked: Asked, name: bytes) -> Json | None:
     file, unit = asked.grammar.declared.file, asked.document.text.unit
     if file is None:
         (file,) = located([asked.finder.named(asked.document.uri, *front(asked.document.data))[0]])
-    wanted = re.compile(rb"<!ELEMENT\s+(" + re.escape(name) + rb")(?=[\s%])")
+    wanted = re.compile(rb"<!ELEMENT\s+(" + re.escape(name) + rb")(?=[\s%])[^>]*>")
+    told = asked.grammar.dtd.declaration(name.decode(errors="replace"))
     for each, data, plain in files_of(file, located) if file is not None else ():
-        if place := wanted.search(plain):
+        if places := [*wanted.finditer(UNREAD.sub(lambda it: b" " * len(it[0]), plain))]:
+            # Of several, in sections that are read or aren't, the one that counts is known by its text, as `tools/flatten` writes it.
+            place = next((it for it in places if told is not None and bare(it[0]) == bare(told.text.encode())), places[0])
             return {"uri": f"file://{urllib.parse.quote(each)}", "range": Text(data, unit).range(*place.span(1))}
     return None
+
+
+def bare(declaration: bytes) -> bytes:
+    """A declaration without blanks and brackets."""
+    return re.sub(rb"[\s()]+", b"", declaration)
 
 
 # ---- other uses, and the other tag ----
@@ -108,9 +118,9 @@ def selected(document: Document, offset: int) -> Json:
         spans = [(kid.start, kid.end)] if isinstance(kid, Leaf) and offset <= kid.end else []
     for each in (node, *node.owners()) if node.owner is not None else ():
         spans += [(each.inside, each.closes), (each.start, each.end)]
-    spans.append((0, len(document.data)))
+    # The inner ones, and at last the document.
     told: Json | None = None
-    for start, end in reversed(list(dict.fromkeys(spans))):
+    for start, end in reversed([*dict.fromkeys([*[*dict.fromkeys(spans)][:DEEPEST], (0, len(document.data))])]):
         told = {"range": document.text.range(start, end)} | ({"parent": told} if told is not None else {})
     assert told is not None
     return told
