@@ -463,6 +463,17 @@ def mends_lists(program):
         same(changed, DRAFT, "unwrapped")
         start = text.index("Mr Adams")
         same(sorted(client.actions(URI, (start, start + 8), ["refactor"])), sorted(f"Wrap in <{name}>" for name in names), "a wrap")
+        # A root that can't be one.
+        for number, name in enumerate(("lettr", "body")):
+            text = f"{LETTER}<{name}><opener><salute>Dear</salute></opener><body><p>I</p></body></{name}>"
+            client.open(URI, text, 6 + number)
+            client.diagnostics(URI, lambda told: "impossible" in codes(told))
+            place = text.index(f"<{name}") + 2
+            found = client.actions(URI, (place, place), ["quickfix"])
+            need("Rename to <letter>" in found, f"{name}: {[*found]}")
+            changed = edited(text, edits_of(found["Rename to <letter>"]["edit"]))
+            same(changed, text.replace(f"<{name}>", "<letter>", 1).removesuffix(f"{name}>") + "letter>", "the root")
+            need("letter" in client.labels(URI, place), "the root's names")
         # A kid that has a place elsewhere.
         with open(os.path.join(EXAMPLES, "letter-swapped.xml"), encoding="utf-8") as file:
             text = LETTER + file.read()

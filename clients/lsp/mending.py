@@ -46,6 +46,9 @@ def in_the_way(work: Work, grammar: Grammar, owner: str, kids: Sequence[Kid]) ->
     for _ in range(MOST_REASONS):
         gone = set[int]().union(*found)
         left = [at for at in range(len(kids)) if at not in gone]
+        if not owner and not left:
+            # Without its root a document is anything.
+            return found
         reason = work.reason(grammar, "0" if owner else ".", owner, [kids[at] for at in left])
         if reason is None:
             return found
