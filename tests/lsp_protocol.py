@@ -221,8 +221,8 @@ def is_running(pid):
 
 
 def waits_for_no_other_document(program):
-    """A DTD that is never read holds up the requests of its own documents alone, which can be cancelled; it is read once
-    for all of them."""
+    """A DTD that is never read holds up the requests of its own documents alone, which can be cancelled, and none of those
+    that it isn't needed for; it is read once for all of them."""
     with stalling(program) as (folder, script), Client(script) as client:
         numbers = []
         for name in ("a.xml", "b.xml"):
@@ -231,6 +231,14 @@ def waits_for_no_other_document(program):
         client.open(URI, DRAFT)
         client.diagnostics(URI, finished)
         need(client.ask("textDocument/hover", client.about(URI, DRAFT.index("<opener>") + 1)), "a hover")
+        about = {"textDocument": {"uri": uri_of("a.xml", folder)}}
+        for method in ("documentSymbol", "foldingRange", "documentLink"):
+            client.ask(f"textDocument/{method}", about)
+        # One that waits behind others is answered at once, and so are all when their document is closed.
+        client.tell("$/cancelRequest", {"id": numbers[5]})
+        same(client.answer(numbers.pop(5))["error"]["code"], -32800, "the last of a document's")
+        client.tell("textDocument/didClose", about)
+        same({client.answer(numbers.pop(0))["error"]["code"] for _ in range(5)}, {-32800}, "those of a closed document")
         for number in numbers:
             client.tell("$/cancelRequest", {"id": number})
         same({client.answer(number)["error"]["code"] for number in numbers}, {-32800}, "what waits is cancelled")

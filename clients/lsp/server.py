@@ -30,9 +30,13 @@ ANSWERS: dict[str, Answer] = {
 }
 # Requests that an editor makes of itself: where no DTD is found that is told once, and nothing is answered.
 QUIET = (completion.complete, actions.actions, hover.hover, navigation.definition, navigation.references)
+# What is answered by the text alone, and waits for no DTD.
+BY_TEXT = {
+    outline.symbols, tags.prepare, tags.linked, navigation.highlight, navigation.folding, navigation.selection, navigation.links
+}
 ERROR, WARNING, INFORMATION = 1, 2, 3
-# So many requests about one document are answered at a time. They wait for no other document.
-THREADS = 4
+# So many requests about one document are answered at a time, and so many by its text. They wait for no other document.
+THREADS, TEXT_THREADS = 4, 2
 
 
 class Open:
@@ -40,7 +44,8 @@ class Open:
 
     def __init__(self, document: Document, watch: Watch) -> None:
         self.document, self.watch = document, watch
-        self.threads = ThreadPoolExecutor(THREADS)
+        self.threads, self.by_text = ThreadPoolExecutor(THREADS), ThreadPoolExecutor(TEXT_THREADS)
+        self.works: dict[Work, int | str] = {}
 
 
 class Server:
@@ -156,7 +161,10 @@ class Server:
             if number in self.running:
                 raise Error(wire.INVALID_REQUEST, "a request with this id is being answered")
             self.running[number] = asked.work
-        opened.threads.submit(self.answer, number, answer, asked, asked.work)
+        threads = opened.by_text if answer in BY_TEXT else opened.threads
+        asked.work.queued = threads.submit(self.answer, number, answer, asked, asked.work)
+        opened.works[asked.work] = number
+        asked.work.queued.add_done_callback(lambda _: opened.works.pop(asked.work))
 
     def answer(self, number: int | str, answer: Answer, asked: Asked, work: Work) -> None:
         try:
@@ -192,7 +200,15 @@ class Server:
         with self.lock:
             running = self.running.get(number) if isinstance(number, int | str) else None
         if running is not None:
-            running.cancel()
+            self.end(number, running)
+
+    def end(self, number: int | str, work: Work) -> None:
+        """Ends the work for a request. One that isn't begun yet is answered here."""
+        work.cancel()
+        if work.queued is not None and work.queued.cancel():
+            with self.lock:
+                del self.running[number]
+            self.writer.refuse(number, error_of(Cancelled()))
 
     # The start.
     def initialized(self, params: Json) -> Json:
@@ -283,7 +299,10 @@ class Server:
         if uri in self.opened:
             closed = self.opened.pop(uri)
             closed.watch.end()
-            closed.threads.shutdown(wait=False)
+            for work, number in [*closed.works.items()]:
+                self.end(number, work)
+            for threads in (closed.threads, closed.by_text):
+                threads.shutdown(wait=False)
             with self.lock:
                 self.told = {told for told in self.told if not told.startswith(f"{uri} ")}
             self.writer.tell("textDocument/publishDiagnostics", {"uri": uri, "diagnostics": []})

@@ -31,6 +31,8 @@ class Work:
         self.sessions: list[Session] = []
         self.waits: list[threading.Event] = []
         self.runs = Running(RUNNING.most)
+        # What answers a request by it, which may have to wait for others.
+        self.queued: Future[None] | None = None
 
     def cancel(self) -> None:
         with self.lock:
