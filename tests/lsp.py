@@ -85,6 +85,19 @@ def keeps_what_was_told(program):
         place = client.documents[URI][0].index("<closer>")
         client.change(URI, place, place + 8, "<")
         same(codes(client.diagnostics(URI)), ["fault", "impossible"], "a tag that is gone")
+    # The tag of a root that nothing else names, and a document type declaration.
+    for front, half, options in (("", "<letter", {"dtd": os.path.join(EXAMPLES, "letter.dtd")}), (LETTER, LETTER[:-3], None)):
+        with Client(program, options=options) as client:
+            client.open(URI, text := front + "<letter><opener/></letter>")
+            same(codes(client.diagnostics(URI, finished)), ["missing", "possible", "possible"], "a draft")
+            client.change(URI, len(half), len(half) + 1, "")
+            told = codes(client.diagnostics(URI))
+            need("fault" in told and "possible" in told, f"{half}: {told}")
+            client.change(URI, len(half), len(half), text[len(half)])
+            same(codes(client.diagnostics(URI, finished)), ["missing", "possible", "possible"], "the draft again")
+            if front:
+                client.change(URI, 0, len(front), "")
+                same(client.diagnostics(URI), [], "it has no DTD any more")
 
 
 def tells_faults(program):

@@ -126,7 +126,8 @@ class Judging:
         about, wait = (self.document.uri, self.document.data), self.work.wait_for
         plain, root = self.watch.finder.plain(*about, wait)
         if not root:
-            return self.publish([])
+            # The root's start tag is half typed, and nothing else names it.
+            return self.judge_form()
         try:
             # What the DTD declares is asked beside the session.
             with self.work.session(plain, root, self.document.data) as session:
@@ -138,10 +139,12 @@ class Judging:
             self.refused(ended)
 
     def judge_form(self) -> None:
-        """Without a DTD: whether the text is well-formed."""
+        """Without a DTD, or without a root: whether the text is well-formed."""
         found = wholeness.fault_of(self.document.text)
-        told = [self.diagnostic(found[0], found[0], ERROR, "fault", f"Not well-formed: {found[1]}.")] if found else []
-        self.watch.publish(self.document, self.work, told)
+        if found is None:
+            return self.publish([])
+        told = self.diagnostic(found[0], found[0], ERROR, "fault", f"Not well-formed: {found[1]}.")
+        return self.watch.publish(self.document, self.work, [told, *self.kept()])
 
     def attributes(self, grammar: Grammar) -> None:
         """What is wrong with attributes, and what is to be said of entities, behind what is said of elements."""
@@ -157,9 +160,12 @@ class Judging:
             raise Trouble(str(fault))
         start, end = fault.span if fault.span is not None else (0, 0)
         told = [self.diagnostic(start, max(start, end), ERROR, "fault", fault.sentence)]
+        self.watch.publish(self.document, self.work, told + self.kept())
+
+    def kept(self) -> list[Json]:
+        """What was told of the last document, which stays at its place until the text is one again."""
         last = self.document.accepted.told
-        # What was told of the last document stays, at its place, until the text is one again.
-        self.watch.publish(self.document, self.work, told + (Change(last[0], self.document.text).moved(last[1]) if last else []))
+        return Change(last[0], self.document.text).moved(last[1]) if last else []
 
     def publish(self, diagnostics: list[Json]) -> None:
         """Tells what is wrong with a document."""
