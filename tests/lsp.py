@@ -145,7 +145,12 @@ def tells_attributes(program):
         need("lacks the attribute `kind`" in messages[0][2] and messages[0][:2] == (2, 1), messages)
         need("Most like it" not in messages[1][2] and "must be `italic` or `plain`" in messages[1][2] and messages[1][0] == 1, messages)
         need("refers to the ID `b`" in messages[2][2], messages)
-        # Names: those that are missing in the tag, required ones first; values; IDs.
+        # Names: those that are missing in the tag, required ones first; values; IDs. None in what is no tag.
+        for piece in (" <p ", " <p rend='"):
+            place = text.index("I<")
+            client.change(uri, place, place, f"<!--{piece} -->")
+            same(client.labels(uri, place + 4 + len(piece)), [], f"{piece} in a comment")
+            client.change(uri, place, place + len(piece) + 8, "")
         same(client.labels(uri, text.index(" >") + 1), ["kind", "lang"], "names")
         for piece, place, wanted in (
             (' kind="', text.index(" >"), ["private", "business"]),
@@ -274,11 +279,15 @@ def completes(program):
         client.change(URI, end, end + 1, "</")
         same(client.labels(URI, end + 2), ["opener"], "an end tag")
         client.change(URI, end, end + 2, "")
-        for context in ("<!-- < -->", "<![CDATA[ < ]]>"):
-            client.change(URI, end, end, context)
-            same(client.labels(URI, end + context.index(" < ") + 2), [], context)
-            client.change(URI, end, end + len(context), "")
+        for piece in (" <", " </", " <!-- </", " <p ", ' <p n="'):
+            for context in (f"<!--{piece.replace('!--', '')} -->", f"<![CDATA[{piece} ]]>", f"<?x{piece} ?>"):
+                client.change(URI, end, end, context)
+                same(client.labels(URI, end + len(context.rstrip("->]?")) - 1), [], context)
+                client.change(URI, end, end + len(context), "")
         same(client.labels(URI, place), [], "no tag is typed")
+        for before, behind in ("<!-- <? -->", "<?x ?>"), ("<![CDATA[<!--]]>", "<!-- -->"), ("<!-- <![CDATA[ -->", "<![CDATA[ ]]>"):
+            client.open(URI, text := DRAFT.replace(" met", f"{before} < met{behind}"), 99)
+            need("person" in client.labels(URI, text.index(" < met") + 2), f"between {before} and {behind}")
 
 
 def completes_what_was_chosen(program):

@@ -1,20 +1,20 @@
 """Completion: behind `<` the names that an element may have that begins here, behind `</` the name of the open
 element, in a start tag names of attributes and their values."""
 import re
-from collections.abc import Mapping
+from collections.abc import Mapping, Sequence
 
 from . import attributes
 from .documents import Asked, Document, put
 from .grammar import Grammar, NewElement
 from .lists import Cut, cut
 from .mending import changes_of, wraps
-from .nodes import ITEM, NAME, START, Element
+from .nodes import CDATA, ITEM, MISC, NAME, START, Element
 from .order import Named, ordered, used
 from .text import Json
 from .work import Work
 
 CLOSING, OPENING = re.compile(rb"</(?:" + NAME + rb")?\Z"), re.compile(rb"<(?:" + NAME + rb")?\Z")
-REST = re.compile(rb"[-.0-9:A-Z_a-z\x80-\xff]*")
+HIDING = (b"<!--", b"-->"), (b"<![CDATA[", b"]]>"), (b"<?", b"?>")
 # A name of this length and the `</` before it are looked for before the place.
 LONGEST = 1024
 # An element that begins here may end here, behind some of the next kids, or behind the last: at most so many are tried,
@@ -27,7 +27,9 @@ def complete(asked: Asked, work: Work) -> Json:
     data, offset = asked.document.data, asked.offset
     front = data[max(0, offset - LONGEST) : offset]
     items: list[Json] = []
-    if found := CLOSING.search(front):
+    if is_hidden(data, offset):
+        pass
+    elif found := CLOSING.search(front):
         items = closing(asked.document, offset - len(found[0]), offset)
     elif found := OPENING.search(front):
         at = offset - len(found[0])
@@ -39,6 +41,17 @@ def complete(asked: Asked, work: Work) -> Json:
     elif attributes.place_of(asked.document, offset) is not None:
         items = attributes.complete(asked, offset)
     return {"isIncomplete": False, "items": items}
+
+
+def is_hidden(data: bytes, offset: int, kinds: Sequence[tuple[bytes, bytes]] = HIDING) -> bool:
+    """Whether a place is in a comment, a CDATA section or an instruction that ends: no tag stands there."""
+    for start, end in kinds:
+        at = data.rfind(start, 0, offset)
+        if at >= 0 and data.find(end, at + len(start), offset) < 0 and data.find(end, offset) >= 0:
+            item, others = ITEM.match(data, at), [each for each in kinds if each[0] != start]
+            if item is not None and item.lastindex in (CDATA, MISC) and item.end() > offset and not is_hidden(data, at, others):
+                return True
+    return False
 
 
 def without(document: Document, start: int, offset: int) -> tuple[bytes, int]:
