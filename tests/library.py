@@ -281,7 +281,8 @@ def dates(trial: Expecting, pvtag: str, folder: Path, count: int) -> None:
 
 
 # Methods of a session that clients use among themselves.
-WITHIN = {"lines_of_run", "follow", "track", "ask", "whole", "line", "body", "verdict_lines", "ended"}
+WITHIN = {"lines_of_run", "was_made", "tried_together", "told_by", "follow", "track", "ask", "write", "words", "whole", "line", "lines", "body",
+          "verdict_lines", "ended"}
 
 
 def examples(trial: Expecting, pvtag: str, folder: Path) -> None:

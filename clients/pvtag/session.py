@@ -346,7 +346,14 @@ class Session:
     def tried(self, lines: Sequence[str], then: str = "") -> list[tuple[Made | Refused, bytes]]:
         """What each of these edits answers, each undone before the next, and what "need" or "verdicts" then says, as it comes.
         They are written together where no edit was made before, since an undo of nothing changes nothing: so there are to be
-        few, and what is said of them short."""
+        few, and what is said of them short. Of one that is refused nothing more is said, and what could be redone before is
+        lost.
+
+        >>> session.tried(["wrap 0.0 0 1 salute", "wrap 0.0 0 1 p"], "need")
+        [(Made(lists=2, open=0, bad=0), b'0'), (Refused(why='impossible', what='0.0'), b'')]
+        >>> session.history()
+        []
+        """
         with self.whole():
             together = [lines] if not self.made else [[line] for line in lines]
             return [answer for some in together for answer in self.tried_together(some, then)]
@@ -367,6 +374,7 @@ class Session:
             reply = refused(words) if words[0] == "no" else self.was_made(line, words)
             told = self.told_by(self.words()) if then else b""
             words = self.words()
+            told = told if isinstance(reply, Made) else b""
             if isinstance(reply, Made):
                 if words[0] == "no":
                     raise Ended(None, "a move can't be taken back")
@@ -577,7 +585,12 @@ class Session:
             return refused(words) if words[0] == "no" else b"".join(self.lines(int(words[1])))
 
     def unsettled(self, most_bad: int, most: int) -> Unsettled | Refused:
-        """The lists that aren't valid. The rows of all lists are looked through as they come, and not kept."""
+        """The lists that aren't valid, with the paths of so many that can't be mended, and of so many that can. The rows of
+        all lists are looked through as they come, and not kept.
+
+        >>> session.unsettled(1, 1)
+        Unsettled(lists=1, bad=0, first_bad=[], first=['0.0'])
+        """
         with self.whole():
             words = self.ask("verdicts")
             if words[0] == "no":
