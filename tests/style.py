@@ -50,7 +50,7 @@ def sources(of: str) -> list[Path]:
 
 # What finds faults of types, and the packages and the commands of the clients, which are typed.
 MYPY = ["mypy", "--strict"]
-PACKAGES = ("pvtag", "reporting", "annotate", "lsp")
+PACKAGES = ("pvtag", "annotate", "lsp")
 TYPED = ("report", "why", "complete", "ranges", "standoff", "mark")
 
 

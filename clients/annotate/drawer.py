@@ -15,7 +15,7 @@ from .listing import Listed, Marks, Verdicts, document_of, has_moves, holder_of,
 from .making import make_document, open_editor
 from pvtag.document import Told
 from pvtag.program import RUNNING, Trouble, shown_name
-from reporting.rows import Row, shown
+from pvtag.reporting.rows import Row, shown
 from .script import Changed
 from .values import Names
 from .work import Refusal, Work

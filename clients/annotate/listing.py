@@ -17,9 +17,9 @@ from typing import NamedTuple
 from .files import put_file, read
 from .palette import NAME as PALETTE
 from pvtag.program import Stopped, Trouble, shown_name
-from reporting.judging import Judge, Options, seen_of
-from reporting.rows import Row
-from reporting.runs import Runs
+from pvtag.reporting.judging import Judge, Options, seen_of
+from pvtag.reporting.rows import Row
+from pvtag.reporting.runs import Runs
 
 DOCUMENT, TEXT = ".xml", ".txt"
 # The most seconds that the program has for one document.

@@ -22,6 +22,7 @@
     costs     what each name that is offered costs: how many more elements are missing with it
     filling   the attributes of a completion's new elements
     start     how a command begins and ends; `command` is what those beside this folder share
+    reporting  what `clients/report` and the page's list of a folder judge many documents by
 
 A client beside this folder finds it there.
 """

@@ -1,4 +1,4 @@
-"""Reports on many documents, for `clients/report`.
+"""Reports on many documents, for `clients/report` and the page over a folder.
 
     documents  which files are meant, by files, folders and lists
     rows       a line of a report, and its head, as JSON Lines and as TSV
