@@ -248,6 +248,11 @@ def refuses_other_names(program):
             need(isinstance(fault, Refusal) and fault.status == 404, f"{path}: {fault!r}")
         need(not drawer.at("a.xml/list")[0].has("list") and not drawer.at("x")[0].has("state"), "requests of the other page")
         same(ask(drawer, f"{address_of('b b%2f.xml')}/hello")["title"], "b b%2f.xml", "a name with signs")
+        os.unlink(os.path.join(folder.path, "a.xml"))
+        os.mkdir(os.path.join(folder.path, "a.xml"))
+        need(ask(drawer, "a.xml/hello")["closed"], "what isn't a file any more is told")
+        drawer.folder += "x"
+        need(isinstance(fault_of(lambda: drawer.at("c.xml/")), Refusal) and "trouble" in ask(drawer, "list"), "and a folder that isn't there")
         for what in ([], {"url": 5}, {}, "x"):
             fault = fault_of(lambda: drawer.answer("mark", what))
             need(isinstance(fault, Refusal) and fault.status == 400 or fault is None, f"{what}: {fault!r}")

@@ -50,6 +50,8 @@ class Entry:
             work = self.begin(name == "hello" and bool(ask.get("again")))
         except Trouble as trouble:
             return {"trouble": str(trouble), "closed": True, "changed": isinstance(trouble, Changed)}
+        except OSError as fault:
+            return {"trouble": f"{shown_name(self.name)} can't be opened: {fault.strerror}", "closed": True, "changed": False}
         try:
             if name != "hello":
                 return work.answer(name, ask)
@@ -128,10 +130,16 @@ class Drawer:
         """A document of the list."""
         with self.lock:
             if name not in self.entries:
-                if Listed(name, False) not in listed(self.folder):
+                if not self.has_document(name):
                     raise Refusal(404, "there is no such document")
                 self.entries[name] = Entry(self, name)
             return self.entries[name]
+
+    def has_document(self, name: str) -> bool:
+        try:
+            return Listed(name, False) in listed(self.folder)
+        except Trouble:
+            return False
 
     def has(self, name: str) -> bool:
         return name in OF_DRAWER
