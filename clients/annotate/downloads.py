@@ -46,7 +46,7 @@ class Downloads:
         before = (read(self.editor.script.document) or b"").decode(errors="replace")
         one, other = PIECE.findall(before), PIECE.findall(now)
         if max(len(one), len(other)) > PIECES:
-            raise Trouble("the document is too long to show what has changed in it; History tells the moves")
+            raise Trouble("the document is too long to show what has changed in it; History lists the moves")
         return {"changes": list(shortened(compared(one, other)))}
 
     def download(self, ask: Any) -> Told:

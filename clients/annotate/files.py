@@ -204,7 +204,7 @@ def opened_or_made(path: str, like: str) -> int:
         number = opened(path, os.O_RDWR | os.O_APPEND)
     except FileNotFoundError:
         if os.path.islink(path):
-            raise Trouble(f"{shown_name(path)} is a link to what isn't there; take it away") from None
+            raise Trouble(f"{shown_name(path)} is a link to what isn't there; remove it") from None
         try:
             number = opened(path, os.O_RDWR | os.O_APPEND | os.O_CREAT | os.O_EXCL)
         except FileExistsError:

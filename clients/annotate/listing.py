@@ -137,7 +137,7 @@ class Marks:
             names = json.loads(data)["done"]
             return {name for name in names if isinstance(name, str)}
         except (ValueError, KeyError, TypeError):
-            raise Trouble(f"{shown_name(self.path)} isn't what annotate writes there; move it away to begin anew") from None
+            raise Trouble(f"{shown_name(self.path)} isn't what annotate writes there; move it elsewhere to start again") from None
 
     def put(self, name: str, is_done: bool) -> None:
         """Marks a document, or takes its mark away."""

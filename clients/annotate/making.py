@@ -32,7 +32,7 @@ def make_document(root: str, text: str, doc: str, dtd: str) -> None:
     """Makes a document of one element round a plain text, where there is none yet. It names the DTD, where that lies beside
     it."""
     if os.path.islink(doc) and not os.path.exists(doc):
-        raise Trouble(f"{shown_name(doc)} is a link to what isn't there; take it away, or name another DOC")
+        raise Trouble(f"{shown_name(doc)} is a link to what isn't there; remove it, or name another DOC")
     if os.path.exists(doc):
         raise Trouble(f"{shown_name(doc)} is there already: leave out --from to go on with it, or name another DOC")
     source = f"{DECLARATION}\n{doctype(root, doc, dtd)}<{root}>{escape(plain_text(text))}</{root}>\n".encode()

@@ -100,7 +100,7 @@ class Script:
         """The lines by their numbers, from 1. What was cut off is dropped."""
         content = self.content()
         if not content.startswith(DOCUMENT.encode()[:len(content)]):
-            raise Trouble(f"{shown_name(self.path)} is no script of annotate; move it away to begin anew")
+            raise Trouble(f"{shown_name(self.path)} is no script of annotate; move it elsewhere to start again")
         whole = content.split(b"\n")[:-1]
         lines = [(number, text_of(number, line)) for number, line in enumerate(whole, 1)]
         for number, line in lines[::-1]:

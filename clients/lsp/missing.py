@@ -16,7 +16,7 @@ from .work import Work
 NUMBERED = re.compile(rb"<" + NAME + rb' n="(\d+)"')
 WHY = {
     "impossible": "no insertions can make this document valid",
-    "wide": "a list of this document is too wide to tell what is missing in it",
+    "wide": "a list of this document is too wide to count what is missing in it",
     "heavy": "more than 1,000,000 elements are missing",
 }
 

@@ -198,7 +198,7 @@ function ranked(text) {
   const whole = open.choices.filter(({ label }) => label === text)
   if (whole.length > 0 || !open.typed) return [...whole, ...rest]
   const isDeclared = open.names.has(text)
-  const note = isDeclared ? "isn't offered; Enter tells why" : "the DTD has no such element"
+  const note = isDeclared ? "isn't offered; Enter shows why" : "the DTD has no such element"
   const typed = { label: text, take: open.typed, isTyped: true, note }
   return isDeclared ? [typed, ...rest] : [...rest, typed]
 }
