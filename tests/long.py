@@ -43,6 +43,18 @@ EXAMPLES = {
 }
 
 
+# Lists that are too wide for a session, under names that hold themselves: a DTD, its root, the kids, and how many elements are missing.
+OPERATIONS = "<!ELEMENT expr (num|(expr,op?,expr))><!ELEMENT num EMPTY><!ELEMENT op EMPTY>"
+ROWS = [
+    ("<!ELEMENT s (s?,w)><!ELEMENT w EMPTY>", "s", "<w/>" * 66, 65),
+    ("<!ELEMENT x (y,x?)><!ELEMENT y EMPTY>", "x", "<y/>" * 66, 65),
+    ("<!ELEMENT t ((t,t)?)>", "t", "<t/>" * 66, 64),
+    (OPERATIONS, "expr", "<num/>" * 70, 138),
+    (OPERATIONS, "expr", "<num/>" + "<op/><num/>" * 69, 138),
+    ("<!ELEMENT a (b*)><!ELEMENT b (c|d)+><!ELEMENT c EMPTY><!ELEMENT d (e,c)><!ELEMENT e EMPTY>", "a", "<e/><c/><b><c/></b>" * 60, 120),
+]
+
+
 class Told(NamedTuple):
     """What is told to be missing: at least and at most so many elements, or what the line says instead."""
     least: float
@@ -139,6 +151,18 @@ def try_example(both: Programs, dtd: str, root: str, name: str) -> None:
 
     path = f"{TOP}/examples/{dtd}"
     both.case("examples", lambda: by_session(judge(both, path, root, text, path), both.session_need(path, root, "d.xml")), lambda: name)
+
+
+def try_row(both: Programs, dtd: str, root: str, kids: str, least: int) -> None:
+    write("row.dtd", dtd)
+    text = f"<{root}>{kids}</{root}>"
+
+    def judged() -> str:
+        told = judge(both, "row.dtd", root, text)
+        same((told.least, told.most), (least, least), "the number")
+        return "exact"
+
+    both.case("rows", judged, lambda: text)
 
 
 def try_search(both: Programs) -> None:
@@ -303,6 +327,8 @@ def main() -> int:
         for dtd, (root, names) in EXAMPLES.items():
             for name in names:
                 try_example(both, dtd, root, name)
+        for row in ROWS:
+            try_row(both, *row)
         until(share, lambda: try_search(both), lambda: try_derivations(both))
         until(share, lambda: try_made(both), lambda: try_one_list(both))
         tries = [lambda it=it, room=room: try_wide(both, os.path.basename(it.original), it.flat, it.models, it.least, room, it.original)
