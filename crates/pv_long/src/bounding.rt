@@ -124,7 +124,8 @@ fn bound_kids(
         IsBound (dtd_of plan.now.layout.now.grammar.now) root list found.0) }
 {
     let word = word(alloc, plan.layout.grammar.dtd(), kids)?;
-    let filled = fill(alloc, plan, word.as_slice())?;
+    let column = plan.layout.column(site_at(of));
+    let filled = fill(alloc, plan, column, word.as_slice())?;
     let least = word_bound(alloc, plan.layout, of, word.as_slice(), &filled.fronts)?;
     let pieces = pieces_by(alloc, plan, of, word.as_slice(), &filled)?;
     Ok((least, pieces))

@@ -3,6 +3,7 @@
 use crate::errors::MakeError;
 use crate::making::classes::Classes;
 use crate::making::derivations::{Derivations, Rule};
+use crate::making::fronts::end_of;
 use crate::making::grain::{Grain, Way};
 use crate::making::here::Here;
 use crate::making::plan::Plan;
@@ -119,7 +120,7 @@ fn fill_place(
     for _time in 0..usize::MAX {
         offer_token(known, here, token)?;
         settle(known, here, derivations)?;
-        if !lacks_some(known, here) {
+        if here.may_lack() || !lacks_some(known, here) {
             break;
         }
         here.clear();
@@ -255,9 +256,29 @@ fn make_within(
     }
 }
 
-/// The fronts of a word. Where they would have too many reaches, there are fronts of two kinds, of
-/// which one tells too little, and the other has reaches that cost too much.
-pub fn fill(alloc: Global, plan: &Plan<'_>, word: &[Token]) -> Result<Filled, MakeError> {
+// Fronts without a reach that has no derivation, with these.
+fn derive_fronts(
+    alloc: Global,
+    plan: &Plan<'_>,
+    classes: &Classes,
+    word: &[Token],
+    grain: Grain,
+) -> Result<(Fronts, Derivations), MakeError> {
+    let (made, _) = make_within(alloc, plan, classes, word, grain)?;
+    let Rows { rows, derivations } = made;
+    let fronts = widen_all(alloc, plan, classes, rows)?;
+    Ok((fronts, derivations))
+}
+
+/// The fronts of a word that a column is to stand for. Where they would have too many reaches, there
+/// are fronts of two kinds, of which one tells too little, and the other has reaches that cost too
+/// much.
+pub fn fill(
+    alloc: Global,
+    plan: &Plan<'_>,
+    column: u32,
+    word: &[Token],
+) -> Result<Filled, MakeError> {
     let tokens = number_of(word.len());
     let classes = Classes::of_word(alloc, plan.layout.forms(), word)?;
     let all = Grain {
@@ -276,13 +297,18 @@ pub fn fill(alloc: Global, plan: &Plan<'_>, word: &[Token]) -> Result<Filled, Ma
             classes,
         });
     }
-    let fewer = Grain {
-        way: Way::Fewer,
+    let fewest = Grain {
+        way: Way::Fewest,
         ..grain
     };
-    let (made, _) = make_within(alloc, plan, &classes, word, fewer)?;
-    let Rows { rows, derivations } = made;
-    let derived = widen_all(alloc, plan, &classes, rows)?;
+    let (mut derived, mut derivations) = derive_fronts(alloc, plan, &classes, word, fewest)?;
+    if end_of(derived.at(column, 0)) < tokens {
+        let fewer = Grain {
+            way: Way::Fewer,
+            ..grain
+        };
+        (derived, derivations) = derive_fronts(alloc, plan, &classes, word, fewer)?;
+    }
     Ok(Filled {
         fronts,
         derived: Some(derived),

@@ -7,6 +7,8 @@ pub enum Way {
     Further,
     /// Of those up to one of these ends, the cheapest and the furthest are kept.
     Fewer,
+    /// The same, and others may be missing too.
+    Fewest,
 }
 
 /// Ends that are up to so many places away are told apart; further on those at each second place,

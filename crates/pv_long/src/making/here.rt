@@ -162,6 +162,11 @@ impl Here {
         self.work = u64::saturating_add(self.work, reaches);
     }
 
+    /// Whether fronts may lack reaches that others lead to.
+    pub fn may_lack(&self) -> bool {
+        self.grain.way == Way::Fewest
+    }
+
     /// Whether all cuts of a column are tried.
     pub fn tries_all(&self, column: u32) -> bool {
         match self.columns.get(column as usize) {
@@ -248,6 +253,7 @@ impl Here {
         let end = match self.grain.way {
             Way::Further => self.grain.told(self.place, end),
             Way::Fewer => end,
+            Way::Fewest => end,
         };
         let Some(known) = self.columns.get_mut(column as usize) else {
             return Ok(());
@@ -330,7 +336,7 @@ impl Here {
         if end_of(known.front.as_slice()) >= end {
             return Ok(None);
         }
-        if self.grain.way == Way::Fewer {
+        if self.grain.way != Way::Further {
             thin(&mut known.front, self.grain, self.place, end);
         }
         let number = derivations.add(Derivation { end, rule })?;
