@@ -430,12 +430,14 @@ def changes_tags(program):
         client.open(URI, DRAFT)
         client.diagnostics(URI, finished)
         tag = DRAFT.index("<opener>") + 2
+        # The names with which no more elements are missing come first. On a busy machine they are known a moment later.
+        titles = ["Unwrap <opener>", *(f"Rename to <{name}>" for name in ("salute", "dateline", "place", "date"))]
+        found = until(lambda: [*client.actions(URI, (tag, tag), ["refactor.rewrite"])] == titles)
         actions = client.actions(URI, (tag, tag), ["refactor.rewrite"])
-        same(
-            [*actions],
-            ["Unwrap <opener>", *(f"Rename to <{name}>" for name in ("dateline", "place", "date", "salute"))],
-            "what is offered",
-        )
+        need(found, f"what is offered: {[*actions]}")
+        items = client.ask("textDocument/completion", client.about(URI, tag))["items"]
+        told = [(each["label"], each["detail"].split(" ")[0]) for each in sorted(items, key=lambda each: each["sortText"])]
+        same(told[1:4], [("salute", "(#PCDATA)"), ("dateline", "+1"), ("place", "+2")], "other names of the tag")
         same(
             edited(DRAFT, edits_of(actions["Rename to <salute>"]["edit"])),
             DRAFT.replace("opener>", "salute>"),

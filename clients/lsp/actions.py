@@ -146,13 +146,14 @@ def at_tag(asked: Asked, work: Work, start: int, end: int) -> list[Json]:
     if tag is None or end > tag.end:
         return []
     element, found = tag.element, list[Json]()
-    changes = changes_of(work, asked.grammar, element, document.data)
+    owner = element.owner.label if element.owner is not None else ""
+    changes = changes_of(work, asked.grammar, element, document.data, used(document, owner))
     if changes.is_unwrapped:
         title = f"Unwrap <{element.label}>"
         found.append(action(asked, title, unwrapping(document, element), changes.is_fix))
     found += [moving(asked, element, move) for move in moves_of(work, asked.grammar, element, document.data)] if changes.is_fix else []
     places = [document.text.range(*span) for span in element.names()]
-    for name in changes.names:
+    for name in (each.name for each in ordered(work, asked.grammar, document, owner, changes.names)):
         found.append(action(asked, f"Rename to <{name}>", [put(place, name) for place in places], changes.is_fix))
     return found
 

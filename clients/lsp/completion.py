@@ -93,17 +93,19 @@ def renaming(asked: Asked, work: Work, element: Element, offset: int) -> list[Js
     (start, end), *others = element.names()
     place, places = document.text.range(start, max(end, offset)), [document.text.range(*other) for other in others]
     items = []
-    for number, name in enumerate(renames(work, grammar, element, document.data)):
-        item = named(grammar, name, put(place, name), number)
+    for number, each in enumerate(renames(work, grammar, element, document)):
+        item, name = named(grammar, each.name, put(place, each.name), number, each), each.name
         items.append(item | ({"additionalTextEdits": [put(other, name) for other in places]} if places else {}))
     return items
 
 
-def renames(work: Work, grammar: Grammar, element: Element, data: bytes) -> list[str]:
-    """The names that an element may have, its own among them where it may stay."""
-    found = changes_of(work, grammar, element, data)
-    named = found.names if found.is_fix else [*found.names, element.label]
-    return sorted(named, key=lambda name: grammar.order().get(name, 0))
+def renames(work: Work, grammar: Grammar, element: Element, document: Document) -> list[Named]:
+    """The names that an element may have in their order, its own among them where it may stay."""
+    assert element.owner is not None
+    owner = element.owner.label
+    found = changes_of(work, grammar, element, document.data, used(document, owner))
+    offered = found.names if found.is_fix else [*found.names, Named(element.label, False, 0)]
+    return ordered(work, grammar, document, owner, offered)
 
 
 def opening(asked: Asked, work: Work, start: int, offset: int) -> list[Json]:

@@ -23,9 +23,9 @@ Part = tuple[int, int]
 
 
 class Changes(NamedTuple):
-    """Other names for an element, whether its tags may be taken away, and whether that mends a list."""
+    """Other names for an element with what they cost, whether its tags may be taken away, and whether that mends a list."""
 
-    names: list[str]
+    names: list[Named]
     is_unwrapped: bool
     is_fix: bool
 
@@ -131,15 +131,16 @@ def mending(session: Session, path: str, offered: Sequence[str], line: Callable[
     return [name for name, bad in found.items() if bad == min(found.values())]
 
 
-def changes_of(work: Work, grammar: Grammar, element: Element, data: bytes) -> Changes:
-    """The other names that an element may have, and whether its tags may be taken away."""
+def changes_of(work: Work, grammar: Grammar, element: Element, data: bytes, uses: Mapping[str, int]) -> Changes:
+    """The other names that an element may have, of which those that are used most are looked at first, and whether its tags
+    may be taken away."""
     assert element.owner is not None
     owner, kids, below = element.owner.label, kids_of(element.owner, data), kids_of(element, data)
-    alone = Alone(owner, kids, element.at, below)
+    alone, begun = Alone(owner, kids, element.at, below), time.monotonic()
     try:
         with work.session(grammar, alone.root(grammar), alone.data) as session:
             if not impossible(session) & {alone.path, alone.kid_path(element.at)}:
-                return changes_in(session, alone, element.at, element.label)
+                return changes_in(session, grammar, alone, element, element.at, uses, times_of(begun))
         gone = in_the_way(work, grammar, owner, kids)
         if gone is None:
             return NOTHING
@@ -148,19 +149,23 @@ def changes_of(work: Work, grammar: Grammar, element: Element, data: bytes) -> C
         with work.session(grammar, alone.root(grammar), alone.data) as session:
             path = alone.kid_path(at)
             if not impossible(session) & {alone.path, path}:
-                return changes_in(session, alone, at, element.label)
+                return changes_in(session, grammar, alone, element, at, uses, times_of(begun))
             others = mending(session, alone.path, names(session.offer(path)), lambda name: f"rename {path} {name}")
             is_unwrapped = bool(mending(session, alone.path, [""], lambda _: f"unwrap {path}"))
-            return Changes(others, is_unwrapped, True)
+            return Changes([Named(name, False, None) for name in others], is_unwrapped, True)
     except Ended:
         return NOTHING
 
 
-def changes_in(session: Session, alone: Alone, at: int, label: str) -> Changes:
+def changes_in(
+    session: Session, grammar: Grammar, alone: Alone, element: Element, at: int, uses: Mapping[str, int], times: Times
+) -> Changes:
     """The same where no list is impossible that it is about."""
     path = alone.kid_path(at)
-    others = [name for name in names(session.offer(path)) if name != label]
-    return Changes(others, isinstance(session.unwrap(path), Made), False)
+    others = [name for name in names(session.offer(path)) if name != element.label]
+    others.sort(key=lambda name: -uses.get(name, 0))
+    found = costs_of(grammar, session, alone.data, alone.path, f"rename {path}", others, times)
+    return Changes(found, isinstance(session.unwrap(path), Made), False)
 
 
 class Move(NamedTuple):

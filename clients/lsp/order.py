@@ -46,7 +46,8 @@ def times_of(begun: float) -> Times:
 def costs_of(
     grammar: Grammar, session: Session, data: bytes, path: str, line: str, names: Sequence[str], times: Times
 ) -> list[Named]:
-    """What is known of these names, after a look and a count in this session, which is on the data."""
+    """What is known of these names, after a look and a count in this session, which is on the data. Names of a renaming are
+    counted alone: the element's own list changes too, which a look at what is open doesn't tell apart."""
     kept, lock = grammar.declared.costs, grammar.declared.lock
     key = hashlib.blake2b(data, digest_size=16).digest(), line
     with lock:
@@ -56,9 +57,9 @@ def costs_of(
             kept.pop(next(iter(kept)))
     task = Task(lambda: contextlib.nullcontext(session), path, [], line, [*names], known)
     if task.left:
-        task.look(times.looked)
-        task.left = known.lacking([*names])
-        task.new = []
+        if not line.startswith("rename "):
+            task.look(times.looked)
+            task.left, task.new = known.lacking([*names]), []
         left = times.counted - time.monotonic()
         if task.left and left > 0:
             task.more([], True, left)
