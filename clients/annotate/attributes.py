@@ -210,7 +210,7 @@ class Attributes:
         return [(name, "".join(names.get(char, char) for char in value)) for name, value in pairs] if names else pairs
 
     def read_back(self, told: list[tuple[str, str]], before: list[tuple[str, str]]) -> list[tuple[str, str]]:
-        """The same back: a value that wasn't changed is what it was, and in others a reference is one again."""
+        """Attributes from the form of `spelled`: a value that wasn't changed is what it was, and in others a reference is one again."""
         names, olds = self.references(), dict(zip(self.spelled(before), before))
         pairs = list[tuple[str, str]]()
         for pair in told:

@@ -89,7 +89,7 @@ def compared(one: list[str], other: list[str]) -> Iterator[tuple[str, str]]:
 
 
 def shortened(stretches: Iterator[tuple[str, str]]) -> Iterator[tuple[str, str]]:
-    """The same, but of what is in both only what stands beside the rest."""
+    """These stretches, but of what is in both only what stands beside the rest."""
     rows = list(stretches)
     if all(not kind for kind, _ in rows):
         return

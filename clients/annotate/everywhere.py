@@ -31,7 +31,7 @@ class Everywhere:
         return {"places": rows[:MOST], "more": len(rows) > MOST}
 
     def open_places(self, text: str, name: str) -> Iterator[Told | None]:
-        """The same, in steps, and one more than are told."""
+        """The places of `places`, in steps, and one more than is shown."""
         count = 0
         for stretch, line, owner in found(self.editor.document, text):
             if stretch is None or stands_in(owner, name):

@@ -107,7 +107,7 @@ def offsets(words: list[str], at: int) -> list[int]:
 
 
 def within(old: str, new: str, at: int, other: int) -> Iterator[tuple[int, int, int]]:
-    """The same of words that were changed, by their characters."""
+    """The parts that two changed pieces share, by their characters: where each begins, and its length."""
     if max(len(old), len(new)) > LONGEST:
         return
     matcher = difflib.SequenceMatcher(None, old, new, autojunk=False)

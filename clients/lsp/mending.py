@@ -104,7 +104,7 @@ def wraps_in(
     uses: Mapping[str, int],
     times: Times,
 ) -> list[list[Named]]:
-    """The same of runs that are these parts of the list alone. A run of nothing but kids that are in the way is no
+    """The names that may go round runs which are these parts of the list alone. A run that has only kids in the way is no
     place."""
     known, found = set[str](), list[list[Named]]()
     for (start, end), (first, last) in zip(runs, parts, strict=True):
@@ -160,7 +160,7 @@ def changes_of(work: Work, grammar: Grammar, element: Element, data: bytes, uses
 def changes_in(
     session: Session, grammar: Grammar, alone: Alone, element: Element, at: int, uses: Mapping[str, int], times: Times
 ) -> Changes:
-    """The same where no list is impossible that it is about."""
+    """What may be done with an element if no list concerned is impossible."""
     path = alone.kid_path(at)
     others = [name for name in names(session.offer(path)) if name != element.label]
     others.sort(key=lambda name: -uses.get(name, 0))

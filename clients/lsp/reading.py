@@ -148,7 +148,7 @@ class Whole(Tree):
         return made
 
     def tag(self, offset: int) -> Tag | None:
-        """The same by what stands near: the lists that the tag stands in, which may be long, aren't read for it."""
+        """The tag at an offset, found by what stands near: the lists round it, which may be long, aren't read for it."""
         at = self.plain.rfind(b"<", self.top.known[0].start, offset + 1)
         found = self.tag_at(at) if at >= 0 else None
         if found is None and at == offset:

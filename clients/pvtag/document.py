@@ -348,7 +348,7 @@ def unescaped(text: str) -> str:
 
 
 def escaped(text: str) -> str:
-    """The same back."""
+    r"""A text as one line of a script says it, from which `unescaped` makes it again: `\n` for a line end, `\\` for `\`."""
     return text.replace("\\", "\\\\").replace("\n", "\\n")
 
 

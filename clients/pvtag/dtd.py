@@ -82,7 +82,7 @@ class Dtd:
         return self.types_of(run(self.program, "dtd", self.path))
 
     def types_of(self, answer: Answer) -> dict[str, Type]:
-        """The same by what `dtd` has answered."""
+        """The declared names, in order of declaration, read from an answer of `dtd`."""
         if answer.status:
             raise Refusal(fault_of(answer.status, answer.line, {"dtd": self.source}))
         rows = (line.split(" ") for line in answer.output.decode().splitlines()[:-1])

@@ -133,8 +133,8 @@ class Masked:
         return STAND_IN.sub(lambda found: self.stands.get(found[0], found[0]), printed) if self.stands else printed
 
     def like(self, other: "Masked") -> tuple["Masked", Mapping[bytes, bytes]]:
-        """The same document with the stand-ins of another one, so that one entity has one in both; and by those that it had the
-        ones that it has then. What the other doesn't refer to has some that the other hasn't."""
+        """This document with the stand-ins of another one, so that an entity has the same one in both; and for each old
+        stand-in its new one. An entity that the other doesn't refer to gets a stand-in that the other doesn't have."""
         theirs = {(name, form[:1]): form for form, name in other.stands.items()}
         forms, count = dict[bytes, bytes](), len(other.stands)
         for form, name in self.stands.items():
@@ -146,7 +146,7 @@ class Masked:
         return Masked(self.source, data, [], stands, self.subset, [], {}), forms
 
     def restored_text(self, printed: str) -> str:
-        """The same of a text."""
+        """A text that the program printed, with what the stand-ins in it stand for."""
         return self.restored(printed.encode(errors="surrogateescape")).decode(errors="surrogateescape")
 
     def spelled(self) -> bytes:

@@ -23,7 +23,7 @@ SCRIPT, BUILT = os.path.join(TOP, "pvtag"), os.path.join(TOP, "build", "pvtag")
 UNPROVED = ".unproved"
 # What runs the program where the package is installed.
 PACKAGED = os.path.join(os.path.dirname(os.path.dirname(TOP)), "bin", "pvtag")
-# The same of the second program.
+# Script and built program of `pvlong`.
 LONG_SCRIPT, LONG_BUILT = os.path.join(TOP, "pvlong"), os.path.join(TOP, "build", "pvlong")
 
 
@@ -226,7 +226,7 @@ def run(program: list[str], *words: str, given: bytes = b"", files: Sequence[int
 
 
 def run_tool(*words: str, runs: Running = RUNNING) -> Answer:
-    """The same for a command that isn't the program, and takes names of all bytes. It raises `OSError` where there is none."""
+    """Runs a command other than the program, with names of any bytes. It raises `OSError` if there is no such command."""
     return ended(runs.start(list(words), stderr=subprocess.PIPE), words, b"", None, runs)
 
 

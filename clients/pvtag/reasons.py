@@ -122,7 +122,7 @@ class Reasons:
         return self.of_lists([(path, owner, kids)])[0]
 
     def of_lists(self, lists: Sequence[tuple[str, str, Sequence[Kid]]]) -> list[Reason | None]:
-        """The same of many lists, in a few runs of the program for all."""
+        """Why each of these lists is impossible, or none, by a few runs of the program for all of them."""
         found = self.searched([(owner, kids) for _, owner, kids in lists])
         return [self.told(*each, what) for each, what in zip(lists, found, strict=True)]
 
@@ -139,7 +139,7 @@ class Reasons:
         return self.about_edit(tree, lines, path)()
 
     def about_edit(self, tree: Document, lines: Sequence[str], path: str) -> Callable[[], RefusedEdit | None]:
-        """The same in two parts: the tree is needed here, and the program by what this returns."""
+        """What `of_edit` does, in two parts: this call needs the tree, and what it returns needs the program."""
         last, backs = next(reversed(tree.nodes)), []
         origin: dict[int, int] = {}
         try:

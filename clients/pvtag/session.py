@@ -93,7 +93,7 @@ class Unsettled(NamedTuple):
     first: list[str]
 
     def more(self, rows: bytes, most_bad: int, most: int) -> "Unsettled":
-        """The same with these rows of further lists; so many paths are kept at most."""
+        """This with the rows of further lists added; at most so many paths are kept."""
         if b"possible " not in rows:
             return self
         found = UNSETTLED.findall(rows)
@@ -282,8 +282,8 @@ class Session:
         return self.wrap_run(path, start, path, end, name)
 
     def wrap_run(self, first: str, start: int, last: str, end: int, name: str) -> Made | Refused:
-        """The same from a unit of one text up to a unit of another: of two kids of one element, with all between. A kid that
-        is no text is taken whole, from 0 up to 1.
+        """Puts an element round what stands from a unit of one text up to a unit of another. Both are kids of one element. A
+        kid that is no text is taken whole, from 0 up to 1.
 
         >>> from pvtag.program import run
         >>> session.split("0.0.0", 5)
@@ -325,7 +325,7 @@ class Session:
         return [*cuts, named(line_of("wrap", owner, at, int(two) + (start > 0) + 1), name)]
 
     def edit(self, line: str) -> Made | Refused:
-        """The same by a line of a script.
+        """Makes the edit that a line of a script says.
 
         >>> session.edit("wrap 0.0 0 1 salute")
         Made(lists=2, open=0, bad=0)
@@ -649,7 +649,7 @@ def line_of(word: str, path: str, *numbers: int) -> str:
 
 
 def named(line: str, last: str) -> str:
-    """The same with a name or a text, which stands last."""
+    """A line of a script that ends with a name or a text."""
     of_type(last, str)
     return in_one_line(f"{line} {last}")
 
