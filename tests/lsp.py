@@ -315,6 +315,13 @@ def completes_what_was_chosen(program):
         need("salute" in items, f"other names for a tag: {[*items]}")
         changed = edited(DRAFT, [items["salute"]["textEdit"], *items["salute"]["additionalTextEdits"]])
         same(changed, DRAFT.replace("opener>", "salute>"), "both tags")
+    # Emacs makes the second edit where the first has shifted it, unless it stands on another line.
+    for name in (None, "Eglot"):
+        with Client(program, name=name) as client:
+            client.open(URI, DRAFT)
+            same(client.labels(URI, tag), [], "an end tag on the same line")
+            client.open(URI, DRAFT.replace("</opener>", "\n</opener>"), 2)
+            need("salute" in client.labels(URI, tag), "an end tag on another line")
 
 
 def orders_names(program):

@@ -91,6 +91,8 @@ def renaming(asked: Asked, work: Work, element: Element, offset: int) -> list[Js
     """Other names for an element whose start tag this is. Its end tag gets the name too."""
     document, grammar = asked.document, asked.grammar
     (start, end), *others = element.names()
+    if asked.client.shifts_edits and others and b"\n" not in document.data[start : others[0][0]]:
+        return []
     place, places = document.text.range(start, max(end, offset)), [document.text.range(*other) for other in others]
     items = []
     for number, each in enumerate(renames(work, grammar, element, document)):

@@ -31,6 +31,12 @@ class Client:
         item = "textDocument", "completion", "completionItem"
         return self.name != "Neovim" or bool(self.can(*item, "insertReplaceSupport") or self.can(*item, "resolveSupport"))
 
+    @property
+    def shifts_edits(self) -> bool:
+        """Whether it makes the other edits of an item after the first, at places that this one has shifted. Emacs's eglot does;
+        its older versions don't tell their name."""
+        return self.name in (None, "Eglot")
+
     def can(self, *path: str) -> Any:
         """A capability by its path; none where it isn't told."""
         value = self.capabilities

@@ -108,6 +108,7 @@ class Client:
         server=SERVER,
         environment=None,
         folder=None,
+        name="tests",
     ):
         self.seconds, self.number, self.aside, self.documents, self.together = seconds, 0, [], {}, None
         self.process = subprocess.Popen(
@@ -124,7 +125,8 @@ class Client:
         if begins:
             self.told = self.ask(
                 "initialize",
-                {"processId": None, "rootUri": folder and f"file://{folder}", "capabilities": capabilities, "initializationOptions": options},
+                ({"clientInfo": {"name": name}} if name else {})
+                | {"processId": None, "rootUri": folder and f"file://{folder}", "capabilities": capabilities, "initializationOptions": options},
             )
             self.tell("initialized", {})
 
