@@ -136,7 +136,7 @@ def tells_attributes(program):
         with open(os.path.join(EXAMPLES, "letter.dtd"), encoding="utf-8") as file, open(f"{folder}/strict.dtd", "w", encoding="utf-8") as strict:
             strict.write(file.read() + STRICT)
         uri, front = uri_of("a.xml", folder), '<!DOCTYPE letter SYSTEM "strict.dtd">\n'
-        body = "<opener><salute>Dear</salute></opener><body><p rend='itallic'>I</p><p/><p n='1'><person key='b'/></p></body></letter>"
+        body = "<!-- <letter id='no'> --><opener><salute>Dear</salute></opener><body><p rend='itallic'>I</p><p/><p n='1'><person key='b'/></p></body></letter>"
         text = f"{front}<letter id='a' >{body}"
         client.open(uri, text)
         told = client.diagnostics(uri, bool)

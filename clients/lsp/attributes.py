@@ -11,6 +11,7 @@ from .nodes import NAME
 from pvtag.attributes import Attribute, AttributeFault, Attributes
 from pvtag.masks import mask
 from pvtag.program import Trouble
+from .reading import HIDDEN
 from .text import Json
 from .work import Work
 
@@ -175,7 +176,7 @@ def ids_of(document: Document, grammar: Grammar) -> list[str]:
     """The IDs that are given in a document, as far as its tags can be read."""
     ids = {name: {it.name for it in row if it.type == "ID"} for name, row in grammar.attributes.declared.items()}
     found: dict[str, None] = {}
-    for tag in re.finditer(rb"<(" + NAME + rb")(" + PAIRS + rb")", document.data):
+    for tag in re.finditer(rb"<(" + NAME + rb")(" + PAIRS + rb")", HIDDEN.sub(b"", document.data)):
         names = ids.get(tag[1].decode(errors="replace"), set())
         for pair in PAIR.finditer(tag[2]) if names else ():
             if pair[1].decode(errors="replace") in names:
