@@ -161,6 +161,7 @@ def faults(trial: Expecting, pvtag: str, folder: Path) -> None:
             ("bytes for a name", TypeError, lambda: session.rename("0.2.0", b"p")),  # type: ignore[arg-type]
             ("half a run", TypeError, lambda: session.offer("0.2.0", 1)),
             ("two lines", ValueError, lambda: session.text("0.2.0.0", "a\nquit")),
+            ("half a surrogate pair", ValueError, lambda: session.wrap_text("0.2.0.0", 1, 2, "\ud800")),
             ("two lines for a part", ValueError, lambda: session.wrap_text("0.2.0.0", 1, 2, "p\nquit")),
         ):
             trial.expect(what, raises(fault, call))
@@ -193,6 +194,22 @@ def threads(trial: Expecting, pvtag: str) -> None:
         for it in begun:
             it.join()
         trial.expect("four threads", wrong == [] and session.show() == shown, wrong)
+    for _ in range(8):
+        with Session([pvtag], LETTER, "letter", DRAFT) as session:
+            ended: list[bool] = []
+            asking = threading.Thread(target=lambda: ended.append(raises(Ended, lambda: ask_on(session))))
+            asking.start()
+            session.show()
+            session.close()
+            asking.join()
+            trial.expect("a session that another thread closes", ended == [True], ended)
+
+
+def ask_on(session: Session) -> None:
+    """Edits until that raises."""
+    while True:
+        session.wrap_text("0.2.0.0", 1, 3, "person")
+        takes_all_back(session)
 
 
 def takes_all_back(session: Session) -> bool:

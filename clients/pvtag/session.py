@@ -11,8 +11,8 @@ none. `Refused` is false in a condition, and so are 0 and an empty list: of thes
 text, as in a line: "." is the document node, "0" the root.
 
 Where the program ends, also before it began, each call raises `Ended`, which has its status and what it wrote last. What
-isn't of the type that a method names raises `TypeError`, and a line end in a name or a text `ValueError`; then nothing
-was asked. Threads may share a session: a call waits until that of another thread has its answer.
+isn't of the type that a method names raises `TypeError`, and a line end or half a surrogate pair in a name or a text
+`ValueError`; then nothing was asked. Threads may share a session: a call waits until that of another thread has its answer.
 """
 import contextlib
 import errno
@@ -548,9 +548,13 @@ class Session:
                 yield
             except Ended:
                 raise
-            except BaseException:
+            except BaseException as fault:
+                # Another thread may have closed it meanwhile.
+                was_closed = isinstance(fault, ValueError) and self.input.closed
                 self.process.kill()
                 self.close()
+                if was_closed:
+                    raise Ended(self.process.returncode, "") from None
                 raise
 
     def line(self) -> str:
@@ -657,6 +661,8 @@ def named(line: str, last: str) -> str:
 def in_one_line(line: str) -> str:
     if "\n" in line or "\r" in line:
         raise ValueError("a line holds no line end")
+    # Half a surrogate pair raises a `ValueError` here, before anything was asked.
+    line.encode()
     return line
 
 
