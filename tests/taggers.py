@@ -178,6 +178,11 @@ def try_known(trial: Trial) -> None:
         ("standoff", ("letter.dtd", "p", "plain"), '{"text": "\u2028\x85", "start": 0, "end": 6, "label": "place"}\r\n{"start": 8, "end": 18, "label": "date"}\r\n', 0, "<p><place>Leiden</place>",
          "standoff: valid"),
         ("standoff", ("letter.dtd", "p", "plain"), "0\t6\tpla\x0bce\n1\n", 3, "", "ranges:2: a line is `FROM TO LEVEL NAME`"),
+        *((client, words, f'[{{"start": 0, "end": 1, "label": "{name}"}}]', 3, "", "ranges, range 1: label is no name: '")
+          for client, words in (("standoff", ("letter.dtd", "p", "plain")), ("mark", LETTER)) for name in ("p\\n0 1 0 date", "p\\r", "\\ud800", "a\\u0000")),
+        ("standoff", ("letter.dtd", "p", "plain"), '[{"start": 0, "end": 1, "label": "p\\u001b[31m"}]', 3, "", "`p\\u001b[31m` from 0 to 1: that is no name of XML"),
+        ("mark", LETTER, '[{"start": 0, "end": 1, "label": "p\\u001b[31m"}]', 1, "<opener>Dear", "`p\\u001b[31m` from 0 to 1: `p\\u001b[31m` is no name of XML"),
+        ("mark", LETTER, '[{"start": 0, "end": 1, "label": "a b"}]', 1, "<opener>Dear", "`a b` from 0 to 1: `a b` is no name of XML"),
         ("standoff", ("letter.dtd", "p", "plain"), '[{"begin": 1}]', 3, "", "ranges, range 1: a range has start, end, label"),
         ("standoff", ("letter.dtd", "p", "plain"), '[{"start": 1.5, "end": 2, "label": "date"}]', 3, "", "range 1: start is no offset: 1.5"),
         ("standoff", ("letter.dtd", "p", "control"), "[]", 3, "", "control: character 1 is U+0001, which XML can't hold"),

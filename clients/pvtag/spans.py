@@ -9,7 +9,7 @@ import re
 from collections.abc import Iterator, Sequence
 from typing import Any, NamedTuple
 
-from .program import Trouble
+from .program import Trouble, shown_name
 
 # What other tools may use; each has an example.
 __all__ = ("Range", "read_ranges", "Offsets")
@@ -17,6 +17,8 @@ __all__ = ("Range", "read_ranges", "Offsets")
 OFFSETS = ("characters", "utf-16", "bytes")
 FIELDS = ("start", "end", "label")
 LINE = re.compile(r"([0-9]+) ([0-9]+) ([0-9]+) (\S+)\Z")
+# What no line of ranges or of a session can have in a name.
+NO_NAME = re.compile(r"[\0\n\r\ud800-\udfff]")
 # What no offset and no level is above: the program takes none of more bits.
 MOST = (1 << 32) - 1
 
@@ -38,7 +40,7 @@ class Range(NamedTuple):
 
     @property
     def words(self) -> str:
-        return f"`{self.name}` from {self.start} to {self.end}"
+        return f"`{shown_name(self.name)}` from {self.start} to {self.end}"
 
     def __str__(self) -> str:
         return f"{self.where}: {self.words}"
@@ -137,7 +139,7 @@ def row_of(where: str, cells: Sequence[Any], fields: Sequence[str]) -> tuple[int
     """Two offsets and a name."""
     start, end = (number_of(where, field, value) for field, value in zip(fields, cells[:2]))
     name = cells[2]
-    if not isinstance(name, str) or not name:
+    if not isinstance(name, str) or not name or NO_NAME.search(name):
         raise Trouble(f"{where}: {fields[2]} is no name: {name!r}")
     return start, end, name
 
