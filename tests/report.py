@@ -24,6 +24,7 @@ from lib.waiting import PATIENCE, hanging_lxml, runs_still, until
 TOP = Path(__file__).resolve().parent.parent
 sys.path.insert(0, str(TOP / "clients"))
 from pvtag.attributes import python_with_lxml  # noqa: E402
+from pvtag.reporting.rows import Row  # noqa: E402
 
 REPORT = str(TOP / "clients" / "report")
 DTD = TOP / "examples" / "letter.dtd"
@@ -239,6 +240,7 @@ def try_forms(trial: Trial) -> None:
         trial.expect("links from the page", files == [os.path.join(texts, f"./{name}") for name in strange], links.links)
         if form == "csv":
             table = list(csv.DictReader(out.read_text().splitlines(keepends=True)))
+            trial.expect("no formula", all(Row(f"{first}1.xml").text(form).startswith(f"./{first}1.xml,") for first in "=+-@"))
             trial.expect("CSV", [row["verdict"] for row in table] == [row["verdict"] for row in rows] and len(table[0]) == len(table[2]), table)
         else:
             again = rows_of(trial.over("--since", str(out), str(texts))[1])

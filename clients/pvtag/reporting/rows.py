@@ -82,7 +82,7 @@ class Row:
         if form == "json":
             return json.dumps({name: value for name, value in values.items() if value is not None}).replace("\x7f", "\\u007f")
         if form == "csv":
-            return comma_line("" if value is None else escaped(str(value)) for value in values.values())
+            return comma_line("" if value is None else no_formula(name, escaped(str(value))) for name, value in values.items())
         return "\t".join("" if value is None else escaped(str(value)) for value in values.values())
 
 
@@ -114,6 +114,11 @@ def escaped(text: str) -> str:
 
 def unescaped(text: str) -> str:
     return UNESCAPED.sub(lambda it: PLAIN[it[1]] if it[1] else chr(int(it[3], 16)) if it[3] else chr(0xDC00 + int(it[2], 16)), text)
+
+
+def no_formula(name: str, text: str) -> str:
+    """The same path, where a spreadsheet would take it for a formula."""
+    return f"./{text}" if name in ("path", "dtd") and text[:1] in tuple("=+-@") else text
 
 
 def comma_line(values: Iterable[str]) -> str:
