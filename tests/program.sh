@@ -116,6 +116,7 @@ expect "a longer script" 0 "4096 no command${lf}1 limit script$lf" bash -c 'scri
 expect "its status" 8 "" bash -c 'script 268435457 | timeout 600 "$0" session a.dtd doc hello.xml >/dev/null' "$pvtag"
 
 # The program for wide lists.
+says "what acts on a terminal" 2 "usage$lf" '.x?.31m. is no command: .*' "$pvlong" "$(printf 'x\033[31m')"
 says "pvlong, no words" 2 "usage$lf" "one of need, complete" "$pvlong"
 says "pvlong, another question" 2 "usage$lf" ".check. is no command: they are need, complete" "$pvlong" check a.dtd doc hello.xml
 says "pvlong, a missing DTD" 3 "" "nothing.dtd: there is no such file" "$pvlong" need nothing.dtd doc hello.xml
