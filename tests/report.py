@@ -207,6 +207,8 @@ BY_DOCTYPE = {
     "gone": (b'<!DOCTYPE letter SYSTEM "gone.dtd">', "letter", "no-dtd", "", "there is no such DTD"),
     "bad": (b'<!DOCTYPE a SYSTEM "bad.dtd">', b"<a/>", "no-dtd", "", "bad.dtd:1:"),
     "unknown": (b'<!DOCTYPE a PUBLIC "-//none" "http://example.org/none.dtd">', b"<a/>", "no-dtd", "", "can't be made plain"),
+    "no-name": (b'<?pvtag dtd="poem.dtd" root="a b"?>', b"<poem/>", "no-dtd", "", "the root that it names, `a b`, is no name of XML"),
+    "no-utf-8": (b'<?pvtag dtd="poem.dtd" root="a\xff"?>', b"<poem/>", "refused", "", "iconv -f ISO-8859-1"),
     "broken": (b"<!DOCTYPE letter SYSTEM 'letter.dtd'>", b"<letter>", "refused", "letter.dtd", "ends before"),
     "utf-16": (b"", "<!DOCTYPE letter SYSTEM 'letter.dtd'><letter/>".encode("utf-16"), "refused", "", "iconv -f UTF-16 -t UTF-8"),
     "latin-1": (b"<!DOCTYPE letter SYSTEM 'letter.dtd'>", b"<letter>\xe9t\xe9</letter>", "refused", "letter.dtd", "iconv -f ISO-8859-1"),
@@ -312,6 +314,14 @@ def try_by_doctype(trial: Trial) -> None:
     del trial.variables["XML_CATALOG_FILES"]
     status, said, errors = trial.run(str(texts / "poem.dtd"), "poem", str(texts / "poem-draft.xml"))
     trial.expect("a given DTD in modules", status == 0 and rows_of(said)[0]["verdict"] == "possible" and "dtd" not in rows_of(said)[0], (status, said, errors))
+    odd = trial.folder / "odd"
+    odd.mkdir()
+    (odd / "one.xml").write_text(f'<!DOCTYPE a\xd7b SYSTEM "{texts}/letter.dtd"><letter/>', encoding="utf-8")
+    shutil.copy(texts / "letter.xml", odd / "other.xml")
+    status, said, errors = trial.run("--by-doctype", "--otherwise", str(DTD), "letter", str(odd))
+    told = [(row["verdict"], row.get("sentence", "")) for row in rows_of(said)]
+    trial.expect("a root that is no name ends no run", (status, errors) == (1, "") and told[0] == ("no-dtd", "the root that it names, `a\xd7b`, is no name of XML")
+                 and len(told) == 2, (status, told, errors))
     trial.expect("a pair for nothing", trial.run("--otherwise", str(DTD), "letter", str(texts))[0] == 2)
 
 

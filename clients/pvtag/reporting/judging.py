@@ -2,6 +2,7 @@
 import contextlib
 import hashlib
 import os
+import re
 import shutil
 import stat
 import threading
@@ -15,7 +16,7 @@ from pvtag.attributes import MISSING, Attributes, python_with_lxml
 from pvtag.dtd import Dtd
 from pvtag.encodings import encoding_fault
 from pvtag.faults import fault_of
-from pvtag.finder import Finder, Named, Plain, names_in
+from pvtag.finder import NAME as NAME_OF, Finder, Named, Plain, names_in
 from pvtag.layout import Layout
 from pvtag.long import Counted, counted
 from pvtag.masks import Masked, MaskedSource, mask
@@ -27,11 +28,16 @@ from .earlier import sum_of
 from .many import Many, find_many
 from .rows import Head, Row, shown
 
-
 # The program reads no document of more bytes.
 MOST_BYTES = 67_108_864
 # So many DTDs with a root are kept.
 MOST_KEPT = 200
+# What may be a name of XML, and is one where the program takes it.
+NAME = re.compile(NAME_OF)
+
+
+def no_name(root: str) -> str:
+    return f"the root that it names, `{shown(root)}`, is no name of XML"
 
 
 class Options(NamedTuple):
@@ -122,6 +128,8 @@ class Judge:
         if self.options.by_doctype and data is not None:
             named, root = names_in(data, os.path.dirname(os.path.abspath(path)))
             if named is not None:
+                if not is_utf_8(root) or not NAME.fullmatch(root.encode()):
+                    raise Trouble(no_name(root))
                 return self.under(named, root)
         if self.given_pair is None:
             raise Trouble("it names no DTD, by <!DOCTYPE .. SYSTEM \"FILE\"> or <?pvtag dtd=\"FILE\" root=\"NAME\"?>")
@@ -229,6 +237,8 @@ class Judge:
                 return self.possible(replace(row, verdict="possible", open=int(words[1])), given)
             case 1, "impossible":
                 return self.impossible(row, given, words[1])
+            case 2, _ if given.under is not self.given_pair:
+                return replace(row, verdict="no-dtd", sentence=no_name(given.under.root), dtd=None, root=None, dtd_sum=None)
             case 2, _:
                 raise Trouble(f"the program didn't take its words for {shown(row.path)}")
             case 6, _:
