@@ -117,7 +117,7 @@ def names_wide_lists(driver, program):
 def counts_wide_lists(driver, program):
     """Where another program tells a range, the head, the tag and the preview do."""
     with Beside(program) as beside:
-        beside.tells("0 need 1 to 2", "1 ")
+        beside.tells("0 need 1 to 2", "11 ")
         with Server(beside.program, WIDE, ARTICLE, "doc") as server:
             page = Page(driver, server.url)
             soon(page.status, lambda text: "1 to 2 elements missing" in text and "in 1 place" in text, "the head")
