@@ -253,6 +253,14 @@ def refuses_other_names(program):
         need(ask(drawer, "a.xml/hello")["closed"], "what isn't a file any more is told")
         drawer.folder += "x"
         need(isinstance(fault_of(lambda: drawer.at("c.xml/")), Refusal) and "trouble" in ask(drawer, "list"), "and a folder that isn't there")
+        with open(folder.path + ".pvtag", "w", encoding="utf-8") as file:
+            file.write("garbage")
+        drawer.folder = folder.path
+        need("isn't what annotate writes there" in ask(drawer, "list")["trouble"], "what is done can't be read")
+        same(ask(drawer, f"{address_of('b b%2f.xml')}/hello")["drawer"]["at"], 0, "and a document is shown all the same")
+        for what in ([], "x"):
+            fault = fault_of(lambda: drawer.at(f"{address_of('b b%2f.xml')}/hello")[0].answer("hello", what))
+            need(isinstance(fault, Refusal) and fault.status == 400, f"{what}: {fault!r}")
         for what in ([], {"url": 5}, {}, "x"):
             fault = fault_of(lambda: drawer.answer("mark", what))
             need(isinstance(fault, Refusal) and fault.status == 400 or fault is None, f"{what}: {fault!r}")

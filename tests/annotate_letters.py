@@ -524,6 +524,23 @@ def gives_other_forms(program):
         same(downloads.download({"kind": "xml"})["text"], editor.whole_source().decode(), "as it is")
         editor.save({"version": editor.version})
         same(downloads.changes({}), {"changes": []}, "saved")
+    source = ('<!DOCTYPE letter [<!ENTITY auml "&#228;">]>\n<letter><opener><salute>Dear</salute></opener><body><p>I met <person key="&auml;">T&auml;m</person>.</p></body>'
+              "</letter>\n")
+    with Place(program, source) as place:
+        editor = place.editor
+        downloads, comments, person = Downloads(editor, "doc.xml"), Comments(editor), element(editor, "person")
+        same(downloads.download({"kind": "names"})["text"].splitlines()[1:], ['person,T&auml;m,"key=""&auml;""",1'], "an entity is told by its name")
+        need('title="person key=&quot;&amp;auml;&quot;">T&amp;auml;m</span>' in downloads.download({"kind": "html"})["text"], "and on the page")
+        comments.put({"version": editor.version, "node": person.id, "text": "with " + next(iter(editor.entities))})
+        need(b"<!-- with &auml; --><person" in editor.whole_source(), f"one that was copied into a comment: {editor.whole_source()}")
+    words = " ".join(f"w{number}" for number in range(15000))
+    with Place(program, f"<letter><opener><salute>Dear</salute></opener><body><p>{words}</p></body></letter>\n") as place:
+        for number in (10, 7000, 14000):
+            place.wrap("place", place.run_of(f"w{number}"))
+        start = time.monotonic()
+        changes = Downloads(place.editor, "doc.xml").changes({})["changes"]
+        same([row for row in changes if row[0]], [("new", "<place>"), ("new", "</place>")] * 3, "what is new in a long text")
+        need(time.monotonic() - start < 10, f"it is told soon: {time.monotonic() - start:.1f} s")
 
 
 CASES = [gives_other_forms, keeps_comments, knows_values, keeps_nobody_waiting, suggests_what_was_tagged, gives_reasons_one_can_read, tags_each_line, offers_what_is_wanted, has_a_palette, gives_required_attributes]

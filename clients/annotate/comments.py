@@ -21,7 +21,7 @@ class Comments:
 
     def put(self, ask: Any) -> Told:
         """Puts a comment before an element, or another one in place of one that is there; an empty text takes it away. A move."""
-        text = " ".join(ask["text"].split(" ")).replace("\r\n", "\n").replace("\r", "\n")
+        text = self.editor.as_read(str(ask["text"])).replace("\r\n", "\n").replace("\r", "\n")
         if text.strip():
             self.check(text)
         with self.editor.lock:

@@ -12,7 +12,7 @@ import re
 import subprocess
 import sys
 from collections import Counter
-from collections.abc import Iterator
+from collections.abc import Callable, Iterator
 from typing import Any
 
 from .editor import Editor
@@ -58,9 +58,9 @@ class Downloads:
         with self.editor.lock:
             document = self.editor.document
             if kind == "html":
-                return {"name": f"{name}.html", "type": "text/html", "text": page_of(document, self.title)}
+                return {"name": f"{name}.html", "type": "text/html", "text": page_of(document, self.title, self.editor.as_read)}
             if kind == "names":
-                return {"name": f"{name}-names.csv", "type": "text/csv", "text": table_of(document)}
+                return {"name": f"{name}-names.csv", "type": "text/csv", "text": table_of(document, self.editor.as_read)}
             return {"name": self.title, "type": "application/xml", "text": self.editor.whole_source().decode()}
 
     def ranges(self) -> str:
@@ -77,8 +77,9 @@ class Downloads:
 
 
 def compared(one: list[str], other: list[str]) -> Iterator[tuple[str, str]]:
-    """Stretches of two texts that are in both, in the first alone, or in the second."""
-    for kind, start, end, first, last in difflib.SequenceMatcher(None, one, other, autojunk=False).get_opcodes():
+    """Stretches of two texts that are in both, in the first alone, or in the second. Pieces that are frequent, as blanks are, are compared
+    beside others alone: among themselves they would take hours."""
+    for kind, start, end, first, last in difflib.SequenceMatcher(None, one, other).get_opcodes():
         if kind == "equal":
             yield "", "".join(one[start:end])
             continue
@@ -100,9 +101,9 @@ def shortened(stretches: Iterator[tuple[str, str]]) -> Iterator[tuple[str, str]]
         yield "", ("" if at == 0 else text[:BESIDE]) + " … " + ("" if at == len(rows) - 1 else text[-BESIDE:])
 
 
-def page_of(document: Document, title: str) -> str:
+def page_of(document: Document, title: str, as_read: Callable[[str], str]) -> str:
     """The document as a page of HTML: an element with text in it is a paragraph, one in a text a part of it, others are divisions. Their
-    names are classes."""
+    names are classes; an entity is shown by its name."""
     out, root = list[str](), document.top.kids[0]
     todo: list[tuple[Node, bool] | str] = [(root, False)]
     while todo:
@@ -112,13 +113,13 @@ def page_of(document: Document, title: str) -> str:
             continue
         node, is_inside = item
         if node.kind == TEXT:
-            out.append(html.escape("".join(map(shown, node.units)), quote=False))
+            out.append(html.escape(as_read("".join(map(shown, node.units))), quote=False))
         elif node.kind == CDATA:
             out.append(html.escape(node.source[9:-3], quote=False))
         elif node.kind == ELEMENT:
             has_text = any(kid.kind == CDATA or kid.kind == TEXT and not kid.is_white for kid in node.kids)
             tag = "span" if is_inside else "p" if has_text else "div"
-            told = f' title="{html.escape(f"{node.name}{node.attrs}".strip())}"' if is_inside or node.attrs.strip() else ""
+            told = f' title="{html.escape(f"{node.name}{as_read(node.attrs)}".strip())}"' if is_inside or node.attrs.strip() else ""
             out.append(f'<{tag} class="{html.escape(node.name)}"{told}>')
             todo.append(f"</{tag}>" + ("" if is_inside else "\n"))
             todo.extend((kid, is_inside or has_text) for kid in reversed(node.kids))
@@ -126,7 +127,7 @@ def page_of(document: Document, title: str) -> str:
             f"<body>\n{''.join(out)}</body>\n</html>\n")
 
 
-def table_of(document: Document) -> str:
+def table_of(document: Document, as_read: Callable[[str], str]) -> str:
     """A table, in CSV, of the elements that stand in a text and hold no others: each name with its words and its attributes, and how
     often it stands there."""
     counts = Counter[tuple[str, str, str]]()
@@ -134,7 +135,7 @@ def table_of(document: Document) -> str:
         if node.owner is None or node.owner.owner is None or any(kid.kind == ELEMENT for kid in node.kids):
             continue
         if any(kid.kind == TEXT and not kid.is_white for kid in node.owner.kids) and (words := text_of(node)):
-            counts[node.name, words, node.attrs.strip()] += 1
+            counts[node.name, as_read(words), as_read(node.attrs).strip()] += 1
     out = io.StringIO()
     writer = csv.writer(out, lineterminator="\n")
     writer.writerow(["element", "words", "attributes", "count"])

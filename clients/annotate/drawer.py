@@ -46,6 +46,8 @@ class Entry:
             return answered(lambda: OF_ENTRY[name](self, ask))
         if name == "bye":
             return answered(lambda: self.bye(ask))
+        if not isinstance(ask, dict):
+            raise Refusal(400, "that is no request")
         try:
             work = self.begin(name == "hello" and bool(ask.get("again")))
         except Trouble as trouble:
@@ -57,7 +59,7 @@ class Entry:
                 return work.answer(name, ask)
             told = work.answer(name, ask)
             self.windows.add(str(ask["window"]))
-            return {**told, "drawer": self.drawer.place_of(self.name)}
+            return {**told, "drawer": self.drawer.place_or_name(self.name)}
         finally:
             with self.lock:
                 self.answering -= 1
@@ -182,6 +184,13 @@ class Drawer:
         names, done = [each.name for each in listed(self.folder)], self.marks.names()
         at = names.index(name) + 1 if name in names else 0
         return {"title": self.title, "at": at, "of": len(names), "done": name in done, "left": sum(each not in done for each in names)}
+
+    def place_or_name(self, name: str) -> Told:
+        """The same; where the folder or what is done can't be read, a document is shown all the same, at no place."""
+        try:
+            return self.place_of(name)
+        except (Trouble, OSError):
+            return {"title": self.title, "at": 0, "of": 0, "done": False, "left": 0}
 
     def mark(self, ask: Any) -> Told:
         """Marks a document of the list as done, or not."""

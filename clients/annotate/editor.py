@@ -460,6 +460,12 @@ class Editor:
         copied on the page."""
         return "".join(self.entities.get(char, char) for char in text) if self.entities else text
 
+    def as_read(self, text: str) -> str:
+        """A text of the tree, or the attributes of a tag, with the names of the entities of which the tree has stand-ins."""
+        stands = self.masked.stands
+        text = "".join(stands[self.entities[char].encode()].decode() if char in self.entities else char for char in text) if self.entities else text
+        return self.masked.restored_text(text) if stands else text
+
     def given(self) -> bytes:
         """The tree's document as the session should show it."""
         return self.document.written(self.document.given).encode(errors="surrogatepass")
