@@ -532,6 +532,42 @@ def opens_files_alone(program):
             editor.close()
 
 
+def puts_back_what_is_removed(program):
+    """A script that is removed while its document is open is there again behind the next move, for this program alone; one that another
+    program put there isn't written to."""
+    with Place(program) as place:
+        editor = place.open()
+        wrap(editor, "place", "Delft")
+        mode, saved = place.mode(place.script), place.read(place.script)
+        os.unlink(place.script)
+        os.unlink(place.script + ".base")
+        wrap(editor, "person", "Mr Adams")
+        need(place.read(place.script).startswith(saved) and place.read(place.script).count(b"\n") > saved.count(b"\n"), "all moves are there")
+        same((place.mode(place.script), place.read(place.script + ".base"), sorted(os.listdir(place.folder))),
+             (mode, DRAFT.encode(), ["doc.xml", "doc.xml.pvtag", "doc.xml.pvtag.base"]), "as it was")
+        need("is being marked up already" in str(fault_of(place.open)), "nobody else has it")
+        os.rename(place.script, place.script + ".mine")
+        place.write("x", place.script)
+        before = editor.shown()
+        fault = fault_of(lambda: editor.undo({"version": editor.version}))
+        need(isinstance(fault, Trouble) and "was replaced by another program" in str(fault), f"another one: {fault!r}")
+        same((place.read(place.script), editor.shown(), len(editor.made)), (b"x", before, 2), "nothing is written, and nothing done")
+        os.unlink(place.script)
+        editor.undo({"version": editor.version})
+        editor.close()
+        editor = place.open()
+        same(len(editor.made), 1, "opened again")
+        editor.close()
+    with Place(program) as place:
+        editor = place.open()
+        os.unlink(place.script)
+        other = place.open()
+        editor.close()
+        wrap(other, "place", "Delft")
+        same(os.path.exists(place.script), True, "one without a move doesn't remove that of another")
+        other.close()
+
+
 def locks_the_file_that_is_there(program):
     """Of many that begin and end at once on a document, one has it at a time."""
     code = ("import sys; sys.dont_write_bytecode = True; sys.path.insert(0, sys.argv[3])\nfrom annotate.script import Script\nfrom pvtag.program import Trouble\nimport os\n"
@@ -609,7 +645,7 @@ def limits_declarations(program):
         editor.close()
 
 
-CASES = [makes_moves_again, makes_all_kinds_again, goes_on_behind_a_save, keeps_the_script, finds_characters, checks_scripts, checks_scripts_that_are_made_again,
+CASES = [puts_back_what_is_removed, makes_moves_again, makes_all_kinds_again, goes_on_behind_a_save, keeps_the_script, finds_characters, checks_scripts, checks_scripts_that_are_made_again,
          keeps_entities_apart, leaves_no_half, opens_long_names, keeps_modes, asks_before_it_replaces, opens_files_alone, locks_the_file_that_is_there, survives_kills, limits_declarations]
 
 

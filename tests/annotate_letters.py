@@ -479,6 +479,13 @@ def keeps_comments(program):
         put(element(editor, "p"), "ends with -")
         put(element(editor, "letter"), " at  the root ")
         need(editor.whole_source().startswith(b"<!-- at  the root --><letter>") and b"<!-- ends with - --><p>" in editor.whole_source(), f"others: {editor.whole_source()}")
+        before, made = editor.document.before, len(editor.made)
+        put(element(editor, "letter"), "")
+        editor.document.before = "<!-- at  the root -->"
+        need("already" in str(fault_of(lambda: put(element(editor, "letter"), "at  the root"))), "one of an earlier script isn't written twice")
+        editor.document.before = before
+        editor.undo({"version": editor.version})
+        same(len(editor.made), made, "as before")
         put(element(editor, "letter"), " ")
         same(editor.whole_source().startswith(b"<letter>"), True, "and away")
         made = len(editor.made)

@@ -31,6 +31,8 @@ class Comments:
                 raise Stale
             if text_of(node) == text.strip():
                 return self.editor.state(since)
+            if node.owner is self.editor.document.top and text.strip() and f"<!-- {text.strip()} -->" in self.editor.document.before:
+                raise Trouble("this comment stands before the root already; it was written by an earlier script, and isn't changed here")
             said = f" {text.strip()} " if text.strip() else ""
             return self.editor.answer(since, [f"{COMMENT}{path} {escaped(said)}"])
 

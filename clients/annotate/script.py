@@ -13,7 +13,7 @@ import os
 import stat
 from typing import NamedTuple
 
-from .files import Kept, check_file, locked, made_beside, put_file, read, sync_folder, write_into, written_beside
+from .files import Kept, check_file, locked, made_beside, put_file, put_new, read, sync_folder, write_into, written_beside
 from .moves import INSTEAD, LONGEST, BadLine, count_in
 from pvtag.program import Trouble, shown_name
 
@@ -158,6 +158,8 @@ class Script:
 
     def append(self, lines: list[str]) -> None:
         """Writes these lines, all or none, and waits until they are on the disk."""
+        if not self.fresh and not self.is_there:
+            self.put_back()
         rest = "".join(f"{line}\n" for line in lines).encode()
         # What was left of others, where it couldn't be cut off, isn't gone on with.
         size = os.fstat(self.number).st_size if self.torn is None else self.torn
@@ -173,10 +175,39 @@ class Script:
             self.torn = None
             raise
 
+    @property
+    def is_there(self) -> bool:
+        """Whether the script's file still has its name; another program may have removed it, or put another one there."""
+        try:
+            return os.path.samestat(os.fstat(self.number), os.stat(self.path))
+        except FileNotFoundError:
+            return False
+
+    def put_back(self) -> None:
+        """Writes the script anew, where its file was removed; but over no other."""
+        number, beside = made_beside(self.path, f"/dev/fd/{self.number}")
+        try:
+            rest = self.content()
+            while rest:
+                rest = rest[os.write(number, rest):]
+            os.fsync(number)
+            put_new(beside, self.path)
+        except BaseException as fault:
+            os.close(number)
+            if isinstance(fault, FileExistsError):
+                raise Trouble(f"{shown_name(self.path)} was replaced by another program, and nothing is written; move it elsewhere") from None
+            raise
+        finally:
+            with contextlib.suppress(OSError):
+                os.unlink(beside)
+        os.close(self.number)
+        self.number = number
+        sync_folder(os.path.dirname(self.path))
+
     def keep_base(self) -> None:
         """Keeps the document that the script begins with, where that isn't done; it isn't in the place of another's
         until that is put aside."""
-        if self.is_kept or self.fresh:
+        if self.fresh or self.is_kept and os.path.exists(self.base):
             return
         kept = read(self.base)
         if kept is None or hash_of(kept) != self.began_with:
@@ -251,7 +282,7 @@ class Script:
     def close(self) -> None:
         """Lets others have the script; one without a move is taken away."""
         with contextlib.suppress(OSError):
-            if not self.fresh and os.fstat(self.number).st_size <= len(f"{DOCUMENT}{self.began_with}\n"):
+            if not self.fresh and self.is_there and os.fstat(self.number).st_size <= len(f"{DOCUMENT}{self.began_with}\n"):
                 os.unlink(self.path)
         self.release()
 

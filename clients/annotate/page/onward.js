@@ -11,7 +11,7 @@ const onward = document.getElementById("onward")
 export function setDrawer({ title, at, of, done: isDone }) {
   for (const each of [back, done, onward, ...document.querySelectorAll(".of-drawer")]) each.hidden = false
   back.textContent = `‹ ${title}`
-  back.title = `Back to the list: this is ${at} of ${of}`
+  back.title = at ? `Back to the list: this is ${at} of ${of}` : "Back to the list"
   show(isDone)
 }
 
