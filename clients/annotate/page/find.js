@@ -11,6 +11,8 @@ const bar = document.getElementById("finder")
 const [input, by, count, all] = bar.querySelectorAll("input, select, output, [value=tag]")
 // So many places are found at most.
 const MOST = 10000
+// So long a pattern is looked for, in milliseconds.
+const LONG = 3000
 
 // The document's text with where each text begins in it, made anew behind a change.
 let book = null
@@ -34,6 +36,8 @@ export function openFinder() {
 
 export function closeFinder() {
   bar.hidden = true
+  asked++
+  stop()
   CSS.highlights?.delete("found")
   const match = found[at]
   if (match?.node) chooseElement(match.node)
@@ -66,27 +70,64 @@ function wanted() {
   try {
     return { wanted: new RegExp(input.value, "gmu") }
   } catch ({ message }) {
-    return { why: message.split(": ").at(-1) }
+    return { why: `no pattern: ${message.split(": ").at(-1)}` }
   }
 }
 
 let whyNot = ""
-function search(isNew) {
+// What was asked for last.
+let asked = 0
+async function search(isNew) {
   const { wanted: pattern, why = "" } = wanted()
+  const mine = ++asked
+  stop()
   whyNot = why
   found = []
   if (pattern && by.value === "attributes") found = withAttributes(pattern)
   else if (pattern) {
     book ??= read()
-    for (const match of book.text.matchAll(pattern)) {
-      if (match[0]) found.push([match.index, match.index + match[0].length])
-      if (found.length === MOST) break
-    }
+    if (by.value === "pattern") all.hidden = true
+    const rows = await (by.value === "pattern" ? matched(pattern) : matches(pattern))
+    // Another search has begun meanwhile, or the bar was closed.
+    if (mine !== asked) return
+    if (rows) found = rows
+    else whyNot = "the pattern takes too long"
   }
   all.hidden = by.value === "attributes" || found.length === 0
   if (isNew) at = found.length ? 0 : -1
   else at = Math.min(at, found.length - 1)
   show()
+}
+
+function matches(pattern) {
+  const rows = []
+  for (const match of book.text.matchAll(pattern)) {
+    rows.push([match.index, match.index + match[0].length])
+    if (rows.length === MOST) break
+  }
+  return rows
+}
+
+// Ends what is being looked for.
+let stop = () => {}
+
+// The same for a pattern, beside all else, since one may take forever; none where it takes too long, or was ended.
+function matched(pattern) {
+  const worker = new Worker("match.js")
+  return new Promise((resolve) => {
+    const end = (rows) => {
+      clearTimeout(timer)
+      worker.terminate()
+      stop = () => {}
+      resolve(rows)
+    }
+    const timer = setTimeout(end, LONG, null)
+    stop = () => end(null)
+    worker.addEventListener("message", ({ data }) => end(data))
+    worker.addEventListener("error", () => end(null))
+    count.textContent = "…"
+    worker.postMessage({ text: book.text, pattern, most: MOST })
+  })
 }
 
 // The elements that have such attributes.
@@ -107,7 +148,7 @@ function step(way) {
 }
 
 function show() {
-  const none = whyNot ? `no pattern: ${whyNot}` : input.value.trim() ? "nothing found" : ""
+  const none = whyNot || (input.value.trim() ? "nothing found" : "")
   count.textContent = found.length ? `${at + 1} of ${found.length === MOST ? `${MOST} or more` : found.length}` : none
   CSS.highlights?.delete("found")
   const match = found[at]

@@ -411,18 +411,25 @@ def finds_by_patterns(driver, program):
             page.js("const by = document.querySelector('#finder select'); by.value = arguments[0]; by.dispatchEvent(new Event('change'))", by)
             page.js("document.querySelector('#finder input').select()")
             page.keys(text)
+
+        def told():
             return page.find("#finder output").text
 
         page.keys(Keys.CONTROL, "f")
-        soon(lambda: look("pattern", r"\d+ \w+ \d{4}"), "1 of 4", "dates")
-        soon(lambda: look("pattern", "("), lambda text: text.startswith("no pattern"), "what is none is told")
-        soon(lambda: look("words", r"\d+"), "nothing found", "as words it stands for itself")
-        soon(lambda: look("attributes", "adams"), "1 of 1", "in attributes")
+        look("pattern", r"\d+ \w+ \d{4}")
+        soon(told, "1 of 4", "dates")
+        look("pattern", "(")
+        soon(told, lambda text: text.startswith("no pattern"), "what is none is told")
+        look("words", r"\d+")
+        soon(told, "nothing found", "as words it stands for itself")
+        look("attributes", "adams")
+        soon(told, "1 of 1", "in attributes")
         same((page.texts(".chosen > .tag:not(.end) .attrs"), page.find("#finder [value=tag]").is_displayed()), (["key='adams'"], False), "the element")
         page.keys(Keys.ESCAPE)
         same(page.texts(".chosen > .tag:not(.end)"), ["person key='adams'"], "it is chosen then")
         page.keys(Keys.CONTROL, "f")
-        soon(lambda: look("pattern", r"\d+ \w+ \d{4}"), "1 of 4", "the pattern again")
+        look("pattern", r"\d+ \w+ \d{4}")
+        soon(told, "1 of 4", "the pattern again")
         page.press("#finder [value=tag]")
         soon(lambda: page.find("#menu h2").text, "Tags round all 3 that were found", "the menu")
         page.open_menu()
@@ -432,6 +439,26 @@ def finds_by_patterns(driver, program):
         page.keys(Keys.ENTER)
         soon(lambda: page.texts("#document .attrs"), ['n="1"', "key='adams'", 'n="1"', "n='x'"], "both, with attributes")
         same((page.moves(), page.written().count("<date>")), (1, 3), "in one move")
+
+
+def ends_patterns_that_take_forever(driver, program):
+    """A pattern that takes forever is ended after a while, or by the next one; keys and other windows wait for none."""
+    body = f"<body><p>{'a' * 60}b, {'a' * 60}b and Mr Adams</p></body>"
+    with Server(program, LETTER.replace(BODY, body)) as server:
+        page = Page(driver, server.url)
+        page.keys(Keys.CONTROL, "f")
+        page.js("const by = document.querySelector('#finder select'); by.value = 'pattern'; by.dispatchEvent(new Event('change'))")
+        page.keys("(a+)+$")
+        soon(lambda: page.find("#finder output").text, "…", "it is looked for")
+        soon(lambda: page.find("#finder output").text, "the pattern takes too long", "it is ended")
+        page.keys(" ", Keys.BACK_SPACE)
+        soon(lambda: page.find("#finder output").text, "…", "again")
+        page.js("document.querySelector('#finder input').select()")
+        page.keys("A.ams")
+        soon(lambda: page.find("#finder output").text, "1 of 1", "the next one", seconds=2)
+        page.keys(Keys.HOME, "(a+)+$|")
+        page.keys(Keys.ESCAPE)
+        soon(lambda: page.find("#finder").is_displayed(), False, "closed meanwhile", seconds=2)
 
 
 def shows_its_source(driver, program):
@@ -479,4 +506,4 @@ def prints_all(driver, program):
         soon(lambda: page.written().count("<p>") < 900, True, "and less again")
 
 
-CASES = [tags_each_line, takes_rows_by_digits, lists_what_is_missing, keeps_words_in_sight, has_a_palette, tells_reasons_one_can_read, suggests_tags, copies_over_tags, tags_places_with_attributes, takes_attributes_behind_a_name, tags_all_suggestions, completes_values, puts_comments, finds_by_patterns, shows_its_source, prints_all]
+CASES = [tags_each_line, takes_rows_by_digits, lists_what_is_missing, keeps_words_in_sight, has_a_palette, tells_reasons_one_can_read, suggests_tags, copies_over_tags, tags_places_with_attributes, takes_attributes_behind_a_name, tags_all_suggestions, completes_values, puts_comments, finds_by_patterns, ends_patterns_that_take_forever, shows_its_source, prints_all]
