@@ -150,7 +150,7 @@ def keeps_what_is_done(program):
         for bad in ("x", "[]", '{"done": 5}'):
             with open(folder.path + ".pvtag", "w", encoding="utf-8") as file:
                 file.write(bad)
-            need("move it away" in ask(one, "list")["trouble"], f"a file that holds {bad}")
+            need("move it elsewhere" in ask(one, "list")["trouble"], f"a file that holds {bad}")
             need(isinstance(fault_of(lambda: Marks(folder.path).put("a.xml", True)), Trouble), "isn't written over")
 
 
