@@ -314,7 +314,7 @@ def try_by_doctype(trial: Trial) -> None:
     del trial.variables["XML_CATALOG_FILES"]
     status, said, errors = trial.run(str(texts / "poem.dtd"), "poem", str(texts / "poem-draft.xml"))
     trial.expect("a given DTD in modules", status == 0 and rows_of(said)[0]["verdict"] == "possible" and "dtd" not in rows_of(said)[0], (status, said, errors))
-    odd = trial.folder / "odd"
+    odd = trial.folder / "odd-roots"
     odd.mkdir()
     (odd / "one.xml").write_text(f'<!DOCTYPE a\xd7b SYSTEM "{texts}/letter.dtd"><letter/>', encoding="utf-8")
     shutil.copy(texts / "letter.xml", odd / "other.xml")
