@@ -91,10 +91,10 @@ def names_its_dtd(program, server, declaration):
     with open(LETTER, encoding="utf-8") as file:
         dtd = file.read()
     server.write("Dear brother", "plain.txt")
-    for name in ("in/down", "in/a b", "own"):
+    for name in ("in/down", "in/a b", "in/a[1]", "own"):
         os.makedirs(server.path(name))
     for place, want in (("in/letter.dtd", "letter.dtd"), ("in/down/letter.dtd", "down/letter.dtd"), ("letter.dtd", "../letter.dtd"), ("own/letter.dtd", "../own/letter.dtd"),
-                        ("in/a b/letter.dtd", None), ("../letter.dtd", None)):
+                        ("in/a b/letter.dtd", None), ("in/a[1]/letter.dtd", None), ("in/a:b--.dtd", "./a:b--.dtd"), ("../letter.dtd", None)):
         path, doc = (LETTER if place.startswith("..") else server.path(place)), server.path("in/new.xml")
         if not place.startswith(".."):
             server.write(dtd, place)

@@ -14,7 +14,7 @@ from .script import Script
 
 DECLARATION = '<?xml version="1.0" encoding="UTF-8"?>'
 # What can't stand in the address of a file as it is.
-UNFIT = re.compile(r"""["'%#?&<>\\^`{|}\s\x00-\x1f\x7f-\U0010ffff]""")
+UNFIT = re.compile(r"""["'%#?&<>\[\\\]^`{|}\s\x00-\x1f\x7f-\U0010ffff]""")
 
 
 def plain_text(path: str) -> str:
@@ -50,7 +50,8 @@ def doctype(root: str, doc: str, dtd: str) -> str:
         return ""
     if path.startswith(os.path.join(os.pardir, os.pardir)) or not is_utf_8(path) or UNFIT.search(path):
         return ""
-    return f'<!DOCTYPE {root} SYSTEM "{path}">\n'
+    # What stands before a colon would be the scheme of an address.
+    return f'<!DOCTYPE {root} SYSTEM "{"./" if ":" in path.partition("/")[0] else ""}{path}">\n'
 
 
 def open_editor(program: list[str], dtd: str, root: str, doc: str, again: bool = False, version: int = 0) -> Editor:
