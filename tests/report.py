@@ -576,7 +576,7 @@ def try_streams(trial: Trial) -> None:
         _, errors = run.communicate(timeout=PATIENCE)
         # Until its first line is run Python itself may say so.
         is_early = b"line 0, in <module>" in errors or errors != b"" and b"clients/report" not in errors
-        trial.expect("Ctrl-C while it starts", is_early or run.returncode in (0, 130) and errors == b"", (run.returncode, errors))
+        trial.expect("Ctrl-C while it starts", is_early or run.returncode in (0, 130, -signal.SIGINT) and errors == b"", (run.returncode, errors))
 
 
 def try_failing(trial: Trial) -> None:

@@ -49,7 +49,13 @@ esac && exec "$program" ${unproved:+--of "$name"} "$@"
 status=$?
 
 # say SENTENCE: on the standard error, without what acts on a terminal
-say() { printf '%s: %s\n' "$name" "$(printf '%s' "$1" | tr '\001-\037\177' '?')" >&2; }
+say() {
+    said=$1
+    while case $said in *[[:cntrl:]]*) ;; *) false ;; esac do
+        said="${said%%[[:cntrl:]]*}?${said#*[[:cntrl:]]}"
+    done
+    printf '%s: %s\n' "$name" "$said" >&2
+}
 # say_words COUNT WORDS: that a command takes these, where it has another number of words
 say_words() {
     [ "$count" -eq "$1" ] || say "$command takes $1 argument$([ "$1" -eq 1 ] || echo s), $2, and has $count"
