@@ -3,7 +3,7 @@ use Rattle.std.specs.Prelude.{codes}
 use Rattle.std.proofs.Common.{Bool, List, [], ap, arith, false, length, option_map, refl, suc, true, zero, ℕ, ◌+◌, ◌∷◌, ◌≡◌, ◌≤◌}
 use Rattle.std.specs.Prelude.{if◌then◌else◌}
 use Rattle.std.specs.List.{AllByRecursion}
-use Rattle.pv_cache.specs.Accepting.{IsNarrowAt, IsWithinLimits}
+use Rattle.pv_cache.specs.AcceptedEdits.{IsNarrowAt, IsWithinLimits}
 use Rattle.pv_chars.specs.Texts.{has_data}
 use Rattle.pv_chars.specs.Units.{units_in}
 use Rattle.pv_dtd.specs.Plain.{PlainDtd}

@@ -3,7 +3,7 @@ use Rattle.std.specs.Prelude.{codes}
 use Rattle.std.proofs.Common.{List, [], ap, arith, refl, subst, ℕ, ◌∙◌, ◌≡◌}
 use Rattle.std.specs.List.{AllByRecursion}
 use Rattle.std.proofs.lemmas.List.{length-map}
-use Rattle.pv_cache.proofs.Alike.{twice}
+use Rattle.pv_cache.proofs.RemarkedDocuments.{twice}
 use Rattle.pv_cache.proofs.ListMarks.{all_narrow_to}
 use Rattle.law_program.proofs.OneDrill.{drill_sure}
 use Rattle.pv_opening.proofs.OneOpening.{ReadsOne}

@@ -5,7 +5,7 @@ use Rattle.std.proofs.Math.Logic.{∥∥₁_elim}
 use Rattle.std.specs.Prelude.{◌↔◌}
 use Rattle.std.proofs.lemmas.List.{length-append, same_from_push}
 use Rattle.pv_cache.proofs.OtherMarks.{nodes_unmarked}
-use Rattle.pv_cache.specs.Accepting.{GetsNoWorse, GetsWorse, IsWithinLimits}
+use Rattle.pv_cache.specs.AcceptedEdits.{GetsNoWorse, GetsWorse, IsWithinLimits}
 use Rattle.pv_chars.specs.Names.{is_name}
 use Rattle.pv_chars.proofs.NameLemmas.{is_name-IsName}
 use Rattle.pv_conversation.specs.Session.{done_of, reply_to}
@@ -17,7 +17,7 @@ use Rattle.pv_edit.specs.Reasons.{edit_outcome, gives, refuses}
 use Rattle.pv_edit.specs.declared.answers.EditAnswer.TheVariants as refusal
 use Rattle.pv_edit.specs.declared.edits.Edit.{Edit}
 use Rattle.pv_edit.specs.declared.reasons.Reason.{Reason}
-use Rattle.pv_missing.specs.Completing.{IsPotentiallyValid}
+use Rattle.pv_missing.specs.Completions.{IsPotentiallyValid}
 use Rattle.pv_missing.specs.Proper.{IsProperDoc}
 use Rattle.pv_missing.specs.VerdictLaws.{NoneImpossible}
 use Rattle.pv_missing.specs.Verdicts.{HaveImpossible, is_impossible as impossible_verdict}

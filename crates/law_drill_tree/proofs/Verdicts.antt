@@ -15,8 +15,8 @@ use Rattle.pv_tree.specs.View.{view}
 use Rattle.pv_tree.specs.Words.{word_of}
 use Rattle.pv_tree.specs.declared.nodes.Verdict.{Verdict}
 use Rattle.pv_tree.specs.declared.nodes.Verdict.TheVariants as verdict
-use Rattle.pv_missing.specs.Completing.{IsPotentiallyValid}
-use Rattle.pv_missing.specs.Covering.{cover_none, cover_text}
+use Rattle.pv_missing.specs.Completions.{IsPotentiallyValid}
+use Rattle.pv_missing.specs.Covers.{cover_none, cover_text}
 use Rattle.pv_missing.specs.Proper.{IsProperDoc}
 use Rattle.pv_missing.specs.Verdicts.{AreProductiveKids, AreVerdicts, IsLive, IsVerdict, is_possible, possible_in}
 use Rattle.pv_missing.proofs.DocLists.{live_locality, verdict_locality}

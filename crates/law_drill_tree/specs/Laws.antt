@@ -4,7 +4,7 @@ use Rattle.pv_chars.specs.Names.{is_name}
 use Rattle.pv_dtd.specs.Meaning.{DtdTextMeans, is_dtd}
 use Rattle.pv_drill.specs.Drill.{DRILL_DTD, drill_text}
 use Rattle.pv_edit.specs.Reasons.{edit_outcome, gives}
-use Rattle.pv_missing.specs.Completing.{IsPotentiallyValid}
+use Rattle.pv_missing.specs.Completions.{IsPotentiallyValid}
 use Rattle.pv_missing.specs.Verdicts.{AreVerdicts, possible_in}
 use Rattle.law_missing.specs.Dtds.{sections_dtd}
 use Rattle.pv_read.specs.Grammar.{IsDocumentText}

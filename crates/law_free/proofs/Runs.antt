@@ -10,7 +10,7 @@ use Rattle.pv_rules.specs.Rules.{any_name, any_none, any_text, children_part, em
 use Rattle.pv_rules.specs.Rules.{part_choice, part_name, part_seq, plus_more, plus_one, rest_last, rest_then, star_more, star_none}
 use Rattle.pv_rules.specs.Sites.{PlainSite, content_site, name_site, part_site, rest_site}
 use Rattle.pv_rules.proofs.Spans.{over_spans}
-use Rattle.pv_rules.specs.Deriving.{DerivesAt}
+use Rattle.pv_rules.specs.SiteDerivations.{DerivesAt}
 use Rattle.law_free.specs.Free.{IsFree, free_any, free_children, free_choice, free_empty, free_first, free_last, free_later, free_mixed, free_name, free_opt, free_part, free_plus, free_seq, free_star}
 use Rattle.law_free.specs.Laws.{FreeDerivesTaken, FreeFurthest}
 use Rattle.law_free.specs.Live.{AreLive}
@@ -19,7 +19,7 @@ use Rattle.law_free.specs.Takes.{Takes, TakesAll, TakesEach, takes_any_name, tak
 use Rattle.law_free.specs.Takes.{takes_last, takes_later, takes_missing, takes_mixed_name, takes_mixed_text, takes_opt, takes_part, takes_plus}
 use Rattle.law_free.specs.Takes.{takes_seq, takes_star}
 use Rattle.law_free.proofs.ShortDerivations.{live_derives, none, one, takes_derives, two}
-use Rattle.law_free.proofs.Taken.{derived_are_taken}
+use Rattle.law_free.proofs.DerivedTokens.{derived_are_taken}
 
 -- the token at a place within the word
 token_at : (w : List PlainToken) (i : ℕ) → i < length w → (t : PlainToken) × (slice_get w i ≡ Some t)

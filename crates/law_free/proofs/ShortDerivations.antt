@@ -10,7 +10,7 @@ use Rattle.pv_rules.specs.Rules.{mixed_text, opt_none, opt_one, over, part_choic
 use Rattle.pv_rules.specs.Rules.{star_more, star_none}
 use Rattle.pv_rules.specs.Sites.{PlainSite, content_site, name_site, part_site, rest_site}
 use Rattle.pv_rules.proofs.DerivationLaws.{held}
-use Rattle.pv_rules.specs.Deriving.{DerivesAt}
+use Rattle.pv_rules.specs.SiteDerivations.{DerivesAt}
 use Rattle.law_free.specs.Laws.{LiveDerivesNothing}
 use Rattle.law_free.specs.Live.{AreLive, IsLiveSite, IsLiveToken, live_any, live_children, live_choice, live_empty, live_last, live_mixed, live_name}
 use Rattle.law_free.specs.Live.{live_opt, live_part, live_plus, live_rest, live_seq, live_star}

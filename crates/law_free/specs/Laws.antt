@@ -5,7 +5,7 @@ use Rattle.pv_dtd.specs.Plain.{PlainDtd}
 use Rattle.pv_dtd.specs.Productive.{IsProductive}
 use Rattle.pv_dtd.specs.Proper.{IsProperDtd}
 use Rattle.pv_rules.specs.Sites.{PlainSite, content_site, name_site}
-use Rattle.pv_rules.specs.Deriving.{DerivesAt}
+use Rattle.pv_rules.specs.SiteDerivations.{DerivesAt}
 use Rattle.law_free.specs.Free.{IsFree}
 use Rattle.law_free.specs.Live.{AreLive, IsLiveSite}
 use Rattle.law_free.specs.Runs.{IsFirstNotTaken, IsFurthestEnd}

@@ -3,7 +3,7 @@ use Rattle.std.specs.Prelude.{List, Some, length, slice_get, ℕ, ◌≡◌, ◌
 use Rattle.pv_model.specs.Plain.{PlainToken}
 use Rattle.pv_dtd.specs.Plain.{PlainDtd}
 use Rattle.pv_rules.specs.Sites.{PlainSite}
-use Rattle.pv_rules.specs.Deriving.{DerivesAt}
+use Rattle.pv_rules.specs.SiteDerivations.{DerivesAt}
 use Rattle.law_free.specs.Takes.{Takes, TakesEach}
 
 -- j is the furthest end that the site derives from i

@@ -7,7 +7,7 @@ use Rattle.pv_dtd.specs.Plain.{model_of, number_of}
 use Rattle.pv_dtd.specs.Hedge.{AreGood, Hedge, cdata, data_unit, done, elem, leaf, misc, token, white, word}
 use Rattle.pv_tree.specs.Lists.{an_element, lists_from, the_document}
 use Rattle.pv_tree.specs.Plain.{Tree, forest_of, no_trees, tree}
-use Rattle.pv_missing.specs.Covering.{IsPossibleWith}
+use Rattle.pv_missing.specs.Covers.{IsPossibleWith}
 use Rattle.pv_dtd.specs.Proper.{IsProperDtd}
 use Rattle.pv_missing.specs.LiveWords.{live_unproductive, live_name, live_none, live_other, live_text}
 use Rattle.pv_dtd.specs.Productive.{IsProductive, IsProductiveName}
@@ -16,16 +16,13 @@ use Rattle.law_missing.specs.Dtds.{any_dtd, any_endless_dtd}
 use Rattle.law_missing.specs.Rows.{AnyRow, LiveWords, UnknownRow}
 use Rattle.pv_missing.proofs.DocLists.{live_misses_by}
 use Rattle.pv_missing.proofs.OneList.{covered_by_productive}
-use Rattle.pv_dtd.proofs.Proper.{proper_dtd}
+use Rattle.pv_dtd.proofs.ProperDtds.{proper_dtd}
 use Rattle.law_missing.proofs.RowTools.{alone_productive, impossible_at}
 use Rattle.pv_missing.proofs.Verdict.{own_live}
 
 -- <!ELEMENT r ANY> <!ELEMENT s (u?)>
 proper_any : IsProperDtd any_dtd
 proper_any = proper_dtd any_dtd refl (omega arith) refl
-
-s_model : PlainModel
-s_model = children (seq (part (opt (name 2)) no_parts))
 
 r_good : IsProductive any_dtd 0
 r_good = alone_productive any_dtd 0 any refl tt

@@ -8,7 +8,7 @@ use Rattle.pv_dtd.specs.Plain.{model_of, number_of}
 use Rattle.pv_tree.specs.Lists.{IsOwnValid, IsRootList, an_element, lists_at, the_document}
 use Rattle.pv_tree.specs.Plain.{Forest, forest_of, no_trees, tree}
 use Rattle.pv_tree.specs.Words.{word_of}
-use Rattle.pv_missing.specs.Covering.{Covers, cover_kept, cover_none, cover_text}
+use Rattle.pv_missing.specs.Covers.{Covers, cover_kept, cover_none, cover_text}
 use Rattle.law_missing.specs.Documents.{blank_in_br, chars, completed_letter, letter, nested_em, tag}
 use Rattle.law_missing.specs.Dtds.{doc_model, sec_model, sections_dtd}
 use Rattle.law_missing.specs.Rows.{BlankRow, CompletedRow, DeepRow, LetterRow}

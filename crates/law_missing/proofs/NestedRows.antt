@@ -7,7 +7,7 @@ use Rattle.pv_dtd.specs.Plain.{model_of, number_of}
 use Rattle.pv_dtd.specs.Hedge.{elements}
 use Rattle.pv_tree.specs.Lists.{IsOwnValid, an_element, lists_at, the_document}
 use Rattle.pv_tree.specs.Plain.{Forest, Tree, forest_of, no_trees, tree}
-use Rattle.pv_missing.specs.Covering.{Covers, IsPossibleWith, cover_kept, cover_new, cover_none, cover_text}
+use Rattle.pv_missing.specs.Covers.{Covers, IsPossibleWith, cover_kept, cover_new, cover_none, cover_text}
 use Rattle.pv_dtd.specs.Proper.{IsProperDtd}
 use Rattle.pv_dtd.specs.Productive.{IsProductive, IsProductiveName}
 use Rattle.law_missing.specs.Documents.{tag, three_ys}
@@ -17,7 +17,7 @@ use Rattle.law_missing.proofs.Bounds.{gained, opened, worth}
 use Rattle.pv_missing.proofs.DocLists.{live_misses_by}
 use Rattle.pv_missing.proofs.CoversToInsertions.{empty_join}
 use Rattle.pv_missing.proofs.OneList.{covered_by_productive}
-use Rattle.pv_dtd.proofs.Proper.{proper_dtd}
+use Rattle.pv_dtd.proofs.ProperDtds.{proper_dtd}
 use Rattle.law_missing.proofs.RowTools.{ListRow, alone_productive, impossible_at, needs, new_before, possible_row, possible_with, valid_row}
 use Rattle.pv_missing.proofs.Sizes.{fits_possible}
 use Rattle.pv_tree.specs.declared.nodes.Verdict.TheVariants as verdict

@@ -6,15 +6,15 @@ use Rattle.pv_model.specs.Models.{Allows}
 use Rattle.pv_dtd.specs.Plain.{model_of, number_of}
 use Rattle.pv_tree.specs.Lists.{IsOwnValid, an_element}
 use Rattle.pv_tree.specs.Plain.{no_trees}
-use Rattle.pv_missing.specs.Covering.{IsPossibleWith, cover_none}
+use Rattle.pv_missing.specs.Covers.{IsPossibleWith, cover_none}
 use Rattle.pv_dtd.specs.Proper.{IsProperDtd}
 use Rattle.pv_dtd.specs.Productive.{IsProductive, IsProductiveName}
 use Rattle.law_missing.specs.Documents.{tag}
 use Rattle.law_missing.specs.Dtds.{pair_dtd}
 use Rattle.law_missing.specs.Rows.{PairRow}
 use Rattle.law_missing.proofs.Bounds.{opened, zero_same}
-use Rattle.pv_missing.proofs.LeftOut.{possible_productive}
-use Rattle.pv_dtd.proofs.Proper.{proper_dtd}
+use Rattle.pv_missing.proofs.LeftOutNames.{possible_productive}
+use Rattle.pv_dtd.proofs.ProperDtds.{proper_dtd}
 use Rattle.law_missing.proofs.RowTools.{alone_productive, needs, new_before, possible_row, possible_with, valid_row}
 use Rattle.pv_tree.specs.declared.nodes.Verdict.TheVariants as verdict
 

@@ -7,16 +7,16 @@ use Rattle.pv_dtd.specs.Hedge.{done}
 use Rattle.pv_tree.specs.Lists.{IsValidBy, IsValidList, Listed, Owner, an_element, lists_of, the_document}
 use Rattle.pv_tree.specs.Plain.{Forest, Tree}
 use Rattle.pv_tree.specs.View.{view}
-use Rattle.pv_missing.specs.Covering.{Covers, IsPossibleWith, cover_new}
+use Rattle.pv_missing.specs.Covers.{Covers, IsPossibleWith, cover_new}
 use Rattle.pv_dtd.specs.Proper.{IsProperDtd}
 use Rattle.pv_missing.specs.Proper.{IsProperDoc}
-use Rattle.pv_missing.specs.Missing.{MissInAll, Misses, MissesBy}
+use Rattle.pv_missing.specs.MissingNumbers.{MissInAll, Misses, MissesBy}
 use Rattle.pv_dtd.specs.Productive.{IsProductive}
 use Rattle.law_missing.specs.Documents.{doc_of}
 use Rattle.law_missing.specs.Rows.{IsImpossibleAt, NeedsWith}
 use Rattle.pv_missing.specs.Verdicts.{AreProductiveKids, AreVerdicts, IsFirstImpossible, IsProductiveOwner, IsVerdict}
 use Rattle.pv_missing.proofs.DocLists.{misses_live_by, numbers_add_up}
-use Rattle.pv_missing.proofs.Same.{some_number}
+use Rattle.pv_missing.proofs.SameCompletions.{some_number}
 use Rattle.pv_missing.proofs.TreeLists.{miss_split}
 use Rattle.pv_missing.proofs.Verdict.{content_own, own_live, root_own}
 use Rattle.pv_tree.specs.declared.nodes.Verdict.{Verdict}

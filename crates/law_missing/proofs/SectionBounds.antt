@@ -4,7 +4,7 @@ use Rattle.std.specs.List.{AllByRecursion}
 use Rattle.pv_model.specs.Plain.{PlainModel, PlainToken, empty, mixed, named, other, text}
 use Rattle.pv_model.specs.Models.{Allows}
 use Rattle.pv_dtd.specs.Plain.{model_of}
-use Rattle.pv_missing.specs.Covering.{Covers, IsPossibleRootWith, IsPossibleWith}
+use Rattle.pv_missing.specs.Covers.{Covers, IsPossibleRootWith, IsPossibleWith}
 use Rattle.law_missing.specs.Dtds.{doc_model, item_model, list_model, sec_model, sections_dtd}
 use Rattle.law_missing.proofs.Bounds.{AreTexts, IsModelOf, IsTokenOf, NameCase, Opened, covered_of, gained, is_kept, is_new, mixed_texts, name_case, no_worth, opened, texts_same, worth, zero_same}
 use Rattle.pv_missing.proofs.CoversToInsertions.{covers-none, empty_join}

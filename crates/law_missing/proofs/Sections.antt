@@ -3,12 +3,12 @@ use Rattle.std.proofs.Common.{List, [], append-nil, arith, inl, inr, refl, ℕ, 
 use Rattle.std.specs.List.{AllByRecursion}
 use Rattle.pv_model.specs.Plain.{choice, empty, mixed, name, named, no_parts, opt, part, plus, seq, star}
 use Rattle.pv_model.specs.Models.{Allows, Matches, Rounds, no_round, round}
-use Rattle.pv_missing.specs.Covering.{Covers, cover_none}
+use Rattle.pv_missing.specs.Covers.{Covers, cover_none}
 use Rattle.pv_dtd.specs.Proper.{IsProperDtd}
 use Rattle.pv_dtd.specs.Productive.{IsProductive}
 use Rattle.law_missing.specs.Dtds.{doc_model, sec_model, sections_dtd}
-use Rattle.pv_missing.proofs.LeftOut.{possible_productive}
-use Rattle.pv_dtd.proofs.Proper.{proper_dtd}
+use Rattle.pv_missing.proofs.LeftOutNames.{possible_productive}
+use Rattle.pv_dtd.proofs.ProperDtds.{proper_dtd}
 use Rattle.law_missing.proofs.RowTools.{alone_productive, new_before, possible_with}
 
 pub proper_sections : IsProperDtd sections_dtd

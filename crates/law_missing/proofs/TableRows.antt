@@ -7,9 +7,9 @@ use Rattle.pv_rules.specs.Derivations.{IsClosed, heaviest, sum_of}
 use Rattle.pv_rules.specs.Kinds.{OfSite}
 use Rattle.pv_rules.specs.Rules.{Goal, IsSpan, Rule, missing, over}
 use Rattle.pv_rules.specs.Sites.{PlainSite, content_site, name_site, part_site, rest_site}
-use Rattle.pv_rules.proofs.ByKind.{by_kind}
-use Rattle.pv_missing.specs.Completing.{out_done, out_kept, out_new}
-use Rattle.pv_missing.specs.Extending.{both_done, new_element, same_element}
+use Rattle.pv_rules.proofs.RulesByKind.{by_kind}
+use Rattle.pv_missing.specs.Completions.{out_done, out_kept, out_new}
+use Rattle.pv_missing.specs.Extensions.{both_done, new_element, same_element}
 use Rattle.law_missing.specs.Dtds.{pair_dtd}
 use Rattle.law_missing.specs.Tables.{TableRow, pair_table}
 use Rattle.law_missing.proofs.PairRows.{a_model, one_b}

@@ -1,7 +1,7 @@
 -- The rows of words and of the numbers of parts.
 use Rattle.std.proofs.Common.{[], refl, ℕ, ◌∷◌}
 use Rattle.pv_model.specs.Plain.{empty, named, other, text}
-use Rattle.pv_missing.specs.Covering.{IsPossibleWith, cover_none}
+use Rattle.pv_missing.specs.Covers.{IsPossibleWith, cover_none}
 use Rattle.law_missing.specs.Dtds.{any_dtd, endless_dtd, nested_dtd, sections_dtd}
 use Rattle.law_missing.specs.Rows.{NumbersRow, OtherWords, SectionWords}
 use Rattle.law_missing.proofs.Bounds.{opened}

@@ -6,8 +6,8 @@ use Rattle.pv_dtd.specs.Plain.{PlainDtd}
 use Rattle.pv_tree.specs.Lists.{IsOwnValid, lists_of}
 use Rattle.pv_tree.specs.Plain.{Tree, forest_of}
 use Rattle.pv_tree.specs.View.{view}
-use Rattle.pv_missing.specs.Completing.{IsLeast, IsPotentiallyValid}
-use Rattle.pv_missing.specs.Filling.{IsPossible, IsPossibleRoot}
+use Rattle.pv_missing.specs.Completions.{IsLeast, IsPotentiallyValid}
+use Rattle.pv_missing.specs.FilledWords.{IsPossible, IsPossibleRoot}
 use Rattle.pv_missing.specs.LiveWords.{IsLiveWord}
 use Rattle.pv_rules.specs.Numbering.{first_part, numbered_models, part_at, rest_at}
 use Rattle.law_missing.specs.Documents.{blank_in_br, comment_alone, completed_letter, doc_of}

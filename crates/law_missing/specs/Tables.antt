@@ -4,7 +4,7 @@ use Rattle.std.specs.Prelude.{[], codes, suc, zero, ℕ, ◌∷◌, ◌≡◌}
 use Rattle.pv_rules.specs.Derivations.{IsClosed, heaviest}
 use Rattle.pv_rules.specs.Rules.{Goal, Rule, over}
 use Rattle.pv_rules.specs.Sites.{PlainSite, content_site, name_site, part_site, rest_site}
-use Rattle.pv_missing.specs.Completing.{Completes}
+use Rattle.pv_missing.specs.Completions.{Completes}
 use Rattle.law_missing.specs.Documents.{doc_of, tag}
 use Rattle.law_missing.specs.Dtds.{pair_dtd}
 

@@ -25,7 +25,7 @@ use Rattle.law_program.specs.Laws.{ComesByCause, RaisesOneAtMost}
 use Rattle.pv_opening.specs.Opening.{Files, dtd_file_stage, file_at, opening_stage}
 use Rattle.pv_commands.specs.PackFiles.{pack_file_stage}
 use Rattle.pv_opening.specs.Possibility.{possibility_stage, width_stage}
-use Rattle.pv_opening.specs.Showing.{CountsInput, CountsShelf, WritesEnding, cut_off, wrote}
+use Rattle.pv_opening.specs.ShownCourses.{CountsInput, CountsShelf, WritesEnding, cut_off, wrote}
 use Rattle.pv_cli.specs.Program.{IsDefined}
 use Rattle.pv_opening.specs.Response.{PlainResponse}
 use Rattle.pv_conversation.specs.Session.{Converses, guarding_stage}

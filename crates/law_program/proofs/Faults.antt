@@ -6,7 +6,7 @@ use Rattle.pv_opening.specs.declared.status.Status.TheVariants.{ReadFault, Write
 use Rattle.pv_opening.specs.Course.{RunEnding, responds, shelf_fault, input_fault, output_fault}
 use Rattle.pv_opening.specs.Course.{no_memory}
 use Rattle.law_program.specs.Laws.{FaultsShow}
-use Rattle.pv_opening.specs.Showing.{CountsShelf, CountsInput, WritesEnding, wrote, cut_off}
+use Rattle.pv_opening.specs.ShownCourses.{CountsShelf, CountsInput, WritesEnding, wrote, cut_off}
 
 output_stays : (ending : RunEnding) (old new : Option (List ℕ)) (before after : ℕ)
     (status : Status) → WritesEnding ending old new before after status →

@@ -18,4 +18,4 @@ pub mod OneVerdict
 pub mod OneVerification
 pub mod Refusals
 pub mod ResponseCauses
-pub mod Within
+pub mod AnswersWithinLimits

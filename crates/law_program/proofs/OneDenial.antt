@@ -8,8 +8,8 @@ use Rattle.pv_cache.proofs.ListMarks.{all_narrow_to, first_to, list_as, lists_as
 use Rattle.pv_cache.proofs.OtherMarks.{heads_as, word_as}
 use Rattle.pv_reach.proofs.OtherMarks.{view_as}
 use Rattle.pv_denial.specs.Causes.{HasKidsInEmpty, HoldsOfList, IsCause}
-use Rattle.pv_denial.specs.Judging.{IsAbout, IsDenialJudged, IsNarrowFor, IsReached, IsRightCause}
-use Rattle.pv_denial.specs.Judging.{IsRightTable, IsTooWideFor, JudgesAt}
+use Rattle.pv_denial.specs.Judgements.{IsAbout, IsDenialJudged, IsNarrowFor, IsReached, IsRightCause}
+use Rattle.pv_denial.specs.Judgements.{IsRightTable, IsTooWideFor, JudgesAt}
 use Rattle.pv_denial.specs.Laws.{OneJudged}
 use Rattle.pv_denial.specs.declared.denials.Cause.{Cause}
 use Rattle.pv_denial.specs.declared.denials.Cause.TheVariants as cause
@@ -21,15 +21,15 @@ use Rattle.pv_denial_text.specs.Laws.{OneMeaning}
 use Rattle.pv_denial_text.specs.Meaning.{DenialMeans, MAX_DENIAL_BYTES, is_denial, is_fault}
 use Rattle.pv_denial_text.specs.Meaning.{is_past_limit}
 use Rattle.pv_denial_text.specs.Texts.{lines_of_denial, lines_text}
-use Rattle.pv_deny.specs.Denying.{HasTooMany, IsDenialOf}
+use Rattle.pv_deny.specs.DocumentDenials.{HasTooMany, IsDenialOf}
 use Rattle.pv_deny.specs.Laws.{OneDenial}
 use Rattle.pv_dtd.specs.Plain.{PlainDtd}
 use Rattle.pv_missing.proofs.VerdictHeads.{live_alike}
-use Rattle.pv_missing.specs.Completing.{IsPotentiallyValid}
+use Rattle.pv_missing.specs.Completions.{IsPotentiallyValid}
 use Rattle.pv_missing.specs.Verdicts.{IsLive}
 use Rattle.pv_missing.specs.Widths.{IsListForVerdict}
 use Rattle.pv_read.specs.DocumentLaws.{SpellsOneDocument}
-use Rattle.pv_tree.proofs.Every.{contains_cases, contains_first, contains_later}
+use Rattle.pv_tree.proofs.JoinedLists.{contains_cases, contains_first, contains_later}
 use Rattle.pv_tree.specs.Lists.{Listed, Owner, an_element, lists_of, the_document}
 use Rattle.pv_tree.specs.Marks.{unmarked_doc}
 use Rattle.pv_tree.specs.Plain.{Forest, PlainDoc, map_marks_all, no_trees, tree}

@@ -8,7 +8,7 @@ use Rattle.pv_cert.specs.declared.packs.Pack.{Pack}
 use Rattle.pv_cache.specs.Stamps.{doc_as}
 use Rattle.pv_cache.proofs.ListMarks.{list_as, lists_as}
 use Rattle.pv_cache.proofs.OtherMarks.{heads_as, word_as}
-use Rattle.pv_complete.specs.Needing.{CanNeed, CanWeigh, IsHeavy, Needs, StopsAtWide}
+use Rattle.pv_complete.specs.NeededElements.{CanNeed, CanWeigh, IsHeavy, Needs, StopsAtWide}
 use Rattle.pv_complete.specs.Tables.{HasMore, HasTables, HasTooMany, most_entries}
 use Rattle.pv_complete.specs.declared.errors.NeedError.TheVariants.{TooHeavy}
 use Rattle.pv_dtd.specs.Plain.{PlainDtd}
@@ -22,8 +22,8 @@ use Rattle.pv_tables.specs.TableLaws.{OneTables}
 use Rattle.pv_tables.specs.Tables.{AreEntries, AreTables, IsBefore, IsEntry, IsTableOf, Precedes, entries_in, key_of, no_list, other_list, possible_list}
 use Rattle.pv_tables.specs.declared.tables.Entry.{Entry}
 use Rattle.pv_tables.specs.declared.tables.Table.{Table}
-use Rattle.pv_tree.proofs.Every.{contains_cases, contains_first, contains_later}
-use Rattle.pv_tree.proofs.Firsts.{one_first}
+use Rattle.pv_tree.proofs.JoinedLists.{contains_cases, contains_first, contains_later}
+use Rattle.pv_tree.proofs.FirstLists.{one_first}
 use Rattle.pv_tree.specs.Lists.{Listed, lists_of}
 use Rattle.pv_tree.specs.Marks.{unmarked_doc}
 use Rattle.pv_tree.specs.Plain.{PlainDoc}

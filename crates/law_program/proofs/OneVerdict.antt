@@ -9,8 +9,8 @@ use Rattle.pv_tree.specs.Plain.{PlainDoc}
 use Rattle.pv_tree.specs.Units.{HasUnits}
 use Rattle.pv_tree.specs.View.{view}
 use Rattle.pv_tree.specs.declared.nodes.Mark.{Mark}
-use Rattle.pv_tree.proofs.Every.{all_right}
-use Rattle.pv_tree.proofs.Firsts.{one_first}
+use Rattle.pv_tree.proofs.JoinedLists.{all_right}
+use Rattle.pv_tree.proofs.FirstLists.{one_first}
 use Rattle.pv_tree.specs.Marks.{unmarked_doc}
 use Rattle.pv_opening.specs.Response.{PlainResponse, with_line}
 use Rattle.pv_words.specs.Paths.{path_text}

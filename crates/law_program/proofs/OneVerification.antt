@@ -14,7 +14,7 @@ use Rattle.pv_tables.specs.declared.tables.Table.{Table}
 use Rattle.pv_tree.specs.Lists.{Listed, lists_of}
 use Rattle.pv_tree.specs.Plain.{PlainDoc}
 use Rattle.pv_tree.specs.declared.nodes.Mark.{Mark}
-use Rattle.pv_tree.proofs.Every.{contains_first, contains_later}
+use Rattle.pv_tree.proofs.JoinedLists.{contains_first, contains_later}
 use Rattle.pv_verify.specs.Laws.{OneAnswer}
 use Rattle.pv_commands.specs.Certificates.{certificate_stage}
 use Rattle.pv_opening.specs.Documents.{PlainOpened}

@@ -11,7 +11,7 @@ use Rattle.pv_opening.specs.Documents.{PlainOpened}
 use Rattle.law_program.specs.Laws.{AcceptsLeast, ShowsLeast}
 use Rattle.pv_opening.specs.Opening.{Files}
 use Rattle.pv_commands.specs.PackFiles.{pack_file_stage}
-use Rattle.pv_opening.specs.Showing.{WritesEnding, cut_off, wrote}
+use Rattle.pv_opening.specs.ShownCourses.{WritesEnding, cut_off, wrote}
 use Rattle.pv_opening.specs.Response.{PlainResponse}
 use Rattle.pv_opening.specs.Stage.{Responds}
 use Rattle.pv_commands.specs.Verify.{TellsAcceptance, TellsOfPack, is_accepted, is_rejected}

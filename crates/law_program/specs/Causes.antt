@@ -6,30 +6,30 @@ use Rattle.pv_chars.specs.declared.errors.TextError.{TextError}
 use Rattle.pv_cert.specs.Meaning.{MAX_PACK_BYTES, PackMeans, is_fault, is_pack, is_past_limit}
 use Rattle.pv_cert.specs.declared.packs.Pack.{Pack}
 use Rattle.pv_table_check.specs.ClosedTables.{IsFirstWideTable}
-use Rattle.pv_complete.specs.Needing.{IsHeavy, StopsAtWide}
+use Rattle.pv_complete.specs.NeededElements.{IsHeavy, StopsAtWide}
 use Rattle.pv_complete.specs.Tables.{HasTooMany}
-use Rattle.pv_denial.specs.Judging.{IsDenialJudged, IsTooWideFor}
+use Rattle.pv_denial.specs.Judgements.{IsDenialJudged, IsTooWideFor}
 use Rattle.pv_denial.specs.declared.denials.Denial.{Denial}
 use Rattle.pv_denial.specs.declared.denials.Flaw.{Flaw}
 use Rattle.pv_denial.specs.declared.denials.Judged.TheVariants as judged
 use Rattle.pv_denial_text.specs.Meaning.{DenialMeans, MAX_DENIAL_BYTES, is_denial}
 use Rattle.pv_denial_text.specs.Meaning.{is_fault as is_table_fault}
 use Rattle.pv_denial_text.specs.Meaning.{is_past_limit as is_past_table_limit}
-use Rattle.pv_deny.specs.Denying.{HasTooMany as HasTooManyValues}
+use Rattle.pv_deny.specs.DocumentDenials.{HasTooMany as HasTooManyValues}
 use Rattle.pv_dtd.specs.Facts.{MAX_DTD_BYTES}
 use Rattle.pv_dtd.specs.Kinds.{Kind as DtdKind, nesting, limit}
 use Rattle.pv_dtd.specs.Meaning.{DtdTextMeans, is_dtd, faulty as faulty_dtd}
 use Rattle.pv_dtd.specs.Plain.{PlainDtd}
 use Rattle.pv_drill.specs.Drill.{DRILL_DTD, drill_text}
 use Rattle.pv_io.specs.Causes.{CountStays, Rose}
-use Rattle.pv_missing.specs.Completing.{IsPotentiallyValid}
+use Rattle.pv_missing.specs.Completions.{IsPotentiallyValid}
 use Rattle.pv_params.specs.Meaning.{Fault, Expands, expanded, faulty as faulty_parameters}
 use Rattle.pv_missing.specs.Widths.{IsFirstTooWide}
 use Rattle.pv_read.specs.Grammar.{IsDocumentText}
 use Rattle.pv_read.specs.Kinds.{Kind, deep}
 use Rattle.pv_read.specs.Meaning.{DocumentMeans, MAX_DOC_BYTES, faulty, too_long}
 use Rattle.pv_standoff.specs.Lines.{RangesMean}
-use Rattle.pv_standoff.specs.Nested.{NestMeans}
+use Rattle.pv_standoff.specs.NestOutcomes.{NestMeans}
 use Rattle.pv_standoff.specs.declared.errors.NestError.{NestError}
 use Rattle.pv_standoff.specs.declared.errors.NestError.TheVariants.{Deep}
 use Rattle.pv_standoff.specs.declared.errors.RangesError.TheVariants.{Limit as TooMany, Syntax}
@@ -137,7 +137,8 @@ pub record ReadsAnnotation (line : Option PlainCommandLine) (files : Files) (roo
   pub reads_ranges : ReadsRanges line files lines
   pub ranges_mean : RangesMean lines (Ok ranges)
 
--- the same, and the document that stands for them under that root
+-- a DTD, the name of a root, and the document that stands for a text and ranges under that root,
+-- all of which a command line reads
 pub record ReadsNested (line : Option PlainCommandLine) (files : Files) (root : List ℕ)
     (g : PlainDtd) (doc : PlainDoc Mark) : Type 0 where
   pub text : List (List ℕ)

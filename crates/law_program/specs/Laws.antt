@@ -5,7 +5,7 @@ use Rattle.pv_cert.specs.declared.packs.Pack.{Pack}
 use Rattle.pv_denial.specs.declared.denials.Denial.{Denial}
 use Rattle.pv_dtd.specs.Plain.{PlainDtd}
 use Rattle.pv_io.specs.Causes.{CountStays}
-use Rattle.pv_missing.specs.Completing.{IsPotentiallyValid}
+use Rattle.pv_missing.specs.Completions.{IsPotentiallyValid}
 use Rattle.pv_words.specs.Paths.{path_text}
 use Rattle.pv_tree.specs.Plain.{PlainDoc}
 use Rattle.pv_tree.specs.View.{view}

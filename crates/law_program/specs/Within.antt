@@ -14,7 +14,7 @@ use Rattle.pv_io.specs.Causes.{Rose}
 use Rattle.pv_params.specs.Meaning.{Expands, expanded}
 use Rattle.pv_read.specs.Meaning.{DocumentMeans, MAX_DOC_BYTES, is_document}
 use Rattle.pv_standoff.specs.Lines.{RangesMean}
-use Rattle.pv_standoff.specs.Nested.{NestMeans}
+use Rattle.pv_standoff.specs.NestOutcomes.{NestMeans}
 use Rattle.pv_standoff.specs.declared.ranges.Range.{Range}
 use Rattle.pv_tree.specs.Marks.{blank_mark}
 use Rattle.pv_tree.specs.Plain.{PlainDoc}

@@ -23,7 +23,7 @@ use Rattle.pv_bounds.specs.Bounds.{IsBelowSites}
 use Rattle.pv_bounds.specs.Fronts.{cost_from, empty_cost, front_cost, front_value, reaches_at}
 use Rattle.pv_bounds.specs.HoldingForms.{ColumnHolds, CostsNoMore, CutsHold, EmptyHolds, FormCutsHold, TextsHold}
 use Rattle.pv_bounds.specs.declared.fronts.Fronts.{Fronts}
-use Rattle.pv_bounds.proofs.Leasts.{least_light}
+use Rattle.pv_bounds.proofs.LeastCosts.{least_light}
 
 -- T tells the values of cells, which are those of E over no tokens, and else those of L.
 module _ (w : List PlainToken) (T : Cell → ℕ) (E : ℕ → ℕ) (L : ℕ → ℕ → ℕ → ℕ) (long : (c i j : ℕ) → i < j → T (cell c i j) ≡ L c i j) (none : (c i : ℕ) → T (cell c i i) ≡ E c) (c : ℕ) where
@@ -110,7 +110,7 @@ module _ (fronts : Fronts) where
   light_case false x y l m = m
 
   value_light : (x : Cell) → front_cost fronts x ≤ heaviest
-  value_light x = light_case (nat_lt x.from x.to) (cost_from fronts x.column x.from x.to) (empty x.column) (least_light x.to (reaches_at fronts.rows.items x.column x.from)) (omega arith)
+  value_light x = light_case (nat_lt x.from x.to) (cost_from fronts x.column x.from x.to) (empty x.column) (least_light x.to (reaches_at fronts x.column x.from)) (omega arith)
 
   module _ (forms : List PlainForm) (w : List PlainToken) (empties : (c : ℕ) → c < length forms → EmptyHolds empty c (form_at forms c))
       (columns : (c i : ℕ) → c < length forms → i < length w → ColumnHolds w empty (cost_from fronts) c i (form_at forms c) × FormCutsHold w empty (cost_from fronts) c i (form_at forms c)) where

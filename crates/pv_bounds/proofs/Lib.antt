@@ -1,6 +1,7 @@
 pub mod ListBounds
 pub mod ClosedFronts
 pub mod LevelCuts
-pub mod Leasts
+pub mod LeastCosts
+pub mod SharedEnds
 pub mod Stretches
-pub mod Told
+pub mod ChangedLevels

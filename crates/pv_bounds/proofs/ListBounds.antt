@@ -10,7 +10,7 @@ use Rattle.pv_rules.specs.Sites.{HasSite, PlainSite, content_site, name_site}
 use Rattle.pv_tree.specs.Lists.{Listed, Owner, an_element, the_document}
 use Rattle.pv_tree.specs.Words.{word_of}
 use Rattle.pv_missing.specs.ListLaws.{DerivationsMiss, LiveMisses}
-use Rattle.pv_missing.specs.Weighing.{IsBound, site_of, whole}
+use Rattle.pv_missing.specs.ListWeights.{IsBound, site_of, whole}
 use Rattle.pv_bounds.specs.Bounds.{IsBelowSites}
 
 module _ (g : PlainDtd) (s : PlainSite) where

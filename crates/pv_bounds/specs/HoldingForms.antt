@@ -44,7 +44,7 @@ module _ (w : List PlainToken) (E : ℕ → ℕ) (L : ℕ → ℕ → ℕ → �
   ColumnHolds (of_plus d) = CostsNoMore 0 d
   ColumnHolds (of_two d e) = CostsNoMore (E e) d × CostsNoMore (E d) e
 
-  -- the same where a span is cut
+  -- what stands in the column leads to no less where a span is cut
   abbrev pub FormCutsHold : PlainForm → Type 0
   FormCutsHold of_none = Unit {0}
   FormCutsHold (of_element x d) = Unit {0}

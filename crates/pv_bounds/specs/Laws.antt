@@ -6,7 +6,7 @@ use Rattle.pv_rules.specs.Rules.{Goal}
 use Rattle.pv_rules.specs.Sites.{PlainSite}
 use Rattle.pv_tree.specs.Lists.{Listed}
 use Rattle.pv_tree.specs.Words.{word_of}
-use Rattle.pv_missing.specs.Weighing.{IsBound, site_of, whole}
+use Rattle.pv_missing.specs.ListWeights.{IsBound, site_of, whole}
 use Rattle.pv_bounds.specs.Bounds.{IsBelowSites}
 
 -- a table of bounds tells of a list, at its whole word, how many elements are missing at least

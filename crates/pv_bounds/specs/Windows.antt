@@ -2,8 +2,8 @@
 use Rattle.std.specs.Prelude.{List, length, slice_index_or, ℕ, ◌<◌, ◌≤◌}
 use Rattle.std.specs.List.{All, Contains}
 use Rattle.pv_bounds.specs.Fronts.{reaches_at}
+use Rattle.pv_bounds.specs.declared.fronts.Fronts.{Fronts}
 use Rattle.pv_bounds.specs.declared.fronts.Reach.{Reach}
-use Rattle.pv_bounds.specs.declared.fronts.Row.{Row}
 use Rattle.pv_bounds.specs.declared.windows.Level.{Level}
 use Rattle.pv_bounds.specs.declared.windows.Stretch.{Stretch}
 
@@ -36,5 +36,6 @@ AllTold levels k reaches = (m : ℕ) (d : Reach) → m < length reaches →
     TellsReach levels k (slice_index_or reaches m d)
 
 -- the levels tell of the reaches of column c at all places from i up to n
-abbrev pub IsWindow : List Row → ℕ → ℕ → ℕ → List Level → Type 0
-IsWindow rows c i n levels = (k : ℕ) → i ≤ k → k < n → AllTold levels k (reaches_at rows c k)
+abbrev pub IsWindow : Fronts → ℕ → ℕ → ℕ → List Level → Type 0
+IsWindow fronts c i n levels = (k : ℕ) → i ≤ k → k < n →
+    AllTold levels k (reaches_at fronts c k)

@@ -20,11 +20,8 @@ fn costs_no_more(claim: &Claim<'_>, column: u32, other: u32, extra: u32, place: 
         (empty_cost claim.now.fronts.now.empty.items) (cost_from claim.now.fronts.now)
         column place extra other }
 {
-    covers(
-        claim.fronts.at(column, place),
-        claim.fronts.at(other, place),
-        extra,
-    )
+    let here = claim.fronts.at(column, place);
+    covers(&here, &claim.fronts.at(other, place), extra)
 }
 
 // Whether the column of an element costs nothing where the element is there.
@@ -66,7 +63,7 @@ fn texts_hold(claim: &Claim<'_>, column: u32, place: u32) -> bool
     let here = claim.fronts.at(column, place);
     let behind = claim.fronts.at(column, place + 1);
     claim.fronts.cost(column, place, place + 1) <= claim.fronts.empty_at(column)
-        && covers(here, behind, 0)
+        && covers(&here, &behind, 0)
 }
 
 // A column with any number of another, and texts where they may stand there.

@@ -1,18 +1,19 @@
 //! Whether columns cost no more than one column and another after it.
 
 ghost use Rattle.std.specs.Prelude.{◌≡◌, ◌≤◌, ◌+◌, ◌<◌, ℕ, IfOk, IsTrue, OnOk};
-ghost use Rattle.std.specs.Prelude.{length, map, suc};
+ghost use Rattle.std.specs.Prelude.{length, map, slice_index_or, suc};
 ghost use Rattle.pv_model.specs.PlainForms.{plain_token};
 ghost use Rattle.pv_rules.specs.Derivations.{heaviest};
 ghost use Rattle.pv_layout.specs.FormForms.{plain_form};
-ghost use Rattle.pv_bounds.specs.Fronts.{cost_from, empty_cost, least_to};
+ghost use Rattle.pv_bounds.specs.Fronts.{cost_from, empty_cost, front_list, least_to};
 ghost use Rattle.pv_bounds.specs.HoldingForms.{CutsHold, FormCutsHold};
 ghost use Rattle.pv_bounds.specs.Windows.{AllFalling, AreFalling, IsWindow, TellsEnd, TellsReach};
 ghost use Rattle.pv_bounds.specs.declared.fronts.Reach.{Reach};
 
 use crate::claim::Claim;
 use crate::covers::{covers, covers_after, is_within};
-use crate::fronts::{Reach, least_to};
+use crate::front::Front;
+use crate::fronts::Reach;
 use crate::windows::{Level, end_by, furthest, tell_all};
 use pv_chars::NoMemory;
 use pv_layout::Form;
@@ -29,29 +30,29 @@ struct Pair {
     second: u32,
 }
 
-/// The reaches of a column at a place, with what it costs up to a far place.
+/// The front of a column at a place, with what it costs up to a far place.
 #[derive(Clone, Copy)]
 struct Ones<'a> {
-    reaches: &'a [Reach],
+    front: Front<'a>,
     far: u32,
     far_cost: u32,
-    ghost told: { far_cost ≡ least_to far reaches.now },
+    ghost told: { far_cost ≡ least_to far (front_list front) },
 }
 
-// Whether a column, whose reaches these are, costs no more than a reach at the same place, and
+// Whether a column, whose front this is, costs no more than a reach at the same place, and
 // after it a second column as one level tells of it.
 fn level_holds(ones: &Ones<'_>, first: Reach, level: &Level) -> bool
     requires { AreFalling level.now.records.items }
     ensures { IsTrue result → (k e : ℕ) → k ≤ first.end →
         TellsEnd level.now.records.items k e →
-        least_to e ones.now.reaches.now ≤ first.cost + level.now.cost }
+        least_to e (front_list ones.now.front) ≤ first.cost + level.now.cost }
 {
     let cost = u64::from(first.cost) + u64::from(level.cost);
     if u64::from(ones.far_cost) <= cost && end_by(&level.records, ones.far) {
         return true;
     }
     match furthest(&level.records, first.end) {
-        Some(end) => is_within(ones.reaches, end, first.cost, level.cost),
+        Some(end) => is_within(&ones.front, end, first.cost, level.cost),
         None => true,
     }
 }
@@ -61,10 +62,27 @@ fn level_holds(ones: &Ones<'_>, first: Reach, level: &Level) -> bool
 fn levels_hold(ones: &Ones<'_>, first: Reach, levels: &[Level]) -> bool
     requires { AllFalling levels.now }
     ensures { IsTrue result → (k : ℕ) (r : Reach) → k ≤ first.end → TellsReach levels.now k r →
-        least_to r.end ones.now.reaches.now ≤ first.cost + r.cost }
+        least_to r.end (front_list ones.now.front) ≤ first.cost + r.cost }
 {
     for index in 0..levels.len() {
         if !level_holds(ones, first, &levels[index]) {
+            return false;
+        }
+    }
+    true
+}
+
+// Whether the column costs no more than any reach of a first column and the second column, as all
+// levels tell of it.
+fn all_levels_hold(ones: &Ones<'_>, firsts: &Front<'_>, levels: &[Level]) -> bool
+    requires { AllFalling levels.now }
+    ensures { IsTrue result → (m : ℕ) (d : Reach) → m < length (front_list firsts.now) → (k : ℕ)
+        (r : Reach) → k ≤ (slice_index_or (front_list firsts.now) m d).end →
+        TellsReach levels.now k r → least_to r.end (front_list ones.now.front) ≤
+        (slice_index_or (front_list firsts.now) m d).cost + r.cost }
+{
+    for index in 0..firsts.len() {
+        if !levels_hold(ones, firsts.get(index), levels) {
             return false;
         }
     }
@@ -75,24 +93,18 @@ fn levels_hold(ones: &Ones<'_>, first: Reach, levels: &[Level]) -> bool
 // after it, of which these levels tell at all places after this one.
 fn cuts_at(claim: &Claim<'_>, column: u32, first: u32, levels: &[Level], place: u32) -> bool
     requires { AllFalling levels.now }
-    ensures { IsTrue result → (e : ℕ) → IsWindow claim.now.fronts.now.rows.items e (suc place)
+    ensures { IsTrue result → (e : ℕ) → IsWindow claim.now.fronts.now e (suc place)
         claim.now.tokens levels.now → CutsHold (map plain_token claim.now.word.now)
         (empty_cost claim.now.fronts.now.empty.items) (cost_from claim.now.fronts.now)
         column place first e }
 {
-    let reaches = claim.fronts.at(column, place);
+    let front = claim.fronts.at(column, place);
     let ones = Ones {
-        reaches,
+        front,
         far: claim.tokens,
-        far_cost: least_to(reaches, claim.tokens),
+        far_cost: front.least_to(claim.tokens),
     };
-    let firsts = claim.fronts.at(first, place);
-    for index in 0..firsts.len() {
-        if !levels_hold(&ones, firsts[index], levels) {
-            return false;
-        }
-    }
-    true
+    all_levels_hold(&ones, &claim.fronts.at(first, place), levels)
 }
 
 // Whether a column costs no more over the tokens from a place than a first one up to a cut, and a
@@ -102,15 +114,14 @@ fn cut_holds(claim: &Claim<'_>, pair: Pair, place: u32, cut: u32) -> bool
         cost_from claim.now.fronts.now pair.first place cut +
         cost_from claim.now.fronts.now pair.second cut j }
 {
-    let cost = least_to(claim.fronts.at(pair.first, place), cut);
-    covers(
-        claim.fronts.at(pair.column, place),
-        claim.fronts.at(pair.second, cut),
-        cost,
-    )
+    let cost = claim.fronts.at(pair.first, place).least_to(cut);
+    let here = claim.fronts.at(pair.column, place);
+    let there = claim.fronts.at(pair.second, cut);
+    covers(&here, &there, cost)
 }
 
-// The same up to each of the cuts that come after the place, up to a last one.
+// Whether a column costs no more over the tokens from a place than a first one up to a cut, and a
+// second one from there, for each of the cuts after the place, up to a last one.
 fn near_cuts_hold(claim: &Claim<'_>, pair: Pair, place: u32, last: u32) -> bool
     requires within { last < claim.now.tokens }
     requires near { place < last }
@@ -128,11 +139,13 @@ fn near_cuts_hold(claim: &Claim<'_>, pair: Pair, place: u32, last: u32) -> bool
 }
 
 // How much more a front costs than another one, as far as that goes.
-fn more_than(ones: &[Reach], others: &[Reach]) -> u32 {
-    match others.last() {
-        Some(last) => u32::saturating_sub(least_to(ones, last.end), last.cost),
-        None => 0,
+fn more_than(ones: &Front<'_>, others: &Front<'_>) -> u32 {
+    let count = others.len();
+    if count == 0 {
+        return 0;
     }
+    let last = others.get(count - 1);
+    u32::saturating_sub(ones.cost_to(last.end), last.cost)
 }
 
 // Whether a first column goes no further than a place.
@@ -140,7 +153,8 @@ fn ends_by(claim: &Claim<'_>, first: u32, place: u32, last: u32) -> bool
     ensures { IsTrue result → (k : ℕ) → last < k →
         heaviest ≤ cost_from claim.now.fronts.now first place k }
 {
-    covers_after(&[], claim.fronts.at(first, place), 0, last)
+    let firsts = claim.fronts.at(first, place);
+    covers_after(&Front::none(firsts.ends), &firsts, 0, last)
 }
 
 // Whether the cuts after a later place hold at a place where they hold at the later one: the first
@@ -158,14 +172,13 @@ fn is_alike(claim: &Claim<'_>, pair: Pair, place: u32, later: u32) -> bool
     }
     let here = claim.fronts.at(pair.column, place);
     let there = claim.fronts.at(pair.column, later);
-    let more = more_than(here, there);
-    covers(here, there, more)
-        && covers_after(
-            claim.fronts.at(pair.first, later),
-            claim.fronts.at(pair.first, place),
-            more,
-            later,
-        )
+    let more = more_than(&here, &there);
+    if !covers(&here, &there, more) {
+        return false;
+    }
+    let first_there = claim.fronts.at(pair.first, later);
+    let first_here = claim.fronts.at(pair.first, place);
+    covers_after(&first_there, &first_here, more, later)
 }
 
 // Whether all cuts hold at a place where they do at a later one.
@@ -213,14 +226,14 @@ fn tell_from(
 ) -> Result<(), NoMemory>
     requires within { place < claim.now.tokens }
     requires falling { AllFalling levels.old.items }
-    requires window { IsWindow claim.now.fronts.now.rows.items column told claim.now.tokens
+    requires window { IsWindow claim.now.fronts.now column told claim.now.tokens
         levels.old.items }
     ensures falling { OnOk result (AllFalling levels.new.items) }
-    ensures window { OnOk result (IsWindow claim.now.fronts.now.rows.items column (suc place)
+    ensures window { OnOk result (IsWindow claim.now.fronts.now column (suc place)
         claim.now.tokens levels.new.items) }
 {
     for next in (place + 1..told).rev() {
-        tell_all(alloc, levels, claim.fronts.at(column, next), next)?;
+        tell_all(alloc, levels, &claim.fronts.at(column, next), next)?;
     }
     Ok(())
 }

@@ -1,10 +1,12 @@
 //! Fronts: how far each column reaches at each place, for each cost.
 
-ghost use Rattle.std.specs.Prelude.{◌≡◌, slice_index_or};
+ghost use Rattle.std.specs.Prelude.{◌≡◌, ◌++◌, slice_index_or};
 ghost use Rattle.pv_layout.specs.ColumnRules.{cell};
-ghost use Rattle.pv_bounds.specs.Fronts.{cost_up_to, empty_cost, front_cost, least_to, reaches_at};
+ghost use Rattle.pv_bounds.specs.Fronts.{class_of, cost_up_to, empty_cost, far_in, far_reaches};
+ghost use Rattle.pv_bounds.specs.Fronts.{front_cost, front_list, least_to, reaches_at};
 ghost use Rattle.pv_bounds.specs.Fronts.{reaches_in};
 
+use crate::front::Front;
 use pv_rules::HEAVIEST;
 
 /// A column reaches so far: from its place up to `end`, that one left out, at no less than `cost`,
@@ -19,22 +21,41 @@ pub struct Reach {
     pub via: u32,
 }
 
-/// The reaches of all columns at one place.
+/// Some of the ends that fronts share, up to which a front goes on from its near reaches.
+#[derive(Clone, Copy, Debug, PartialEq, Eq)]
+pub struct Far {
+    /// The number of the first of them among all.
+    pub from: u32,
+    /// The number after the last one.
+    pub to: u32,
+    /// What is missing up to the first one; up to each further one it is one more.
+    pub cost: u32,
+}
+
+/// The reaches of all classes of columns at one place.
 #[derive(Debug, Drop)]
 pub struct Row {
-    /// Where the reaches of each column start. Those of a column end where those of the next start.
+    /// Where the near reaches of each class start. Those of a class end where those of the next
+    /// start.
     pub starts: Vec<u32>,
-    /// The reaches, column by column.
+    /// The near reaches, class by class.
     pub reaches: Vec<Reach>,
+    /// The shared ends that follow them, class by class; a class without an entry here has none.
+    pub fars: Vec<Far>,
 }
 
 /// The reaches of all columns at all places of a word, and what each column costs over no tokens.
+/// Columns of one class have the same reaches.
 #[derive(Debug, Drop)]
 pub struct Fronts {
     /// What each column costs over no tokens; one without a number here can't be empty.
     pub empty: Vec<u32>,
+    /// The class of each column; one without a number here has that of its own number.
+    pub classes: Vec<u32>,
     /// The reaches at each place of a token; at a place without a row there are none.
     pub rows: Vec<Row>,
+    /// The ends that fronts share.
+    pub ends: Vec<u32>,
 }
 
 impl Reach {
@@ -72,29 +93,83 @@ fn start_at(starts: &[u32], column: usize) -> usize
     }
 }
 
+// The shared ends of a front, which it has only where they are there and the costs up to them are
+// numbers of 32 bits.
+fn front_with<'a>(near: &'a [Reach], ends: &'a [u32], far: Far) -> Front<'a>
+    ensures reaches { front_list result ≡ near.now ++ far_reaches ends.now far }
+    ensures ends { result.ends.now ≡ ends.now }
+{
+    if far.to as usize <= ends.len() && u64::from(far.cost) + u64::from(far.to) <= 0xffff_ffff {
+        Front {
+            near,
+            ends,
+            from: far.from,
+            to: far.to,
+            cost: far.cost,
+        }
+    } else {
+        Front {
+            near,
+            ends,
+            from: 0,
+            to: 0,
+            cost: 0,
+        }
+    }
+}
+
 impl Row {
-    /// The reaches of a column; none where the starts of it and the next one don't tell them.
-    pub fn at(&self, column: u32) -> &[Reach]
-        ensures { result.now ≡ reaches_in self.now column }
+    /// The near reaches of a class; none where the starts of it and the next one don't tell them.
+    pub fn at(&self, class: u32) -> &[Reach]
+        ensures { result.now ≡ reaches_in self.now class }
     {
-        let first = start_at(&self.starts, column as usize);
-        let end = start_at(&self.starts, column as usize + 1);
+        let first = start_at(&self.starts, class as usize);
+        let end = start_at(&self.starts, class as usize + 1);
         if first <= end && end <= self.reaches.len() {
             &self.reaches[first..end]
         } else {
             &self.reaches[..0]
         }
     }
+
+    /// The shared ends of a class.
+    pub fn far(&self, class: u32) -> Far
+        ensures { result ≡ far_in self.now class }
+    {
+        match self.fars.get(class as usize) {
+            Some(far) => *far,
+            None => Far {
+                from: 0,
+                to: 0,
+                cost: 0,
+            },
+        }
+    }
 }
 
 impl Fronts {
-    /// The reaches of a column at a place.
-    pub fn at(&self, column: u32, place: u32) -> &[Reach]
-        ensures { result.now ≡ reaches_at self.now.rows.items column place }
+    /// The class of a column.
+    pub fn class_of(&self, column: u32) -> u32
+        ensures { result ≡ class_of self.now column }
     {
+        match self.classes.get(column as usize) {
+            Some(class) => *class,
+            None => column,
+        }
+    }
+
+    /// The reaches of a column at a place.
+    pub fn at(&self, column: u32, place: u32) -> Front<'_>
+        ensures reaches { front_list result ≡ reaches_at self.now column place }
+        ensures ends { result.ends.now ≡ self.now.ends.items }
+    {
+        let ends = self.ends.as_slice();
         match self.rows.get(place as usize) {
-            Some(row) => row.at(column),
-            None => &[],
+            Some(row) => {
+                let class = self.class_of(column);
+                front_with(row.at(class), ends, row.far(class))
+            }
+            None => Front::none(ends),
         }
     }
 
@@ -113,7 +188,7 @@ impl Fronts {
         ensures { result ≡ front_cost self.now (cell column from to) }
     {
         if from < to {
-            least_to(self.at(column, from), to)
+            self.at(column, from).least_to(to)
         } else {
             self.empty_at(column)
         }

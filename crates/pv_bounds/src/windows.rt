@@ -2,11 +2,13 @@
 
 ghost use Rattle.std.specs.Prelude.{◌≡◌, ◌≤◌, ◌<◌, ◌-◌, ℕ, IfOk, IsTrue, MatchOption};
 ghost use Rattle.std.specs.Prelude.{length, slice_index_or};
+ghost use Rattle.pv_bounds.specs.Fronts.{front_list};
 ghost use Rattle.pv_bounds.specs.Windows.{AllFalling, AllTold, AreFalling, KeepsTold, TellsReach};
 ghost use Rattle.pv_bounds.specs.Windows.{TellsEnd};
 ghost use Rattle.pv_bounds.specs.declared.windows.Level.{Level};
 ghost use Rattle.pv_bounds.specs.declared.windows.Stretch.{Stretch};
 
+use crate::front::Front;
 use crate::fronts::Reach;
 use pv_chars::NoMemory;
 use std::alloc::Global;
@@ -186,16 +188,16 @@ fn tell(alloc: Global, levels: &mut Vec<Level>, reach: Reach, place: u32) -> Res
 pub fn tell_all(
     alloc: Global,
     levels: &mut Vec<Level>,
-    reaches: &[Reach],
+    front: &Front<'_>,
     place: u32,
 ) -> Result<(), NoMemory>
     requires { AllFalling levels.old.items }
     ensures falling { IfOk result (λ _. AllFalling levels.new.items) }
-    ensures told { IfOk result (λ _. AllTold levels.new.items place reaches.now) }
+    ensures told { IfOk result (λ _. AllTold levels.new.items place (front_list front.now)) }
     ensures kept { IfOk result (λ _. KeepsTold levels.old.items levels.new.items) }
 {
-    for index in 0..reaches.len() {
-        tell(alloc, levels, reaches[index], place)?;
+    for index in 0..front.len() {
+        tell(alloc, levels, front.get(index), place)?;
     }
     Ok(())
 }

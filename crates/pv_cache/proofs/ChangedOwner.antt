@@ -3,7 +3,7 @@ use Rattle.std.proofs.Common.{◌≡◌, ◌∙◌, ap, sym, refl, ℕ, zero, su
 use Rattle.std.proofs.Common.{List, [], ◌∷◌, ◌++◌, length, take, drop, Option, Some, None, subst}
 use Rattle.std.specs.List.{AllByRecursion, between, list_any}
 use Rattle.pv_dtd.specs.Plain.{PlainDtd}
-use Rattle.pv_edit.specs.Brought.{brings_element}
+use Rattle.pv_edit.specs.BroughtElements.{brings_element}
 use Rattle.pv_edit.specs.Changes.{Change, Filling, all_kids, around, change_kid, in_place_of, inner}
 use Rattle.pv_edit.specs.Changes.{list_after, named, others, owner_after, with_name}
 use Rattle.pv_edit.proofs.CutParts.{front-length}
@@ -17,7 +17,7 @@ use Rattle.pv_tree.specs.Plain.{Ending, Forest, Tree, cdata_node, element, fores
 use Rattle.pv_tree.specs.Plain.{misc_node, no_trees, text_node, tree, trees_of}
 use Rattle.pv_tree.specs.declared.nodes.Mark.{Mark}
 use Rattle.pv_tree.specs.declared.nodes.Verdict.{Verdict}
-use Rattle.pv_cache.specs.Changed.{AreJudged, IsJudged, IsInnerJudged, IsOneJudged}
+use Rattle.pv_cache.specs.VerdictsAfterChange.{AreJudged, IsJudged, IsInnerJudged, IsOneJudged}
 use Rattle.pv_cache.specs.Updates.{fresh_mark, update_element, update_kids, update_owner}
 use Rattle.pv_cache.specs.declared.updates.InnerVerdict.{InnerVerdict}
 use Rattle.pv_cache.specs.WellMarked.{EachList, EachListIn, TellsList}

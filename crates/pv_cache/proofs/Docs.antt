@@ -5,7 +5,7 @@ use Rattle.std.specs.List.{between}
 use Rattle.std.specs.Option.{option_map}
 use Rattle.std.proofs.lemmas.List.{length-append}
 use Rattle.pv_dtd.specs.Plain.{PlainDtd}
-use Rattle.pv_edit.specs.Brought.{BringsBare}
+use Rattle.pv_edit.specs.BroughtElements.{BringsBare}
 use Rattle.pv_edit.specs.Changes.{Change, Filling, around, named, others, inner as own_kids}
 use Rattle.pv_edit.specs.Changes.{change_below, first_tree, in_place_of, list_after, owner_after}
 use Rattle.pv_edit.specs.Changes.{root_after}
@@ -13,8 +13,8 @@ use Rattle.pv_edit.specs.Inverses.{name_on}
 use Rattle.pv_edit.proofs.CutParts.{front-length}
 use Rattle.pv_edit.proofs.NodePlaces.{first, NodeAt, down, at_node}
 use Rattle.pv_edit.proofs.StayingLists.{HaveNoKids}
-use Rattle.pv_edit.proofs.Whole.{whole, Made, owner-kids, top-kids}
-use Rattle.pv_edit.proofs.KeptBack.{can-made}
+use Rattle.pv_edit.proofs.DocumentAsElement.{whole, Made, owner-kids, top-kids}
+use Rattle.pv_edit.proofs.ListsKeptByUndo.{can-made}
 use Rattle.pv_edit.specs.Reasons.{kids_at}
 use Rattle.pv_tree.specs.Heads.{heads_of}
 use Rattle.pv_tree.specs.Lists.{an_element, the_document}
@@ -23,13 +23,13 @@ use Rattle.pv_tree.specs.Plain.{Ending, Forest, PlainDoc, Tree, element, forest_
 use Rattle.pv_tree.specs.Plain.{trees_of}
 use Rattle.pv_tree.specs.declared.nodes.Mark.{Mark}
 use Rattle.pv_tree.specs.declared.nodes.Verdict.{Verdict}
-use Rattle.pv_cache.specs.Changed.{AreJudged, IsInnerJudged, owner_at}
+use Rattle.pv_cache.specs.VerdictsAfterChange.{AreJudged, IsInnerJudged, owner_at}
 use Rattle.pv_cache.specs.Laws.{MarksTell, UpdatedIsMarked}
 use Rattle.pv_cache.specs.Updates.{update_below, update_doc, update_kids, update_owner, update_root}
 use Rattle.pv_cache.specs.declared.updates.InnerVerdict.{InnerVerdict}
 use Rattle.pv_cache.specs.WellMarked.{EachListIn, IsWellMarked, TellsList}
-use Rattle.pv_cache.proofs.Around.{ShowsSame, ShowSame, below-shows, changed-around, around-node}
-use Rattle.pv_cache.proofs.Around.{below-head, updated-around, tells-again, tells-same}
+use Rattle.pv_cache.proofs.MarksAroundNodes.{ShowsSame, ShowSame, below-shows, changed-around, around-node}
+use Rattle.pv_cache.proofs.MarksAroundNodes.{below-head, updated-around, tells-again, tells-same}
 use Rattle.pv_cache.proofs.NodeLists.{node-has}
 use Rattle.pv_cache.proofs.TreeMarks.{doc-bad, doc-left, doc-narrow, doc-nodes, doc-told}
 use Rattle.pv_cache.proofs.ChangedOwner.{fresh-tells, kids-heads, list-marked, owner-marked}

@@ -2,13 +2,13 @@
 use Rattle.std.proofs.Common.{List, length, None, Option, Some, [], ap, refl, suc, zero, ℕ, ◌++◌}
 use Rattle.std.proofs.Common.{◌∙◌, ◌∷◌, ◌≡◌}
 use Rattle.pv_dtd.specs.Plain.{PlainDtd}
-use Rattle.pv_edit.specs.Brought.{lists_changed}
+use Rattle.pv_edit.specs.BroughtElements.{lists_changed}
 use Rattle.pv_edit.specs.Changes.{Change, change_below, change_kid}
 use Rattle.pv_tree.specs.Plain.{Forest, PlainDoc, Tree, cdata_node, element, map_marks}
 use Rattle.pv_tree.specs.Plain.{map_marks_all, misc_node, no_trees, text_node, tree}
 use Rattle.pv_tree.specs.declared.nodes.Mark.{Mark}
 use Rattle.pv_tree.specs.declared.nodes.Verdict.{Verdict}
-use Rattle.pv_cache.specs.Changed.{IsInnerJudged}
+use Rattle.pv_cache.specs.VerdictsAfterChange.{IsInnerJudged}
 use Rattle.pv_cache.specs.Updates.{update_element, update_below, update_doc, update_owner}
 use Rattle.pv_cache.specs.Stamps.{changed_by, stamp_of, stamp_lists, stamps_of, with_mark}
 use Rattle.pv_cache.specs.declared.updates.InnerVerdict.{InnerVerdict}

@@ -17,7 +17,7 @@ use Rattle.pv_tree.proofs.Levels.{trees-forest}
 use Rattle.pv_tree.specs.declared.nodes.Mark.{Mark}
 use Rattle.pv_tree.specs.declared.nodes.Node.{Node}
 use Rattle.pv_tree.specs.declared.nodes.Verdict.{Verdict}
-use Rattle.pv_cache.specs.Changed.{IsInnerJudged}
+use Rattle.pv_cache.specs.VerdictsAfterChange.{IsInnerJudged}
 use Rattle.pv_cache.specs.Updates.{IsExchange, OwnerTellsBefore, TellsBefore, kids_beside}
 use Rattle.pv_cache.specs.Updates.{update_element, update_inner}
 use Rattle.pv_cache.specs.WellMarked.{TellsList, own_left, told_left_in, told_nodes_in}

@@ -4,18 +4,18 @@ use Rattle.std.proofs.Common.{◌≤◌, ◌<◌}
 use Rattle.std.proofs.Math.Logic.{∥∥₁_map}
 use Rattle.std.specs.List.{AllByRecursion}
 use Rattle.pv_dtd.specs.Plain.{PlainDtd}
-use Rattle.pv_edit.specs.Brought.{BringsBare, lists_changed}
+use Rattle.pv_edit.specs.BroughtElements.{BringsBare, lists_changed}
 use Rattle.pv_edit.specs.ChangedLists.{changed_lists, makes}
 use Rattle.pv_edit.specs.Changes.{Change, doc_after}
 use Rattle.pv_edit.specs.Effects.{change_of}
-use Rattle.pv_edit.specs.Fitting.{CanChange}
+use Rattle.pv_edit.specs.FittingChanges.{CanChange}
 use Rattle.pv_edit.specs.Reasons.{edit_outcome, gives, is_top, kids_at, outcome, reason_of}
 use Rattle.pv_edit.specs.declared.answers.EditAnswer.{EditAnswer}
 use Rattle.pv_edit.specs.declared.answers.EditAnswer.TheVariants.{Impossible, Limit, NoMemory}
 use Rattle.pv_edit.specs.declared.answers.EditAnswer.TheVariants.{Shape}
 use Rattle.pv_edit.specs.declared.edits.Edit.{Edit}
 use Rattle.pv_edit.specs.declared.reasons.Reason.{Reason}
-use Rattle.pv_edit.proofs.KeptBack.{can-made}
+use Rattle.pv_edit.proofs.ListsKeptByUndo.{can-made}
 use Rattle.pv_missing.specs.Verdicts.{HaveImpossible, HavePossible, is_impossible}
 use Rattle.pv_missing.proofs.Counts.{same_counts}
 use Rattle.pv_tree.specs.Lists.{lists_of}
@@ -23,18 +23,18 @@ use Rattle.pv_tree.specs.Marks.{blank_mark}
 use Rattle.pv_tree.specs.Plain.{PlainDoc, nodes_in}
 use Rattle.pv_tree.specs.declared.nodes.Mark.{Mark}
 use Rattle.pv_tree.specs.declared.nodes.Verdict.{Verdict}
-use Rattle.pv_cache.specs.Accepting.{GetsNoWorse, GetsWorse, HaveBoth, IsAccepted, IsHoldable}
-use Rattle.pv_cache.specs.Accepting.{IsNarrowAt, IsWithinLimits, MAX_EDITED_NODES}
+use Rattle.pv_cache.specs.AcceptedEdits.{GetsNoWorse, GetsWorse, HaveBoth, IsAccepted, IsHoldable}
+use Rattle.pv_cache.specs.AcceptedEdits.{IsNarrowAt, IsWithinLimits, MAX_EDITED_NODES}
 use Rattle.pv_cache.specs.BadLists.{bad_gained, bad_lost}
-use Rattle.pv_cache.specs.Changed.{AreJudged, IsFirstImpossibleAt, owner_at}
-use Rattle.pv_cache.specs.Changing.{IsUnaccepted}
+use Rattle.pv_cache.specs.VerdictsAfterChange.{AreJudged, IsFirstImpossibleAt, owner_at}
+use Rattle.pv_cache.specs.MarkedTasks.{IsUnaccepted}
 use Rattle.pv_cache.specs.Updates.{update_doc}
 use Rattle.pv_cache.specs.Moves.{HasGround}
 use Rattle.pv_cache.specs.WellMarked.{IsWellMarked, told_bad, verdicts_told}
 use Rattle.pv_cache.specs.declared.updates.InnerVerdict.{InnerVerdict}
 use Rattle.pv_cache.proofs.ImpossibleCounts.{updated-counted}
 use Rattle.pv_cache.proofs.Docs.{updated-marked}
-use Rattle.pv_cache.proofs.FirstChanged.{first-is-first}
+use Rattle.pv_cache.proofs.FirstChangedList.{first-is-first}
 use Rattle.pv_cache.proofs.Limits.{narrow_paths, paths_narrow}
 use Rattle.pv_cache.proofs.Tasks.{judged-narrow}
 use Rattle.pv_cache.proofs.TreeMarks.{doc-bad, doc-left, doc-narrow, doc-told}

@@ -5,7 +5,7 @@ use Rattle.std.proofs.Common.{map, Bool, ◌||◌}
 use Rattle.std.proofs.lemmas.List.Edits.{split_between}
 use Rattle.std.specs.List.{between, list_any}
 use Rattle.pv_cache.specs.BadLists.{bad_gained, bad_gone, own_at, own_in, own_inner, own_of}
-use Rattle.pv_cache.specs.Changed.{IsInnerJudged}
+use Rattle.pv_cache.specs.VerdictsAfterChange.{IsInnerJudged}
 use Rattle.pv_cache.specs.Laws.{UpdatedIsCounted}
 use Rattle.pv_cache.specs.Updates.{update_below, update_doc, update_element, update_kids, update_owner}
 use Rattle.pv_cache.specs.WellMarked.{bad_in, bad_in_all, own_bad, told_bad}
@@ -15,17 +15,17 @@ use Rattle.pv_cache.proofs.Limits.{node_changed}
 use Rattle.pv_cache.proofs.ChangedOwner.{bare, came-parts}
 use Rattle.pv_cache.proofs.TreeMarks.{all-bad-within, own-bad-small}
 use Rattle.pv_dtd.specs.Plain.{PlainDtd}
-use Rattle.pv_edit.specs.Brought.{brings_element}
+use Rattle.pv_edit.specs.BroughtElements.{brings_element}
 use Rattle.pv_edit.specs.Changes.{Change, Filling, all_kids, around, change_below, change_kid}
 use Rattle.pv_edit.specs.Changes.{doc_after, first_tree, in_place_of, inner, list_after, named}
 use Rattle.pv_edit.specs.Changes.{others, owner_after, root_after, with_name}
-use Rattle.pv_edit.specs.Fitting.{CanFill}
+use Rattle.pv_edit.specs.FittingChanges.{CanFill}
 use Rattle.pv_edit.specs.Reasons.{is_one_element}
-use Rattle.pv_edit.proofs.KeptBack.{can-made}
+use Rattle.pv_edit.proofs.ListsKeptByUndo.{can-made}
 use Rattle.pv_edit.proofs.Levels.{forest-trees}
 use Rattle.pv_edit.proofs.NodePlaces.{KidAt, NodeAt, at_node, down, first, here, later}
 use Rattle.pv_edit.proofs.StayingLists.{HaveNoKids}
-use Rattle.pv_edit.proofs.Whole.{Made, top-kids}
+use Rattle.pv_edit.proofs.DocumentAsElement.{Made, top-kids}
 use Rattle.pv_tree.specs.Places.{Spot, at_document, spot_at}
 use Rattle.pv_tree.specs.Places.{at_node as at_spot}
 use Rattle.std.specs.Option.{option_map}

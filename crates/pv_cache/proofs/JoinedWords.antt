@@ -5,7 +5,7 @@ use Rattle.std.proofs.lemmas.List.{drop-map, take-map}
 use Rattle.pv_chars.specs.Texts.{has_data}
 use Rattle.pv_dtd.specs.Plain.{PlainDtd}
 use Rattle.pv_edit.specs.Changes.{in_place_of, with_name}
-use Rattle.pv_edit.specs.Fitting.{plain_filling}
+use Rattle.pv_edit.specs.FittingChanges.{plain_filling}
 use Rattle.pv_edit.specs.Reasons.{is_one_element}
 use Rattle.pv_edit.specs.declared.filling.Filling.{Filling}
 use Rattle.pv_edit.specs.declared.filling.Filling.TheVariants.{Around, Named}

@@ -13,7 +13,7 @@ use Rattle.pv_tree.specs.declared.nodes.Mark.{Mark}
 use Rattle.pv_tree.specs.declared.nodes.Node.{Node}
 use Rattle.pv_tree.specs.declared.nodes.Verdict.{Verdict}
 use Rattle.pv_tree.specs.declared.nodes.Verdict.TheVariants as verdict
-use Rattle.pv_cache.specs.Laying.{lay_node, lay_kids, lists_in, lists_in_all, nth_verdict}
+use Rattle.pv_cache.specs.LaidMarks.{lay_node, lay_kids, lists_in, lists_in_all, nth_verdict}
 use Rattle.pv_cache.specs.Updates.{IsCounted, IsDocCounted, update_doc}
 use Rattle.pv_cache.specs.WellMarked.{own_left, told_left, told_left_in, told_nodes, told_nodes_in}
 

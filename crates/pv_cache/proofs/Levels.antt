@@ -6,7 +6,7 @@ use Rattle.std.specs.Prelude.{IsSomeAnd}
 use Rattle.std.specs.Option.{option_map}
 use Rattle.std.proofs.lemmas.Option.{slice_get-map, slice_get_within, get_or_from_slice_get}
 use Rattle.pv_edit.specs.Changes.{change_below, change_kid}
-use Rattle.pv_edit.specs.Fitting.{with_kids}
+use Rattle.pv_edit.specs.FittingChanges.{with_kids}
 use Rattle.pv_edit.proofs.Levels.{first_changed, path-split, put_back}
 use Rattle.pv_edit.proofs.NodePlaces.{KidAt, first, later, kid_at}
 use Rattle.pv_tree.specs.Places.{kids_of}

@@ -8,12 +8,12 @@ use Rattle.pv_dtd.specs.Plain.{PlainDtd}
 use Rattle.pv_edit.specs.Changes.{Change, Filling, around, change_below, change_kid, doc_after}
 use Rattle.pv_edit.specs.Changes.{in_place_of, inner, list_after, named, others, owner_after}
 use Rattle.pv_edit.specs.Changes.{root_after, with_name}
-use Rattle.pv_edit.specs.Fitting.{CanFill}
+use Rattle.pv_edit.specs.FittingChanges.{CanFill}
 use Rattle.pv_edit.specs.Reasons.{is_one_element, items_of, kids_at}
 use Rattle.pv_edit.proofs.CutParts.{front-length}
 use Rattle.pv_edit.proofs.ListPlaces.{spot-kid}
 use Rattle.pv_edit.proofs.NodePlaces.{KidAt, NodeAt, at_node, down, first, here, later}
-use Rattle.pv_edit.proofs.Whole.{Made, owner-kids, top-kids}
+use Rattle.pv_edit.proofs.DocumentAsElement.{Made, owner-kids, top-kids}
 use Rattle.pv_missing.specs.Widths.{FitsVerdict}
 use Rattle.pv_tree.specs.Places.{list_at, list_of, node_below, spot_at}
 use Rattle.pv_tree.specs.Places.{at_node as at_spot}
@@ -22,12 +22,12 @@ use Rattle.pv_tree.specs.Plain.{is_element, misc_node, text_node, trees_of}
 use Rattle.pv_tree.specs.Words.{word_of}
 use Rattle.pv_tree.proofs.Levels.{trees-forest}
 use Rattle.pv_tree.specs.declared.nodes.Mark.{Mark}
-use Rattle.pv_cache.specs.Accepting.{IsNarrowAt}
-use Rattle.pv_edit.specs.Brought.{BringsBare, brings_element, lists_changed}
-use Rattle.pv_cache.specs.Changing.{AreNarrowAfter}
+use Rattle.pv_cache.specs.AcceptedEdits.{IsNarrowAt}
+use Rattle.pv_edit.specs.BroughtElements.{BringsBare, brings_element, lists_changed}
+use Rattle.pv_cache.specs.MarkedTasks.{AreNarrowAfter}
 use Rattle.pv_cache.proofs.Docs.{in-root, only}
 use Rattle.pv_edit.proofs.Levels.{forest-trees}
-use Rattle.pv_cache.proofs.Ready.{get-middle}
+use Rattle.pv_cache.proofs.UpdatableDocuments.{get-middle}
 
 module _ {M : Type 0} where
   kid_changed : {i : ℕ} {kids : Forest M} {k : Tree M} (f : Tree M → Tree M) → KidAt i kids k →

@@ -3,14 +3,14 @@ use Rattle.std.proofs.Common.{List, Option, None, Some, [], ap, arith, append_as
 use Rattle.std.proofs.Common.{refl, suc, sym, zero, ℕ, ◌+◌, ◌++◌, ◌∙◌, ◌∷◌, ◌≡◌, slice_get}
 use Rattle.std.specs.List.{AllByRecursion}
 use Rattle.std.specs.Option.{option_and_then, option_map}
-use Rattle.pv_cache.specs.Changed.{owner_at}
+use Rattle.pv_cache.specs.VerdictsAfterChange.{owner_at}
 use Rattle.pv_edit.specs.Inverses.{name_on}
 use Rattle.pv_edit.proofs.Levels.{forest-trees}
 use Rattle.pv_tree.specs.Lists.{Listed, an_element, lists_at, lists_from, lists_of}
 use Rattle.pv_tree.specs.Places.{at_node, kids_of, list_at, list_of, node_below}
 use Rattle.pv_tree.specs.Plain.{Forest, PlainDoc, Tree, cdata_node, element, forest_of, misc_node}
 use Rattle.pv_tree.specs.Plain.{no_trees, text_node, tree, trees_of}
-use Rattle.pv_tree.proofs.Every.{all_joined, all_left, all_right}
+use Rattle.pv_tree.proofs.JoinedLists.{all_joined, all_left, all_right}
 
 -- the name of the node below another
 abbrev name_below : {M : Type 0} → Option (Tree M) → List ℕ

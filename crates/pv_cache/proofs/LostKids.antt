@@ -6,12 +6,12 @@ use Rattle.std.proofs.Math.Bridge.{le_prop}
 use Rattle.std.proofs.Math.Logic.{∥∥₁_elim}
 use Rattle.pv_dtd.specs.Plain.{PlainDtd}
 use Rattle.pv_edit.specs.Changes.{Change}
-use Rattle.pv_edit.specs.Fitting.{CanChange}
+use Rattle.pv_edit.specs.FittingChanges.{CanChange}
 use Rattle.pv_edit.specs.Reasons.{is_top, kids_at}
-use Rattle.pv_edit.proofs.KeptBack.{can-made}
+use Rattle.pv_edit.proofs.ListsKeptByUndo.{can-made}
 use Rattle.pv_edit.proofs.Levels.{forest-trees}
 use Rattle.pv_edit.proofs.NodePlaces.{at_node}
-use Rattle.pv_edit.proofs.Whole.{Made, owner-kids, top-kids}
+use Rattle.pv_edit.proofs.DocumentAsElement.{Made, owner-kids, top-kids}
 use Rattle.pv_tree.specs.Legal.{MAX_NODES}
 use Rattle.pv_tree.specs.Plain.{PlainDoc, Tree, forest_of, nodes_in}
 use Rattle.pv_tree.specs.declared.nodes.Mark.{Mark}

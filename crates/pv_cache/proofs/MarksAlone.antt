@@ -9,7 +9,7 @@ use Rattle.pv_tree.specs.Plain.{Forest, PlainDoc, Tree, cdata_node, element, mis
 use Rattle.pv_tree.specs.Plain.{map_marks_all, nodes_in, text_node, tree, without_marks}
 use Rattle.pv_tree.specs.declared.nodes.Mark.{Mark}
 use Rattle.pv_tree.specs.declared.nodes.Verdict.{Verdict}
-use Rattle.pv_cache.specs.Accepting.{MAX_EDITED_NODES}
+use Rattle.pv_cache.specs.AcceptedEdits.{MAX_EDITED_NODES}
 use Rattle.pv_cache.specs.Updates.{update_element, update_below, update_doc, update_kids, update_owner}
 use Rattle.pv_cache.specs.Updates.{update_root}
 use Rattle.pv_cache.specs.declared.updates.InnerVerdict.{InnerVerdict}

@@ -2,12 +2,12 @@
 use Rattle.std.proofs.Common.{List, ap, arith, refl, subst, sym, ℕ, ◌≡◌}
 use Rattle.std.proofs.Math.Logic.{∥∥₁_elim}
 use Rattle.std.specs.Coded.{Coded-set, coded_list, coded_ℕ}
-use Rattle.pv_cache.specs.Accepting.{GetsNoWorse, GetsWorse, IsAccepted, IsWithinLimits}
-use Rattle.pv_cache.specs.Changed.{IsFirstImpossibleAt}
+use Rattle.pv_cache.specs.AcceptedEdits.{GetsNoWorse, GetsWorse, IsAccepted, IsWithinLimits}
+use Rattle.pv_cache.specs.VerdictsAfterChange.{IsFirstImpossibleAt}
 use Rattle.pv_cache.specs.GroundLaws.{AcceptedHasNoGround, HasOneGround}
 use Rattle.pv_cache.specs.Moves.{HasGround}
-use Rattle.pv_cache.proofs.Alike.{accepted_as, ground_as}
-use Rattle.pv_cache.proofs.FirstChanged.{one_first_at}
+use Rattle.pv_cache.proofs.RemarkedDocuments.{accepted_as, ground_as}
+use Rattle.pv_cache.proofs.FirstChangedList.{one_first_at}
 use Rattle.pv_dtd.specs.Plain.{PlainDtd}
 use Rattle.pv_edit.specs.ChangedLists.{changed_lists, makes}
 use Rattle.pv_edit.specs.Reasons.{Outcome, edit_outcome, gives, refuses}

@@ -1,5 +1,5 @@
 -- What a document shows whatever its marks are.
-use Rattle.std.proofs.Common.{List, ap, refl, suc, ℕ, ◌+◌, ◌∙◌, ◌∷◌, ◌≡◌}
+use Rattle.std.proofs.Common.{ap, refl, suc, ◌+◌, ◌∙◌, ◌∷◌, ◌≡◌}
 use Rattle.pv_dtd.specs.Plain.{PlainDtd}
 use Rattle.pv_missing.proofs.VerdictHeads.{same_word}
 use Rattle.pv_reach.proofs.OtherMarks.{view_as}

@@ -11,8 +11,8 @@ use Rattle.pv_model.specs.PlainForms.{plain_token}
 use Rattle.pv_tree.specs.Plain.{Tree, cdata_node, element, forest_of, misc_node, text_node}
 use Rattle.pv_tree.specs.Words.{word_of}
 use Rattle.pv_tree.specs.declared.nodes.Mark.{Mark}
-use Rattle.pv_cache.specs.Judging.{AreListTokens, IsSpliced}
-use Rattle.pv_cache.specs.Shown.{number_shown, shown_of}
+use Rattle.pv_cache.specs.ChangedWords.{AreListTokens, IsSpliced}
+use Rattle.pv_cache.specs.ShownKids.{number_shown, shown_of}
 use Rattle.pv_tree.specs.Heads.{has_token, head_of}
 use Rattle.pv_cache.specs.declared.words.ListTokens.{ListTokens}
 use Rattle.pv_cache.proofs.JoinedWords.{word-joined}

@@ -10,12 +10,12 @@ use Rattle.std.specs.Result.{IsErr, IsErrAnd}
 use Rattle.std.specs.Coded.{Coded-set, Unit-prop, coded_ℕ, ×_prop}
 use Rattle.std.specs.List.{AllByRecursion}
 use Rattle.pv_dtd.specs.Plain.{PlainDtd}
-use Rattle.pv_edit.specs.Brought.{BringsBare, lists_changed}
+use Rattle.pv_edit.specs.BroughtElements.{BringsBare, lists_changed}
 use Rattle.pv_edit.specs.ChangedLists.{changed_lists, makes, undoes}
 use Rattle.pv_edit.specs.Changes.{Change, doc_after}
 use Rattle.pv_edit.specs.Counts.{nodes_made, nodes_taken}
 use Rattle.pv_edit.specs.Effects.{change_of}
-use Rattle.pv_edit.specs.Fitting.{CanChange}
+use Rattle.pv_edit.specs.FittingChanges.{CanChange}
 use Rattle.pv_edit.specs.Inverses.{IsKept, LeadsBack, change_back, doc_back, inverse_of}
 use Rattle.pv_edit.specs.Laws.{EditsChangeLists, InversesChangeLists, LeadsToOne, NodesAreCounted}
 use Rattle.pv_edit.specs.Reasons.{edit_outcome, gives, is_top, kids_at, reason_of}
@@ -27,7 +27,7 @@ use Rattle.pv_edit.specs.declared.reasons.EditError.{EditError}
 use Rattle.pv_edit.specs.declared.reasons.EditError.TheVariants as error
 use Rattle.pv_edit.specs.declared.inverses.Inverse.{Inverse}
 use Rattle.pv_edit.specs.declared.tasks.Preparation.{Preparation}
-use Rattle.pv_edit.proofs.KeptBack.{can-made}
+use Rattle.pv_edit.proofs.ListsKeptByUndo.{can-made}
 use Rattle.pv_edit.proofs.RemarkedReasons.{inverse-as}
 use Rattle.pv_missing.specs.Verdicts.{is_impossible, is_possible}
 use Rattle.pv_missing.specs.Widths.{IsListForVerdict}
@@ -36,16 +36,16 @@ use Rattle.pv_tree.specs.Marks.{blank_mark, unmarked_doc}
 use Rattle.pv_tree.specs.Plain.{PlainDoc, nodes_in}
 use Rattle.pv_tree.specs.declared.nodes.Mark.{Mark}
 use Rattle.pv_tree.specs.declared.nodes.Verdict.{Verdict}
-use Rattle.pv_cache.specs.Accepting.{IsAccepted, IsHoldable, MAX_EDITED_NODES}
+use Rattle.pv_cache.specs.AcceptedEdits.{IsAccepted, IsHoldable, MAX_EDITED_NODES}
 use Rattle.pv_cache.specs.BadLists.{bad_gained, bad_lost}
-use Rattle.pv_cache.specs.Changed.{AreJudged, owner_at}
-use Rattle.pv_cache.specs.Changing.{AreNarrowAfter, IsUnaccepted}
+use Rattle.pv_cache.specs.VerdictsAfterChange.{AreJudged, owner_at}
+use Rattle.pv_cache.specs.MarkedTasks.{AreNarrowAfter, IsUnaccepted}
 use Rattle.pv_cache.specs.declared.updates.InnerVerdict.{InnerVerdict}
 use Rattle.pv_cache.specs.Moves.{HasBad, HasGround, HasOpen, IsEdited, IsReverted}
 use Rattle.pv_cache.specs.Stamps.{doc_as, stamp_of, stamp_lists, stamped_doc_of, stamps_of}
 use Rattle.pv_cache.specs.WellMarked.{IsWellMarked, told_bad}
-use Rattle.pv_cache.proofs.Alike.{accepted_as, count_to, ground_as, holdable_alike, reverted_as}
-use Rattle.pv_cache.proofs.Alike.{unmarked_as}
+use Rattle.pv_cache.proofs.RemarkedDocuments.{accepted_as, count_to, ground_as, holdable_alike, reverted_as}
+use Rattle.pv_cache.proofs.RemarkedDocuments.{unmarked_as}
 use Rattle.pv_cache.proofs.Grounds.{is_accepted, is_given, many_ground, marked_bad, marked_holdable}
 use Rattle.pv_cache.proofs.Grounds.{marked_open, refused_ground}
 use Rattle.pv_cache.proofs.Limits.{paths_narrow}

@@ -5,16 +5,16 @@ use Rattle.std.specs.Prelude.{Err, IfErr, IfOk, IfSome, MatchOption, Ok, Result}
 use Rattle.std.specs.List.{between}
 use Rattle.std.proofs.lemmas.List.{length-map}
 use Rattle.pv_dtd.specs.Plain.{PlainDtd}
-use Rattle.pv_edit.specs.Brought.{brings_element}
+use Rattle.pv_edit.specs.BroughtElements.{brings_element}
 use Rattle.pv_edit.specs.Changes.{Change, in_place_of, list_after}
-use Rattle.pv_edit.specs.Fitting.{CanChange, SuitsChange}
+use Rattle.pv_edit.specs.FittingChanges.{CanChange, SuitsChange}
 use Rattle.pv_edit.specs.Reasons.{is_given, is_top, kids_at, lacks_list}
-use Rattle.pv_edit.proofs.KeptBack.{can-made}
+use Rattle.pv_edit.proofs.ListsKeptByUndo.{can-made}
 use Rattle.pv_edit.proofs.Levels.{forest-trees}
 use Rattle.pv_edit.proofs.NodePlaces.{KidAt, NodeAt, at_node, down, first, here, later}
-use Rattle.pv_edit.proofs.Whole.{Made, list-whole, owner-kids}
+use Rattle.pv_edit.proofs.DocumentAsElement.{Made, list-whole, owner-kids}
 use Rattle.pv_edit.specs.declared.answers.EditAnswer.TheVariants.{Impossible}
-use Rattle.pv_missing.specs.Weighing.{site_of}
+use Rattle.pv_missing.specs.ListWeights.{site_of}
 use Rattle.pv_missing.specs.Widths.{FitsVerdict}
 use Rattle.pv_missing.specs.WordVerdicts.{HoldsOne}
 use Rattle.pv_model.specs.PlainForms.{plain_token}
@@ -29,15 +29,15 @@ use Rattle.pv_tree.specs.Words.{word_of}
 use Rattle.pv_tree.specs.declared.nodes.Mark.{Mark}
 use Rattle.pv_tree.specs.declared.nodes.Verdict.{Verdict}
 use Rattle.pv_cache.specs.BadLists.{bad_gained, bad_lost}
-use Rattle.pv_cache.specs.Changed.{AreJudged, IsFirstAmong, IsInnerJudged, owner_at}
-use Rattle.pv_cache.specs.Changing.{AreNarrowAfter, IsUnaccepted}
-use Rattle.pv_cache.specs.Judging.{AreFound, AreNarrow, AreWords, IsInnerWord, IsWordOf}
+use Rattle.pv_cache.specs.VerdictsAfterChange.{AreJudged, IsFirstAmong, IsInnerJudged, owner_at}
+use Rattle.pv_cache.specs.MarkedTasks.{AreNarrowAfter, IsUnaccepted}
+use Rattle.pv_cache.specs.ChangedWords.{AreFound, AreNarrow, AreWords, IsInnerWord, IsWordOf}
 use Rattle.pv_cache.specs.declared.updates.ChangedVerdicts.{ChangedVerdicts}
 use Rattle.pv_cache.specs.declared.updates.InnerVerdict.{InnerVerdict}
 use Rattle.pv_cache.specs.declared.words.InnerWord.{InnerWord}
 use Rattle.pv_cache.specs.declared.words.ListWord.{ListWord}
 use Rattle.pv_cache.specs.declared.words.Words.{Words}
-use Rattle.pv_cache.proofs.Found.{found-judged}
+use Rattle.pv_cache.proofs.VerdictsByWords.{found-judged}
 use Rattle.pv_reach.specs.declared.errors.ReachError.{ReachError}
 use Rattle.pv_reach.specs.declared.errors.ReachError.TheVariants as reach
 

@@ -20,13 +20,13 @@ use Rattle.pv_tree.specs.Plain.{map_marks, map_marks_all, misc_node, no_trees, t
 use Rattle.pv_tree.specs.Plain.{trees_of}
 use Rattle.pv_tree.specs.declared.nodes.Mark.{Mark}
 use Rattle.pv_tree.specs.declared.nodes.Verdict.{Verdict}
-use Rattle.pv_cache.specs.Changed.{owner_at}
+use Rattle.pv_cache.specs.VerdictsAfterChange.{owner_at}
 use Rattle.pv_cache.specs.Rows.{AreRows, IsVerdictAt, marks_in, marks_in_all, path_of, row_path}
 use Rattle.pv_cache.specs.Rows.{row_stamp, row_verdict, rows_at, rows_from, rows_of}
 use Rattle.pv_cache.specs.Stamps.{stamp_of, stamped_doc_of, stamps_of}
 use Rattle.pv_cache.specs.WellMarked.{IsWellMarked, TellsList, told_verdict, told_verdicts}
 use Rattle.pv_cache.specs.WellMarked.{told_verdicts_in, verdicts_told}
-use Rattle.pv_cache.proofs.Alike.{list_at_as}
+use Rattle.pv_cache.proofs.RemarkedDocuments.{list_at_as}
 use Rattle.pv_cache.proofs.Limits.{spot_list}
 use Rattle.pv_cache.proofs.ListMarks.{verdicts_to}
 use Rattle.pv_cache.proofs.NodeLists.{node-has}

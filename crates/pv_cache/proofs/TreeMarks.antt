@@ -10,7 +10,7 @@ use Rattle.pv_missing.specs.Widths.{IsListForVerdict}
 use Rattle.pv_tree.specs.Lists.{Listed, lists_at, lists_from, lists_of}
 use Rattle.pv_tree.specs.Plain.{Forest, PlainDoc, Tree, cdata_node, element, misc_node, no_trees}
 use Rattle.pv_tree.specs.Plain.{text_node, tree, nodes_in, nodes_in_all}
-use Rattle.pv_tree.proofs.Every.{all_joined}
+use Rattle.pv_tree.proofs.JoinedLists.{all_joined}
 use Rattle.pv_tree.specs.declared.nodes.Mark.{Mark}
 use Rattle.pv_tree.specs.declared.nodes.Verdict.{Verdict}
 use Rattle.pv_tree.specs.declared.nodes.Verdict.TheVariants as verdict

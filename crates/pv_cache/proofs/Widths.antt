@@ -11,14 +11,14 @@ use Rattle.pv_edit.proofs.KeptLists.{keeps-lists}
 use Rattle.pv_edit.proofs.Levels.{forest-trees}
 use Rattle.pv_missing.specs.Widths.{FitsVerdict, IsFirstTooWide, IsListForVerdict}
 use Rattle.pv_missing.proofs.VerdictHeads.{same_word}
-use Rattle.pv_cache.specs.Accepting.{IsHoldable, IsNarrowAt, IsWithinLimits}
+use Rattle.pv_cache.specs.AcceptedEdits.{IsHoldable, IsNarrowAt, IsWithinLimits}
 use Rattle.pv_cache.proofs.ListPlaces.{Stands, all_stand, had_at}
 use Rattle.pv_tree.specs.Heads.{heads_of}
 use Rattle.pv_tree.specs.Lists.{Listed, lists_of}
 use Rattle.pv_tree.specs.Plain.{PlainDoc, Tree, forest_of, trees_of}
 use Rattle.pv_tree.specs.Words.{word_of}
-use Rattle.pv_tree.proofs.Decidable.{are_same}
-use Rattle.pv_tree.proofs.Every.{all_right}
+use Rattle.pv_tree.proofs.Decisions.{are_same}
+use Rattle.pv_tree.proofs.JoinedLists.{all_right}
 
 module _ {M : Type 0} (g : PlainDtd) where
   -- where no list is too wide, none is at any path

@@ -1,6 +1,6 @@
 -- What holds of grounds to refuse an edit. M and N are types of marks.
 use Rattle.std.specs.Prelude.{IsTrue, List, ℕ, ◌↔◌, ◌≡◌}
-use Rattle.pv_cache.specs.Accepting.{HaveBoth, IsAccepted, IsHoldable, KeepsPossible}
+use Rattle.pv_cache.specs.AcceptedEdits.{HaveBoth, IsAccepted, IsHoldable, KeepsPossible}
 use Rattle.pv_cache.specs.Moves.{HasGround}
 use Rattle.pv_dtd.specs.Plain.{PlainDtd}
 use Rattle.pv_dtd.specs.Proper.{IsProperDtd}

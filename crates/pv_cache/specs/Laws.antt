@@ -2,7 +2,7 @@
 use Rattle.std.specs.Prelude.{List, Option, true, false, ℕ, ◌+◌, ◌≡◌}
 use Rattle.std.specs.List.{AllByRecursion}
 use Rattle.pv_cache.specs.BadLists.{bad_gained, bad_lost}
-use Rattle.pv_cache.specs.Changed.{AreJudged, IsFirstAmong, IsFirstImpossibleAt, owner_at}
+use Rattle.pv_cache.specs.VerdictsAfterChange.{AreJudged, IsFirstAmong, IsFirstImpossibleAt, owner_at}
 use Rattle.pv_cache.specs.Updates.{update_doc}
 use Rattle.pv_cache.specs.Moves.{HasBad, HasOpen}
 use Rattle.pv_cache.specs.Rows.{AreRows}
@@ -10,9 +10,9 @@ use Rattle.pv_cache.specs.Stamps.{StampedDoc}
 use Rattle.pv_cache.specs.WellMarked.{IsWellMarked, told_bad, verdicts_told}
 use Rattle.pv_cache.specs.declared.updates.InnerVerdict.{InnerVerdict}
 use Rattle.pv_dtd.specs.Plain.{PlainDtd}
-use Rattle.pv_edit.specs.Brought.{BringsBare, lists_changed}
+use Rattle.pv_edit.specs.BroughtElements.{BringsBare, lists_changed}
 use Rattle.pv_edit.specs.Changes.{Change, doc_after}
-use Rattle.pv_edit.specs.Fitting.{CanChange}
+use Rattle.pv_edit.specs.FittingChanges.{CanChange}
 use Rattle.pv_edit.specs.declared.answers.VerdictRow.{VerdictRow}
 use Rattle.pv_edit.specs.Reasons.{is_top, kids_at}
 use Rattle.pv_missing.specs.Verdicts.{AreVerdicts, impossible_in, possible_in}

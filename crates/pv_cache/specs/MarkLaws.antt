@@ -1,6 +1,6 @@
 -- What holds of a document whatever its marks are. M and N are types of marks.
 use Rattle.std.specs.Prelude.{List, ℕ, ◌≡◌}
-use Rattle.pv_cache.specs.Accepting.{IsAccepted, IsHoldable}
+use Rattle.pv_cache.specs.AcceptedEdits.{IsAccepted, IsHoldable}
 use Rattle.pv_cache.specs.Stamps.{doc_as}
 use Rattle.pv_dtd.specs.Plain.{PlainDtd}
 use Rattle.pv_edit.specs.Inverses.{IsKept, inverse_of}

@@ -1,7 +1,7 @@
 -- Edits of a document with stamps, and taking them back.
 use Rattle.std.specs.Prelude.{◌≡◌, List, length, ℕ}
-use Rattle.pv_cache.specs.Accepting.{GetsWorse, IsAccepted, IsWithinLimits}
-use Rattle.pv_cache.specs.Changed.{IsFirstImpossibleAt}
+use Rattle.pv_cache.specs.AcceptedEdits.{GetsWorse, IsAccepted, IsWithinLimits}
+use Rattle.pv_cache.specs.VerdictsAfterChange.{IsFirstImpossibleAt}
 use Rattle.pv_cache.specs.Stamps.{StampedDoc, stamp_lists}
 use Rattle.pv_dtd.specs.Plain.{PlainDtd}
 use Rattle.pv_edit.specs.ChangedLists.{changed_lists, makes, undoes}

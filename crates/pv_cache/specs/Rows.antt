@@ -1,6 +1,6 @@
 -- What the marks of a document tell of each list.
 use Rattle.std.specs.Prelude.{◌≡◌, List, [], Some, map, suc, ℕ, ◌++◌, ◌∷◌}
-use Rattle.pv_cache.specs.Changed.{owner_at}
+use Rattle.pv_cache.specs.VerdictsAfterChange.{owner_at}
 use Rattle.pv_cache.specs.Stamps.{StampedDoc}
 use Rattle.pv_dtd.specs.Plain.{PlainDtd}
 use Rattle.pv_edit.specs.declared.answers.VerdictRow.{VerdictRow}

@@ -42,7 +42,7 @@ abbrev pub with_mark_at : {M : Type 0} → M → List ℕ → PlainDoc M → Pla
 with_mark_at m [] doc = record doc { mark = m }
 with_mark_at m (i ∷ path) doc = record doc { root = change_below path (with_mark m) doc.root }
 
--- the same of the lists at these paths
+-- a document in which the lists at these paths have another mark
 abbrev pub stamp_lists : {M : Type 0} → M → List (List ℕ) → PlainDoc M → PlainDoc M
 stamp_lists m [] doc = doc
 stamp_lists m (path ∷ paths) doc = stamp_lists m paths (with_mark_at m path doc)

@@ -53,7 +53,7 @@ update_kid inner stamp (text_node units) = text_node units
 update_kid inner stamp (cdata_node bytes) = cdata_node bytes
 update_kid inner stamp (misc_node bytes) = misc_node bytes
 
--- the same, where there is such a kid
+-- an element with a kid whose own list has changed, where there is such a kid
 abbrev pub update_inner : Option InnerVerdict → ℕ → Tree Mark → Tree Mark
 update_inner None stamp t = t
 update_inner (Some inner) stamp t = update_kid inner stamp t
@@ -177,7 +177,8 @@ KidIsCounted inner stamp t =
     IsSomeAnd (slice_get (kids_of t) inner.place)
     (λ k. IsCounted (update_element inner.verdict stamp k))
 
--- the same of a document
+-- the marks on the way to the node at this path tell at least what those below tell, and P holds
+-- there
 abbrev pub CanUpdateDoc : (Tree Mark → Type 0) → List ℕ → PlainDoc Mark → Type 0
 CanUpdateDoc P [] doc = Unit {0}
 CanUpdateDoc P (i ∷ path) doc =

@@ -4,7 +4,7 @@ ghost use Rattle.std.specs.Prelude.{◌≡◌, ◌≤◌, [], IsTrue, None};
 ghost use Rattle.std.specs.List.{between};
 ghost use Rattle.pv_cache.specs.BadLists.{bad_gone, own_in, own_inner, own_of};
 ghost use Rattle.pv_cache.specs.WellMarked.{bad_in, bad_in_all, own_bad, told_bad};
-ghost use Rattle.pv_edit.specs.Fitting.{CanFill, SuitsChange, plain_change, plain_filling};
+ghost use Rattle.pv_edit.specs.FittingChanges.{CanFill, SuitsChange, plain_change, plain_filling};
 ghost use Rattle.pv_edit.specs.Reasons.{is_one_element};
 ghost use Rattle.pv_tree.specs.Legal.{MAX_NODES};
 ghost use Rattle.pv_tree.specs.Plain.{nodes_in, nodes_in_all};

@@ -5,18 +5,18 @@ ghost use Rattle.std.specs.Prelude.{OnErr, OnOk, length};
 ghost use Rattle.std.specs.List.{between};
 ghost use Rattle.std.specs.Option.{option_map};
 ghost use Rattle.pv_cache.specs.BadLists.{bad_gained, bad_lost, own_at};
-ghost use Rattle.pv_cache.specs.Changed.{AreJudged, owner_at};
-ghost use Rattle.pv_cache.specs.Changing.{AreNarrowAfter, IsChanged, IsTaskFor};
-ghost use Rattle.pv_cache.specs.Judging.{AreListTokens, AreWords};
+ghost use Rattle.pv_cache.specs.VerdictsAfterChange.{AreJudged, owner_at};
+ghost use Rattle.pv_cache.specs.MarkedTasks.{AreNarrowAfter, IsChanged, IsTaskFor};
+ghost use Rattle.pv_cache.specs.ChangedWords.{AreListTokens, AreWords};
 ghost use Rattle.pv_cache.specs.Updates.{IsExchange};
 ghost use Rattle.pv_cache.specs.PlainMarked.{plain_marked};
 ghost use Rattle.pv_cache.specs.Stamps.{changed_by};
 ghost use Rattle.pv_cache.specs.WellMarked.{told_left_in, told_nodes_in};
 ghost use Rattle.pv_edit.specs.Changes.{list_after};
-ghost use Rattle.pv_edit.specs.Fitting.{SuitsChange, plain_change, plain_task};
+ghost use Rattle.pv_edit.specs.FittingChanges.{SuitsChange, plain_change, plain_task};
 ghost use Rattle.pv_edit.specs.Reasons.{kids_at, lacks_list};
 ghost use Rattle.pv_missing.specs.PlainForms.{plain_of};
-ghost use Rattle.pv_missing.specs.Weighing.{site_of};
+ghost use Rattle.pv_missing.specs.ListWeights.{site_of};
 ghost use Rattle.pv_reach.specs.declared.errors.ReachError.TheVariants.{TooWide as too_wide};
 ghost use Rattle.pv_rules.specs.Sites.{HasSite};
 ghost use Rattle.pv_tree.specs.Places.{spot_at};
@@ -29,7 +29,7 @@ use crate::judging::judge_words;
 use crate::told::told_in;
 use crate::updates::{ChangedVerdicts, Exchange, Update, update_doc};
 use crate::well_marked::WellMarked;
-use crate::words::{KeptTokens, ListTokens, Words};
+use crate::words::{ListTokens, Words};
 use pv_chars::NoMemory;
 use pv_edit::{Change, Task, make};
 use pv_missing::{Of, element_owner, root_owner};
@@ -67,12 +67,11 @@ fn exchange_of(kids: &[Node], change: &Change) -> Exchange
 }
 
 impl WellMarked {
-    // The owner of the list at a path; none where the DTD doesn't have its name.
-    fn owner_of(&self, list: &Path) -> Option<Of>
-        requires { lacks_list list.now (plain_doc self.now.doc).root ≡ false }
-        ensures owner { site_of self.now.grammar self.now.root
-            (owner_at list.now (plain_doc self.now.doc).root)
-            ≡ option_map plain_of result }
+    /// The owner of the list at a path; none where the DTD doesn't have its name.
+    pub(crate) fn owner_of(&self, list: &Path) -> Option<Of>
+        ensures owner { lacks_list list.now (plain_doc self.now.doc).root ≡ false →
+            site_of self.now.grammar self.now.root
+            (owner_at list.now (plain_doc self.now.doc).root) ≡ option_map plain_of result }
         ensures known { IfSome result (λ of. HasSite self.now.grammar (plain_of of)) }
     {
         match self.doc.node_at(list) {
@@ -80,7 +79,7 @@ impl WellMarked {
             Some(Found::Inner(Node::Elem { name, .. })) => {
                 element_owner(self.grammar.dtd(), name.as_slice())
             }
-            _ => unreachable!(),
+            _ => None,
         }
     }
 
@@ -169,7 +168,8 @@ impl WellMarked {
     /// document is left.
     ///
     /// The changed lists get the stamp; their number is given. The tokens are kept, which are those
-    /// of the list after the change, and a long word of it is remembered beside the grammar.
+    /// of the list after the change, and those of one list that stays as it was; a long word of the
+    /// changed one is remembered beside the grammar.
     pub(crate) fn make_judged(
         &mut self,
         task: Task,
@@ -201,7 +201,7 @@ impl WellMarked {
         make(self.alloc, &mut self.doc, task)?;
         update_doc(self.alloc, &mut self.doc, list.places(), &update, &exchange);
         self.bad = bad;
-        self.kept = Some(KeptTokens { list, tokens });
+        self.kept.change(list, tokens);
         self.remember_kept(owner, again);
         Ok(number_of(&update))
     }

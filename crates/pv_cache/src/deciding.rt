@@ -3,12 +3,12 @@
 ghost use Rattle.std.specs.Prelude.{◌≡◌, ◌≤◌, ◌+◌, true, IfErr, IfOk, IfSome, MatchOption, Some};
 ghost use Rattle.std.specs.Prelude.{false, None};
 ghost use Rattle.pv_cache.specs.BadLists.{bad_gained, bad_lost};
-ghost use Rattle.pv_cache.specs.Changed.{AreJudged, IsFirstAmong, owner_at};
-ghost use Rattle.pv_cache.specs.Changing.{IsTaskFor, IsUnaccepted};
-ghost use Rattle.pv_cache.specs.Judging.{AreListTokens, AreWords};
+ghost use Rattle.pv_cache.specs.VerdictsAfterChange.{AreJudged, IsFirstAmong, owner_at};
+ghost use Rattle.pv_cache.specs.MarkedTasks.{IsTaskFor, IsUnaccepted};
+ghost use Rattle.pv_cache.specs.ChangedWords.{AreListTokens, AreWords};
 ghost use Rattle.pv_cache.specs.declared.updates.InnerVerdict.{InnerVerdict};
 ghost use Rattle.pv_edit.specs.Changes.{list_after};
-ghost use Rattle.pv_edit.specs.Fitting.{plain_task};
+ghost use Rattle.pv_edit.specs.FittingChanges.{plain_task};
 ghost use Rattle.pv_edit.specs.Reasons.{kids_at};
 ghost use Rattle.pv_tree.specs.Plain.{forest_of};
 ghost use Rattle.pv_tree.specs.PlainDocs.{plain_doc};

@@ -2,7 +2,7 @@
 
 ghost use Rattle.std.specs.Prelude.{◌≡◌, ◌≤◌, ◌+◌, IfErr, IfOk};
 ghost use Rattle.std.specs.Option.{option_map};
-ghost use Rattle.pv_cache.specs.Judging.{AreFound, AreNarrow, IsInnerFound};
+ghost use Rattle.pv_cache.specs.ChangedWords.{AreFound, AreNarrow, IsInnerFound};
 ghost use Rattle.pv_missing.specs.PlainForms.{plain_of};
 ghost use Rattle.pv_reach.specs.declared.errors.ReachError.TheVariants.{TooWide as too_wide};
 

@@ -1,22 +1,20 @@
-//! The words of the lists that a task changes. The tokens of the list that was changed last are
-//! kept.
+//! What is kept of lists from one edit to the next: their tokens, and beside the grammar a long
+//! word.
 
-ghost use Rattle.std.specs.Prelude.{◌≡◌, IfOk, IfSome};
-ghost use Rattle.pv_cache.specs.Changing.{IsTaskFor};
-ghost use Rattle.pv_cache.specs.Judging.{AreListTokens, AreWords};
+ghost use Rattle.std.specs.Prelude.{◌≡◌, IfSome};
+ghost use Rattle.pv_cache.specs.ChangedWords.{AreKeptTokens, AreListTokens};
 ghost use Rattle.pv_cache.specs.PlainMarked.{plain_marked};
-ghost use Rattle.pv_edit.specs.Fitting.{plain_task};
 ghost use Rattle.pv_edit.specs.Reasons.{kids_at};
 ghost use Rattle.pv_tree.specs.Plain.{forest_of};
 ghost use Rattle.pv_tree.specs.PlainDocs.{plain_doc};
 
+use crate::kept_lists::{KEPT_KIDS, KeptTokens};
 use crate::planned::Again;
 use crate::well_marked::WellMarked;
-use crate::words::{ListTokens, Words, number_shown, tokens_of, words_after};
-use pv_chars::NoMemory;
-use pv_edit::Task;
+use crate::words::{ListTokens, number_shown, tokens_of};
+use pv_edit::{Ask, Task};
 use pv_missing::Of;
-use pv_tree::Path;
+use pv_tree::{Found, Node, Path};
 
 impl WellMarked {
     /// The tokens of the list at a path, where they are kept.
@@ -24,62 +22,94 @@ impl WellMarked {
         ensures { IfSome result (λ tokens. AreListTokens self.now.grammar
             (forest_of (kids_at list.now (plain_doc self.now.doc).root)) tokens.now) }
     {
-        let Some(kept) = &self.kept else {
+        self.kept.at(list)
+    }
+
+    // The tokens of the list at a path, if one of many kids stands there. Without memory there are
+    // none.
+    fn tokens_at(&self, list: &Path) -> Option<KeptTokens>
+        ensures { IfSome result (AreKeptTokens self.now.grammar (plain_doc self.now.doc)) }
+    {
+        let kids = self.doc.kids_at(list)?;
+        if kids.len() < KEPT_KIDS {
             return None;
-        };
-        if kept.list.places() == list.places() {
-            return Some(&kept.tokens);
         }
-        None
+        let tokens = tokens_of(self.alloc, self.grammar.dtd(), kids).ok()?;
+        let list = Path::new(self.alloc, list.places()).ok()?;
+        Some(KeptTokens { list, tokens })
     }
 
-    // The tokens of the list that a task changes.
-    fn tokens_before(&self, task: &Task) -> Result<ListTokens, NoMemory>
-        requires { IsTaskFor (plain_doc self.now.doc) task.now }
-        ensures { IfOk result (AreListTokens self.now.grammar
-            (forest_of (kids_at task.now.list (plain_doc self.now.doc).root))) }
+    /// Keeps the tokens of the list at a path, so that edits of it that are refused, or only asked
+    /// of, don't look them up again.
+    pub(crate) fn keep(&mut self, list: &Path)
+        ensures { plain_marked self.new ≡ plain_marked self.old }
     {
-        let Some(kids) = self.doc.kids_at(&task.list) else {
-            unreachable!()
-        };
-        let tokens = tokens_of(self.alloc, self.grammar.dtd(), kids)?;
-        Ok(tokens)
-    }
-
-    // The words of the lists that a task changes, by the tokens before.
-    fn words_by<'a>(&'a self, task: &'a Task, before: &ListTokens) -> Result<Words<'a>, NoMemory>
-        requires task { IsTaskFor (plain_doc self.now.doc) task.now }
-        requires before { AreListTokens self.now.grammar
-            (forest_of (kids_at task.now.list (plain_doc self.now.doc).root)) before.now }
-        ensures { IfOk result (AreWords self.now.grammar (plain_task task.now)
-            (kids_at task.now.list (plain_doc self.now.doc).root)) }
-    {
-        let Some(kids) = self.doc.kids_at(&task.list) else {
-            unreachable!()
-        };
-        let dtd = self.grammar.dtd();
-        let words = words_after(self.alloc, dtd, kids, &task.change, before)?;
-        Ok(words)
-    }
-
-    /// The words of the lists that a task changes. Where the tokens of the list are kept, names are
-    /// looked up for what comes alone.
-    pub(crate) fn words_of<'a>(&'a self, task: &'a Task) -> Result<Words<'a>, NoMemory>
-        requires { IsTaskFor (plain_doc self.now.doc) task.now }
-        ensures { IfOk result (AreWords self.now.grammar (plain_task task.now)
-            (kids_at task.now.list (plain_doc self.now.doc).root)) }
-    {
-        if let Some(before) = self.kept_at(&task.list) {
-            return self.words_by(task, before);
+        if self.kept_at(list).is_some() {
+            return;
         }
-        let before = self.tokens_before(task)?;
-        self.words_by(task, &before)
+        if let Some(asked) = self.tokens_at(list) {
+            self.kept.ask(asked);
+        }
     }
 
-    /// The change of its word, where a task changes the list whose tokens are kept, by the tokens
+    // Keeps the tokens of the list at a path, and remembers its word, so that words which differ
+    // from it in a token are judged by it.
+    fn keep_asked(&mut self, list: &Path)
+        ensures { plain_marked self.new ≡ plain_marked self.old }
+    {
+        self.keep(list);
+        let owner = self.owner_of(list);
+        if let Some(tokens) = self.kept.at(list) {
+            let word = &tokens.word.tokens;
+            self.grammar.remember_asked(self.alloc, owner, word);
+        }
+    }
+
+    /// Keeps what several edits of the list that is asked of are judged by.
+    pub(crate) fn keep_for(&mut self, ask: &Ask)
+        ensures { plain_marked self.new ≡ plain_marked self.old }
+    {
+        match ask {
+            Ask::Wrap { path, from, to } => self.keep_within(path, *from, *to),
+            Ask::Rename { path } => self.keep_around(path),
+        }
+    }
+
+    // Keeps what edits of the list at a path are judged by, if it has kids from one place up to
+    // another.
+    fn keep_within(&mut self, list: &Path, from: u32, to: u32)
+        ensures { plain_marked self.new ≡ plain_marked self.old }
+    {
+        let count = match self.doc.kids_at(list) {
+            Some(kids) => kids.len(),
+            None => return,
+        };
+        if from <= to && to as usize <= count {
+            self.keep_asked(list);
+        }
+    }
+
+    // Keeps what edits of the list are judged by in which the element at a path stands, if one does.
+    fn keep_around(&mut self, path: &Path)
+        ensures { plain_marked self.new ≡ plain_marked self.old }
+    {
+        let Some(Found::Inner(Node::Elem { .. })) = self.doc.node_at(path) else {
+            return;
+        };
+        if let [list @ .., _] = path.places() {
+            if let Ok(list) = Path::new(self.alloc, list) {
+                self.keep_asked(&list);
+            }
+        }
+    }
+
+    /// The change of its word, where a task changes the list that was changed last, by the tokens
     /// afterwards.
     pub(crate) fn again(&self, task: &Task, after: &ListTokens) -> Option<Again> {
-        let before = self.kept_at(&task.list)?;
+        let Some(kept) = &self.kept.last else {
+            return None;
+        };
+        let before = kept.of_list(&task.list)?;
         let change = &task.change;
         let from = number_shown(before.shown.get(..change.from)?);
         let gone = number_shown(before.shown.get(change.from..change.to)?);
@@ -88,12 +118,12 @@ impl WellMarked {
         Some(Again { from, gone, came })
     }
 
-    /// Remembers the word of the list whose tokens are kept, which has this owner, after the
+    /// Remembers the word of the list that was changed last, which has this owner, beside the
     /// grammar.
     pub(crate) fn remember_kept(&mut self, owner: Option<Of>, again: Option<Again>)
         ensures marked { plain_marked self.new ≡ plain_marked self.old }
     {
-        if let Some(kept) = &self.kept {
+        if let Some(kept) = &self.kept.last {
             let word = &kept.tokens.word.tokens;
             self.grammar.remember(self.alloc, owner, word, again);
         }

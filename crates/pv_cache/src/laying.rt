@@ -1,8 +1,8 @@
 //! The marks of a document laid out by verdicts that are known.
 
 ghost use Rattle.std.specs.Prelude.{◌≡◌, ◌≤◌, ◌+◌, ◌*◌};
-ghost use Rattle.pv_cache.specs.Laying.{lay_node, lay_kids, lay_doc, lists_in, lists_in_all};
-ghost use Rattle.pv_cache.specs.Laying.{nth_verdict};
+ghost use Rattle.pv_cache.specs.LaidMarks.{lay_node, lay_kids, lay_doc, lists_in, lists_in_all};
+ghost use Rattle.pv_cache.specs.LaidMarks.{nth_verdict};
 ghost use Rattle.pv_tree.specs.Legal.{MAX_NODES};
 ghost use Rattle.pv_tree.specs.Plain.{nodes_in, nodes_in_all};
 ghost use Rattle.pv_tree.specs.PlainDocs.{plain_doc};

@@ -4,15 +4,16 @@
 //! `specs/WellMarked.antt` says what the marks of a well marked document tell: of each list its
 //! verdict, and of each subtree how many of its lists are Possible and how many nodes it has.
 //! `Marked` holds one, the `PlannedGrammar` that it is judged by, and the number of its Impossible
-//! lists. An edit is accepted by `IsAccepted` (specs/Accepting.antt): the words of the lists that
-//! it changes are made beside the tree, and their verdicts found, in at most two steps; where none
-//! of them is too wide, and no more of them are Impossible than of the lists that they stand for
-//! (`bad_lost`, `bad_gained` in specs/BadLists.antt), the change is made and the marks are told
-//! again, at the changed lists and above them. The changed lists get the stamp of the move, and
-//! all others keep theirs (`IsEdited`, `IsReverted` in specs/Moves.antt). The tokens of the list
-//! that was changed last are kept, so that the next edit in it looks up the names alone of what
-//! comes; and beside the grammar a long word that was judged last is remembered, so that the next
-//! one is judged by where it differs.
+//! lists. An edit is accepted by `IsAccepted` (specs/AcceptedEdits.antt): the words of the lists
+//! that it changes are made beside the tree, and their verdicts found, in at most two steps; where
+//! none of them is too wide, and no more of them are Impossible than of the lists that they stand
+//! for (`bad_lost`, `bad_gained` in specs/BadLists.antt), the change is made and the marks are told
+//! again, at the changed lists and above them. The changed lists get the stamp of the move, and all
+//! others keep theirs (`IsEdited`, `IsReverted` in specs/Moves.antt). The tokens of two lists are
+//! kept, of the one that was changed last and of one that an edit was asked of, so that the next
+//! edit in either looks up the names alone of what comes, also where it is refused; and beside the
+//! grammar a long word that was judged last is remembered, so that the next one is judged by where
+//! it differs.
 #![tactic(auto)]
 
 mod bad_lists;
@@ -21,12 +22,14 @@ mod deciding;
 mod firsts;
 mod judging;
 mod keeping;
+mod kept_lists;
 pub mod laws;
 mod laying;
 mod marked;
 mod moving;
 mod planned;
 mod rows;
+mod task_words;
 mod told;
 mod updates;
 mod verdicts;

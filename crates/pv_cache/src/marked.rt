@@ -3,7 +3,7 @@
 ghost use Rattle.std.specs.Prelude.{◌≡◌, ◌≤◌, ◌+◌, ℕ, None, IfErr, IfOk, MatchOption};
 ghost use Rattle.std.specs.Prelude.{OnErr, OnOk};
 ghost use Rattle.std.specs.List.{AllByRecursion};
-ghost use Rattle.pv_cache.specs.Accepting.{IsAccepted, IsHoldable, MAX_EDITED_NODES};
+ghost use Rattle.pv_cache.specs.AcceptedEdits.{IsAccepted, IsHoldable, MAX_EDITED_NODES};
 ghost use Rattle.pv_cache.specs.Moves.{HasBad, HasGround, HasOpen, IsEdited, IsReverted};
 ghost use Rattle.pv_cache.specs.Rows.{AreRows, IsVerdictAt, TellVerdicts};
 ghost use Rattle.pv_cache.specs.Stamps.{doc_as, stamps_of};
@@ -19,6 +19,7 @@ ghost use Rattle.pv_tree.specs.PlainDocs.{plain_doc};
 
 use crate::bad_lists::bad_by;
 use crate::firsts::first_bad;
+use crate::kept_lists::KeptLists;
 use crate::laying::lay_doc;
 use crate::planned::PlannedGrammar;
 use crate::rows::rows_of;
@@ -26,7 +27,7 @@ use crate::told::told_verdict;
 use crate::verdicts::verdicts_told;
 use crate::well_marked::WellMarked;
 use pv_chars::{Bytes, List, NoMemory};
-use pv_edit::{Done, Edit, EditAnswer, Inverse, VerdictRows};
+use pv_edit::{Ask, Done, Edit, EditAnswer, Inverse, VerdictRows};
 use pv_missing::Verdicts;
 use pv_productive::Grammar;
 use pv_steps::Steps;
@@ -101,7 +102,7 @@ impl Marked {
             root,
             doc,
             bad,
-            kept: None,
+            kept: KeptLists::none(),
         };
         Marked { document }
     }
@@ -119,6 +120,14 @@ impl Marked {
     {
         let _judged = self.document.judge(edit, steps)?;
         Ok(())
+    }
+
+    /// Keeps the tokens of the list that an edit is asked of, and remembers its word, so that
+    /// `judge` is faster for each name that is tried. No answer depends on it.
+    pub fn keep_for(&mut self, ask: &Ask)
+        ensures { self.new ≡ self.old }
+    {
+        self.document.keep_for(ask)
     }
 
     /// Makes an edit, where it is accepted, and gives what undoes it. The lists that it changes get

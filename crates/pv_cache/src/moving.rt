@@ -1,16 +1,17 @@
 //! Edits of a well marked document, and taking them back.
 
 ghost use Rattle.std.specs.Prelude.{◌≡◌, ◌≤◌, ◌+◌, nat_lt, IfErr, IfOk, None, OnErr, OnOk};
-ghost use Rattle.pv_cache.specs.Accepting.{IsAccepted, IsHoldable, MAX_EDITED_NODES};
-ghost use Rattle.pv_cache.specs.Changed.{AreJudged, owner_at};
-ghost use Rattle.pv_cache.specs.Changing.{AreNarrowAfter, IsReady, IsTaskFor, edited_doc};
-ghost use Rattle.pv_cache.specs.Judging.{AreListTokens};
+ghost use Rattle.pv_cache.specs.AcceptedEdits.{IsAccepted, IsHoldable, MAX_EDITED_NODES};
+ghost use Rattle.pv_cache.specs.VerdictsAfterChange.{AreJudged, owner_at};
+ghost use Rattle.pv_cache.specs.MarkedTasks.{AreNarrowAfter, IsReady, IsTaskFor, edited_doc};
+ghost use Rattle.pv_cache.specs.ChangedWords.{AreListTokens};
 ghost use Rattle.pv_cache.specs.Moves.{HasGround, IsEdited, IsReverted};
 ghost use Rattle.pv_cache.specs.PlainForms.{stamped_doc};
+ghost use Rattle.pv_cache.specs.PlainMarked.{plain_marked};
 ghost use Rattle.pv_cache.specs.Stamps.{stamps_of};
 ghost use Rattle.pv_edit.specs.Changes.{list_after};
 ghost use Rattle.pv_edit.specs.Counts.{nodes_made, nodes_taken};
-ghost use Rattle.pv_edit.specs.Fitting.{plain_task};
+ghost use Rattle.pv_edit.specs.FittingChanges.{plain_task};
 ghost use Rattle.pv_edit.specs.Inverses.{LeadsBack};
 ghost use Rattle.pv_edit.specs.Preparations.{IsPreparation};
 ghost use Rattle.pv_edit.specs.Reasons.{kids_at, reason_of};
@@ -71,6 +72,54 @@ impl WellMarked {
         Ok(ready)
     }
 
+    // Prepares an edit as `prepare_edit` does. The tokens of the list that it changes are kept, also
+    // if it is refused then.
+    fn prepare_keeping(&mut self, edit: &Edit) -> Result<Preparation, EditAnswer>
+        ensures same { plain_marked self.new ≡ plain_marked self.old }
+        ensures given { OnOk result (reason_of blank_mark (plain_doc self.new.doc).root edit.now
+            ≡ None) }
+        ensures prepared { IfOk result (IsPreparation (plain_doc self.new.doc).root edit.now) }
+        ensures task { IfOk result (λ ready. IsTaskFor (plain_doc self.new.doc) ready.task) }
+        ensures refused { IfErr result (HasGround 0 self.old.grammar self.old.root
+            (stamps_of (plain_doc self.old.doc)) edit.now) }
+    {
+        let ready = self.prepare_edit(edit)?;
+        self.keep(&ready.task.list);
+        Ok(ready)
+    }
+
+    // Judges a prepared edit: it is accepted and ready to be made, or there is a ground to refuse
+    // it.
+    fn judge_prepared<L: Ledger>(
+        &self,
+        _edit: &Edit,
+        ready: Preparation,
+        steps: &mut Steps<L>,
+    ) -> Result<JudgedEdit, EditAnswer>
+        requires given { reason_of blank_mark (plain_doc self.now.doc).root _edit.now ≡ None }
+        requires prepared { IsPreparation (plain_doc self.now.doc).root _edit.now ready }
+        requires task { IsTaskFor (plain_doc self.now.doc) ready.task }
+        ensures ready { IfOk result (IsReady self.now.grammar self.now.root
+            (plain_doc self.now.doc) _edit.now) }
+        ensures accepted { OnOk result (IsAccepted 0 self.now.grammar self.now.root
+            (stamps_of (plain_doc self.now.doc)) _edit.now
+            (stamps_of (edited_doc (plain_doc self.now.doc) _edit.now))) }
+        ensures refused { IfErr result (HasGround 0 self.now.grammar self.now.root
+            (stamps_of (plain_doc self.now.doc)) _edit.now) }
+        ensures steps { steps.new ≤ steps.old + 2 }
+        ensures later { steps.old ≤ steps.new }
+    {
+        changed_lists_law::<Mark>();
+        let Preparation { task, inverse } = ready;
+        let (verdicts, tokens) = self.judge_change(&task, steps)?;
+        Ok(JudgedEdit {
+            task,
+            inverse,
+            verdicts,
+            tokens,
+        })
+    }
+
     /// Judges an edit: it is accepted and ready to be made, or there is a ground to refuse it.
     pub(crate) fn judge<L: Ledger>(
         &self,
@@ -87,16 +136,8 @@ impl WellMarked {
         ensures steps { steps.new ≤ steps.old + 2 }
         ensures later { steps.old ≤ steps.new }
     {
-        changed_lists_law::<Mark>();
         let ready = self.prepare_edit(edit)?;
-        let Preparation { task, inverse } = ready;
-        let (verdicts, tokens) = self.judge_change(&task, steps)?;
-        Ok(JudgedEdit {
-            task,
-            inverse,
-            verdicts,
-            tokens,
-        })
+        self.judge_prepared(edit, ready, steps)
     }
 
     /// Makes an edit, where it is accepted, and gives what undoes it. After a refusal the document
@@ -115,8 +156,31 @@ impl WellMarked {
         ensures steps { steps.new ≤ steps.old + 2 }
         ensures later { steps.old ≤ steps.new }
     {
+        let ready = self.prepare_keeping(edit)?;
+        self.edit_prepared(edit, ready, stamp, steps)
+    }
+
+    // Makes a prepared edit, where it is accepted.
+    fn edit_prepared<L: Ledger>(
+        &mut self,
+        edit: &Edit,
+        ready: Preparation,
+        stamp: u64,
+        steps: &mut Steps<L>,
+    ) -> Result<(Done, Inverse), EditAnswer>
+        requires given { reason_of blank_mark (plain_doc self.old.doc).root edit.now ≡ None }
+        requires prepared { IsPreparation (plain_doc self.old.doc).root edit.now ready }
+        requires task { IsTaskFor (plain_doc self.old.doc) ready.task }
+        ensures edited { IfOk result (λ made. IsEdited (stamped_doc self.old) edit.now stamp
+            made.0 made.1 (stamped_doc self.new)) }
+        ensures refused { IfErr result (HasGround 0 self.old.grammar self.old.root
+            (stamps_of (plain_doc self.old.doc)) edit.now) }
+        ensures unchanged { OnErr result (stamped_doc self.new ≡ stamped_doc self.old) }
+        ensures steps { steps.new ≤ steps.old + 2 }
+        ensures later { steps.old ≤ steps.new }
+    {
         changed_lists_law::<Mark>();
-        let judged = self.judge(edit, steps)?;
+        let judged = self.judge_prepared(edit, ready, steps)?;
         let JudgedEdit {
             task,
             inverse,

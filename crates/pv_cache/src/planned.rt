@@ -2,13 +2,13 @@
 
 ghost use Rattle.std.specs.Prelude.{◌≡◌, ◌+◌, IfErr, IfOk, IfSome, length};
 ghost use Rattle.std.specs.Option.{option_map};
-ghost use Rattle.pv_cache.specs.Judging.{IsFoundList};
+ghost use Rattle.pv_cache.specs.ChangedWords.{IsFoundList};
 ghost use Rattle.pv_dtd.specs.PlainForms.{plain_dtd};
 ghost use Rattle.pv_missing.specs.PlainForms.{plain_of};
 ghost use Rattle.pv_missing.specs.Widths.{FitsVerdict};
 ghost use Rattle.pv_productive.specs.PlainForms.{dtd_of};
 ghost use Rattle.pv_reach.specs.declared.errors.ReachError.TheVariants.{TooWide as too_wide};
-ghost use Rattle.pv_verdicts.specs.Last.{IsLast};
+ghost use Rattle.pv_verdicts.specs.LastJudgedWord.{IsLast};
 
 use crate::words::ListWord;
 use pv_chars::NoMemory;
@@ -76,6 +76,29 @@ fn next_word(
     None
 }
 
+// What is remembered once several words are to be judged that differ from this one little. Without
+// memory, nothing is.
+fn asked_word(
+    judge: &Judge<'_>,
+    last: Option<LastWord>,
+    owner: Option<Of>,
+    word: &[Token],
+) -> Option<LastWord>
+    requires { IfSome last (IsLast (dtd_of judge.now)) }
+    ensures { IfSome result (IsLast (dtd_of judge.now)) }
+{
+    if let Some(last) = last {
+        if last.is_of(owner) {
+            match last.next(judge, word) {
+                Ok(Some(next)) => return Some(next),
+                Ok(None) => {}
+                Err(NoMemory) => return None,
+            }
+        }
+    }
+    LastWord::of(judge, owner, word).ok()
+}
+
 // Whether a word is as long as that of the list before the change was.
 fn is_before(last: &LastWord, word: &[Token], again: Again) -> bool {
     let left = word.len().saturating_sub(again.came);
@@ -113,7 +136,7 @@ impl Model for PlannedGrammar {
 
     ghost coded = { dtd_code };
 
-    ghost use Rattle.pv_cache.specs.Planned.{HasPlan, planned_dtd};
+    ghost use Rattle.pv_cache.specs.GrammarPlans.{HasPlan, planned_dtd};
 
     ghost view = { planned_dtd };
 
@@ -196,6 +219,26 @@ impl PlannedGrammar {
         let last = self.last.take();
         let judge = Judge::new(alloc, &self.grammar, &self.plan);
         self.last = next_word(&judge, last, owner, word, again);
+    }
+
+    /// Remembers a long word, from which several others that are to be judged differ little.
+    pub(crate) fn remember_asked(&mut self, alloc: Global, owner: Option<Of>, word: &[Token])
+        ensures { self.new ≡ self.old }
+    {
+        if word.len() < REMEMBERED_TOKENS || self.is_likely_last(owner, word) {
+            return;
+        }
+        let last = self.last.take();
+        let judge = Judge::new(alloc, &self.grammar, &self.plan);
+        self.last = asked_word(&judge, last, owner, word);
+    }
+
+    // Whether the last word has this owner and is as long as this one.
+    fn is_likely_last(&self, owner: Option<Of>, word: &[Token]) -> bool {
+        match &self.last {
+            Some(last) => last.is_of(owner) && last.count() == word.len(),
+            None => false,
+        }
     }
 
     // Whether the last word is that of the changed list, before the change.

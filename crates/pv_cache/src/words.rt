@@ -3,13 +3,13 @@
 ghost use Rattle.std.specs.Prelude.{◌≡◌, ◌&&◌, ◌∷◌, ◌++◌, [], false, true, ℕ, List, IfOk};
 ghost use Rattle.std.specs.Prelude.{IsTrue, MatchOption, OnOk, length, map, ◌≤◌};
 ghost use Rattle.std.specs.List.{between, list_any, splice};
-ghost use Rattle.pv_cache.specs.Judging.{AreListTokens, AreWords, IsCame, IsComing, IsInnerWord};
-ghost use Rattle.pv_cache.specs.Judging.{IsSpliced, IsWordOf};
-ghost use Rattle.pv_cache.specs.Shown.{number_shown, shown_of};
+ghost use Rattle.pv_cache.specs.ChangedWords.{AreListTokens, AreWords, IsCame, IsComing, IsInnerWord};
+ghost use Rattle.pv_cache.specs.ChangedWords.{IsSpliced, IsWordOf};
+ghost use Rattle.pv_cache.specs.ShownKids.{number_shown, shown_of};
 ghost use Rattle.pv_dtd.specs.PlainForms.{plain_dtd};
-ghost use Rattle.pv_edit.specs.Brought.{BringsBare, brings_element};
+ghost use Rattle.pv_edit.specs.BroughtElements.{BringsBare, brings_element};
 ghost use Rattle.pv_edit.specs.Changes.{in_place_of, list_after, others};
-ghost use Rattle.pv_edit.specs.Fitting.{CanFill, SuitsChange, plain_change, plain_filling};
+ghost use Rattle.pv_edit.specs.FittingChanges.{CanFill, SuitsChange, plain_change, plain_filling};
 ghost use Rattle.pv_edit.specs.Reasons.{is_one_element};
 ghost use Rattle.pv_missing.specs.WordVerdicts.{has_no_trees};
 ghost use Rattle.pv_model.specs.PlainForms.{plain_token};
@@ -22,7 +22,7 @@ use pv_chars::NoMemory;
 use pv_dtd::Dtd;
 use pv_edit::{Change, Filling};
 use pv_model::Token;
-use pv_tree::{Node, Path, name_token, word};
+use pv_tree::{Node, name_token, word};
 use std::alloc::Global;
 
 /// The word of a list, and whether it has no kids of any kind.
@@ -37,13 +37,6 @@ pub struct ListWord {
 pub struct ListTokens {
     pub word: ListWord,
     pub shown: Vec<bool>,
-}
-
-/// The tokens of the list at a path.
-#[derive(Drop)]
-pub struct KeptTokens {
-    pub list: Path,
-    pub tokens: ListTokens,
 }
 
 /// An element that a change brings into a list.

@@ -1,6 +1,6 @@
 -- The lines of a pack at the front of some bytes.
-use Rattle.std.proofs.Common.{◌≡◌, ◌≢◌, ◌≤◌, ◌<◌, ℕ, List, ◌∷◌, ◌++◌, length, take, drop, refl, sym, ap, ◌∙◌, append_assoc, arith, decimal, codes, Some, None, true, Option, MatchOption}
-use Rattle.std.proofs.lemmas.List.{length-append, take-append-drop, length-take}
+use Rattle.std.proofs.Common.{◌≡◌, ◌≢◌, ◌≤◌, ◌<◌, ℕ, List, ◌∷◌, ◌++◌, length, drop, refl, ap, ◌∙◌, append_assoc, arith, decimal, codes, Some, None, true}
+use Rattle.std.proofs.lemmas.List.{length-append}
 use Rattle.std.proofs.Math.Seq.{drop-append_seam}
 use Rattle.pv_words.specs.Numbers.{MAX_NUMBER}
 use Rattle.pv_words.specs.Paths.{path_text, path_spelled}
@@ -11,11 +11,6 @@ use Rattle.pv_words.specs.Fronts.{IsLineOf, IsNumberLine, has_no_feed}
 use Rattle.pv_cert.specs.Lines.{body_line, list_line}
 use Rattle.pv_cert.specs.Meaning.{MAX_PACK_BYTES}
 use Rattle.pv_words.proofs.Cuts.{feed-behind, number-is-line, one-line-of, SameNumber, same-decimal}
-
--- what follows where none is found, and where one is found
-pub by-match : {X : Type 0} (r : Option X) (P Q : Type 0) (F G : X → Type 0) → MatchOption r P F → (P → Q) → ((x : X) → F x → G x) → MatchOption r Q G
-by-match None P Q F G m none some = none m
-by-match (Some x) P Q F G m none some = some x m
 
 pub one-number-line : (word : List ℕ) (most : ℕ) (bytes : List ℕ) (n m : ℕ) (x y : List ℕ) →
     has_no_feed word ≡ true → most ≤ MAX_NUMBER → IsNumberLine word most bytes n x →
@@ -36,9 +31,6 @@ body-front bytes b rest few begins =
       whole = whole;
     }
 
-pub no-body : (bytes : List ℕ) → length bytes ≤ MAX_PACK_BYTES → ((n : ℕ) (rest : List ℕ) → IsNumberLine (codes "body ") MAX_NUMBER bytes n rest → ⊥) → BeginsNone body_line bytes
-no-body bytes few none b rest begins = none (length b) (b ++ (10 ∷ rest)) (body-front bytes b rest few begins)
-
 pub short-body : (bytes : List ℕ) (n : ℕ) (behind : List ℕ) → length bytes ≤ MAX_PACK_BYTES → IsNumberLine (codes "body ") MAX_NUMBER bytes n behind → length behind < n → BeginsNone body_line bytes
 short-body bytes n behind few line short b rest begins =
     let same = one-number-line (codes "body ") MAX_NUMBER bytes n (length b) behind (b ++ (10 ∷ rest)) refl (omega arith) line (body-front bytes b rest few begins) in
@@ -50,20 +42,6 @@ pub open-body : (bytes : List ℕ) (n : ℕ) (behind : List ℕ) → length byte
 open-body bytes n behind few line none b rest begins =
     let same = one-number-line (codes "body ") MAX_NUMBER bytes n (length b) behind (b ++ (10 ∷ rest)) refl (omega arith) line (body-front bytes b rest few begins) in
     none rest (ap (λ k. drop k behind) same.numbers ∙ ap (λ l. drop (length b) l) same.rests ∙ drop-append_seam b (10 ∷ rest))
-
-pub begins-body : (bytes : List ℕ) (n : ℕ) (behind after : List ℕ) →
-    IsNumberLine (codes "body ") MAX_NUMBER bytes n behind → n ≤ length behind →
-    drop n behind ≡ codes "\n" ++ after → Begins bytes (body_line (take n behind)) after
-begins-body bytes n behind after line long is =
-    let b = take n behind in
-    let size : length b ≡ n = omega (arith, length-take n behind, long) in
-    let cut : behind ≡ with_feed b ++ after = sym (take-append-drop n behind) ∙ ap (λ l. b ++ l) is ∙ sym (feed-behind b after) in
-    let front = with_feed (codes "body " ++ decimal (length b)) in
-    let told : with_feed (codes "body " ++ decimal n) ≡ front = ap (λ k. with_feed (codes "body " ++ decimal k)) (sym size) in
-    record {
-      in_range = tt;
-      whole = line.whole ∙ (λ i. told i ++ cut i) ∙ sym (append_assoc front (with_feed b) after);
-    }
 
 -- the line of a path
 list-front : (bytes path rest : List ℕ) → Begins bytes (list_line path) rest → IsLineOf (codes "list ") bytes (path_text path) rest

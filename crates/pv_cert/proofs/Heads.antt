@@ -4,33 +4,19 @@ use Rattle.std.proofs.Common.{append_assoc, append-nil, arith, Option, Some, Non
 use Rattle.std.proofs.lemmas.List.{drop_at, length-append, length-map, take_at}
 use Rattle.pv_words.specs.Words.{with_feed, words}
 use Rattle.pv_tables.specs.declared.tables.Table.{Table}
-use Rattle.pv_cert.specs.Fronts.{Begins, BeginsNone, BeginsNot}
+use Rattle.pv_cert.specs.Fronts.{Begins, BeginsNone}
 use Rattle.pv_cert.specs.Lines.{PackLine, version_line, total_line, mark_line, body_line, entry_line, end_line}
 use Rattle.pv_cert.specs.Meaning.{Answers, HasTooMany, IsFaulty, MAX_PACK_BYTES, Outcome, PackMeans, Refuses, Stand, entries_among, is_pack, is_fault, is_past_limit}
 use Rattle.pv_cert.specs.Packs.{AreLines, last_line, lines_text, table_lines}
-use Rattle.pv_cert.specs.Steps.{EndsWithTables, HasTooManyBehind, IsFaultyBehind, RefusesHead, RefusesTables, TakesMarks, head_lines, pack_within}
+use Rattle.pv_cert.specs.Steps.{EndsWithTables, HasTooManyBehind, IsFaultyBehind, RefusesTables, TakesMarks, head_lines, pack_within}
 use Rattle.pv_cert.specs.declared.packs.Pack.{Pack}
 use Rattle.pv_cert.specs.declared.errors.PackError.{PackError}
 use Rattle.pv_cert.specs.declared.errors.PackError.TheVariants.{Limit, NoMemory, Syntax}
 use Rattle.pv_cert.proofs.OneMeaning.{one-meaning}
-use Rattle.pv_cert.proofs.Stands.{behind-marks, entries-append, entries-of-marks, last-append, no-mark-or-body, no-total, no-version, stand-append, stand-more, stand-none, stand-one, text-append}
+use Rattle.pv_cert.proofs.LineSequences.{behind-marks, entries-append, entries-of-marks, last-append, no-mark-or-body, no-total, stand-append, stand-more, stand-one, text-append}
 
 version-stands : (bytes rest : List ℕ) → Begins bytes version_line rest → Stand None bytes (version_line ∷ []) rest
 version-stands bytes rest b = stand-one None bytes version_line rest record { may_follow = tt; begins = b }
-
-pub total-stands : (bytes rest : List ℕ) (k : ℕ) (more : List ℕ) → Begins bytes version_line rest → Begins rest (total_line k) more → Stand None bytes (version_line ∷ total_line k ∷ []) more
-total-stands bytes rest k more b t = stand-more None bytes (version_line ∷ []) rest (total_line k) more (version-stands bytes rest b) record { may_follow = tt; begins = t }
-
-pub fault-at-version : (bytes : List ℕ) → BeginsNot version_line bytes → IsFaulty bytes 0
-fault-at-version bytes none = record {
-  lines = [];
-  rest = bytes;
-  stand = stand-none None bytes;
-  number = refl;
-  within = omega arith;
-  none = no-version bytes none;
-  cut = λ w. let e = w.0 in cc;
-}
 
 pub fault-at-total : (bytes rest : List ℕ) → Begins bytes version_line rest → BeginsNone total_line rest → IsFaulty bytes 1
 fault-at-total bytes rest b none = record {
@@ -171,11 +157,6 @@ pub tables-refused : (bytes : List ℕ) (k : ℕ) (ms b rest : List ℕ) (error 
 tables-refused bytes k ms b rest (Syntax j) few s r = (few, fault-behind bytes k ms b rest j s (r b))
 tables-refused bytes k ms b rest Limit few s r = inr (few, too-many-behind bytes k ms b rest s (r b))
 tables-refused bytes k ms b rest NoMemory few s r = tt
-
-pub head-refused : (bytes : List ℕ) (error : PackError) → length bytes ≤ MAX_PACK_BYTES → RefusesHead bytes error → Refuses bytes error
-head-refused bytes (Syntax j) few r = (few, r)
-head-refused bytes Limit few r = absurd r
-head-refused bytes NoMemory few r = tt
 
 -- one meaning, so the answer is it
 pub answers-ok : (bytes : List ℕ) (pack : Pack) → PackMeans bytes (is_pack pack) → (o : Outcome) → PackMeans bytes o → Answers o (Ok pack)

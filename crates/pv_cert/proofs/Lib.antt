@@ -2,11 +2,11 @@
 pub mod EntryWords
 pub mod OneLine
 -- of this crate:
-pub mod EntriesAt
+pub mod EntryFronts
 pub mod Fronts
-pub mod Stands
+pub mod LineSequences
 pub mod TableLines
 pub mod OneMeaning
 pub mod Heads
 pub mod EntryOrder
-pub mod Written
+pub mod WrittenPacks

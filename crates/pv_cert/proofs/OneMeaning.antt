@@ -10,7 +10,7 @@ use Rattle.pv_cert.specs.Meaning.{HasTooMany, IsFaulty, MAX_PACK_BYTES, Stand, S
 use Rattle.pv_cert.specs.Packs.{IsPackText, last_line, lines_of_pack, lines_text, table_lines}
 use Rattle.pv_cert.specs.declared.packs.Pack.{Pack}
 use Rattle.pv_cert.proofs.OneLine.{same-line}
-use Rattle.pv_cert.proofs.Stands.{entries-append, entries-of-marks, last-append}
+use Rattle.pv_cert.proofs.LineSequences.{entries-append, entries-of-marks, last-append}
 use Rattle.pv_cert.proofs.TableLines.{entries-in-lines}
 
 -- some lines are others, with more after them

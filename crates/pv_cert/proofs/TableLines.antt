@@ -11,7 +11,7 @@ use Rattle.pv_cert.specs.Packs.{IsOfTables, MayFollow, last_line, lines_of_table
 use Rattle.pv_cert.specs.Steps.{EndsWithTables, Follows, HasEntryBeyond, HasTooManyBehind, IsFaultyBehind, RefusesEntries, RefusesTables, StandsNoEntry, TakesEntries, line_before}
 use Rattle.pv_cert.specs.declared.errors.PackError.{PackError}
 use Rattle.pv_cert.specs.declared.errors.PackError.TheVariants.{Limit, NoMemory, Syntax}
-use Rattle.pv_cert.proofs.Stands.{entries-append, entries-of, last-append, stand-append, stand-more, stand-none}
+use Rattle.pv_cert.proofs.LineSequences.{entries-append, entries-of, last-append, stand-append, stand-more, stand-none}
 
 -- after this line may stand the head of a table, the end, and some entries
 pub record IsTablePlace (before : Option PackLine) : Type 0 where
@@ -47,11 +47,6 @@ no-line-of-tables before rest p l e n (list_line path) more s = l path more s.be
 no-line-of-tables before rest p l e n (entry_line f) more s = e f more s
 no-line-of-tables before rest p l e n end_line more s = n more s.begins
 
--- an entry may stand after the line before it
-pub may-follow : (path : List ℕ) (last : Option Entry) (e : Entry) → Follows last e → MayFollow (line_before path last) (entry_line e)
-may-follow path None e f = tt
-may-follow path (Some d) e f = f
-
 pub follows-back : (path : List ℕ) (last : Option Entry) (e : Entry) → MayFollow (line_before path last) (entry_line e) → Follows last e
 follows-back path None e f = tt
 follows-back path (Some d) e f = f
@@ -84,18 +79,10 @@ pub entries-full : (bytes : List ℕ) (es : List Entry) (last : Option Entry) (r
     ((path : List ℕ) → Stands (line_before path last) rest (entry_line e) more) → length es ≡ most → HasEntryBeyond bytes most
 entries-full bytes es last rest e more most h s full = record { es = es; e = e; rest = more; stand = more-stand bytes es last rest e more h s; full = full }
 
-pub entries-taken : (bytes : List ℕ) (es : List Entry) (last : Option Entry) (rest : List ℕ) →
-    HaveRead bytes es last rest → ((path : List ℕ) → StandsNoEntry (line_before path last) rest) →
-    TakesEntries bytes es rest
-entries-taken bytes es last rest h none = record { stand = h.stand; none = λ path. rw (h.is_last path) (none path) }
-
 -- the tables read so far after a body
 pub record TablesRead (bytes : List ℕ) (ts : List Table) (rest : List ℕ) : Type 0 where
   pub stand : (b : List ℕ) → Stand (Some (body_line b)) bytes (table_lines ts) rest
   pub none : (b : List ℕ) → StandsNoEntry (last_line (Some (body_line b)) (table_lines ts)) rest
-
-pub no-tables-read : (bytes : List ℕ) → TablesRead bytes [] bytes
-no-tables-read bytes = record { stand = λ b. stand-none (Some (body_line b)) bytes; none = λ b e rest s. s.may_follow }
 
 lines-append : (ts us : List Table) → table_lines (ts ++ us) ≡ table_lines ts ++ table_lines us
 lines-append [] us = refl

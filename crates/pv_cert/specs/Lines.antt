@@ -50,10 +50,8 @@ pub record IsEntryInRange (e : Entry) : Type 0 where
 
 -- the numbers of the line are in range
 abbrev pub IsInRange : PackLine → Type 0
-IsInRange version_line = Unit {0}
 IsInRange (total_line k) = k ≤ most_missing
 IsInRange (mark_line m) = m ≤ MAX_NUMBER
-IsInRange (body_line bytes) = Unit {0}
 IsInRange (list_line path) = AreNumbers path
 IsInRange (entry_line e) = IsEntryInRange e
-IsInRange end_line = Unit {0}
+IsInRange _ = Unit {0}

@@ -4,8 +4,7 @@ use Rattle.std.specs.Prelude.{Some, None, Result, Ok, Err}
 use Rattle.pv_tables.specs.Tables.{entries_in, most_entries}
 use Rattle.pv_tables.specs.declared.tables.Entry.{Entry}
 use Rattle.pv_cert.specs.Fronts.{Begins}
-use Rattle.pv_cert.specs.Lines.{PackLine, body_line, end_line, entry_line, list_line, mark_line}
-use Rattle.pv_cert.specs.Lines.{total_line, version_line}
+use Rattle.pv_cert.specs.Lines.{PackLine, end_line, entry_line}
 use Rattle.pv_cert.specs.Packs.{AreLines, IsPackText, MayFollow, last_line, lines_text}
 use Rattle.pv_cert.specs.declared.packs.Pack.{Pack}
 use Rattle.pv_cert.specs.declared.errors.PackError.{PackError}
@@ -18,13 +17,8 @@ MAX_PACK_BYTES = 1073741824
 -- how many of some lines are entries
 abbrev pub entries_among : List PackLine → ℕ
 entries_among [] = 0
-entries_among (version_line ∷ lines) = entries_among lines
-entries_among (total_line k ∷ lines) = entries_among lines
-entries_among (mark_line m ∷ lines) = entries_among lines
-entries_among (body_line bytes ∷ lines) = entries_among lines
-entries_among (list_line path ∷ lines) = entries_among lines
 entries_among (entry_line e ∷ lines) = suc (entries_among lines)
-entries_among (end_line ∷ lines) = entries_among lines
+entries_among (line ∷ lines) = entries_among lines
 
 -- These lines, which may stand after this one, stand at the front, and this after them.
 pub record Stand (before : Option PackLine) (bytes : List ℕ) (lines : List PackLine)

@@ -7,55 +7,30 @@ use Rattle.pv_cert.specs.Lines.{IsInRange, PackLine, body_line, end_line, entry_
 use Rattle.pv_cert.specs.Lines.{list_line, mark_line, total_line, version_line}
 use Rattle.pv_cert.specs.declared.packs.Pack.{Pack}
 
-abbrev pub IsVersion : PackLine → Type 0
-IsVersion version_line = Unit {0}
-IsVersion (total_line k) = ⊥
-IsVersion (mark_line m) = ⊥
-IsVersion (body_line bytes) = ⊥
-IsVersion (list_line path) = ⊥
-IsVersion (entry_line e) = ⊥
-IsVersion end_line = ⊥
-
-abbrev pub IsTotal : PackLine → Type 0
-IsTotal version_line = ⊥
-IsTotal (total_line k) = Unit {0}
-IsTotal (mark_line m) = ⊥
-IsTotal (body_line bytes) = ⊥
-IsTotal (list_line path) = ⊥
-IsTotal (entry_line e) = ⊥
-IsTotal end_line = ⊥
-
 abbrev pub IsMarkOrBody : PackLine → Type 0
-IsMarkOrBody version_line = ⊥
-IsMarkOrBody (total_line k) = ⊥
 IsMarkOrBody (mark_line m) = Unit {0}
 IsMarkOrBody (body_line bytes) = Unit {0}
-IsMarkOrBody (list_line path) = ⊥
-IsMarkOrBody (entry_line e) = ⊥
-IsMarkOrBody end_line = ⊥
+IsMarkOrBody _ = ⊥
 
 -- the head of a table, an entry of this property, or the end of the pack
 abbrev pub IsOfTables : (Entry → Type 0) → PackLine → Type 0
-IsOfTables MayStand version_line = ⊥
-IsOfTables MayStand (total_line k) = ⊥
-IsOfTables MayStand (mark_line m) = ⊥
-IsOfTables MayStand (body_line bytes) = ⊥
 IsOfTables MayStand (list_line path) = Unit {0}
 IsOfTables MayStand (entry_line e) = MayStand e
 IsOfTables MayStand end_line = Unit {0}
+IsOfTables MayStand _ = ⊥
 
 -- The line may stand after this one, or at the start of a pack where there is none: the version,
 -- the total, any number of marks, the body, then tables, and the end. The entries of a table
 -- ascend strictly by kind, number and span.
 abbrev pub MayFollow : Option PackLine → PackLine → Type 0
-MayFollow None line = IsVersion line
-MayFollow (Some version_line) line = IsTotal line
+MayFollow None version_line = Unit {0}
+MayFollow (Some version_line) (total_line k) = Unit {0}
 MayFollow (Some (total_line k)) line = IsMarkOrBody line
 MayFollow (Some (mark_line m)) line = IsMarkOrBody line
 MayFollow (Some (body_line bytes)) line = IsOfTables (λ e. ⊥) line
 MayFollow (Some (list_line path)) line = IsOfTables (λ e. Unit {0}) line
 MayFollow (Some (entry_line e)) line = IsOfTables (Precedes e) line
-MayFollow (Some end_line) line = ⊥
+MayFollow _ line = ⊥
 
 -- each line is in range and may stand after the one before it, the first one after this
 abbrev pub AreLines : Option PackLine → List PackLine → Type 0

@@ -310,11 +310,6 @@ xml_decl_by bytes start version encoding end rest e v second third ends =
       whole = decl_whole (codes "<?xml") bytes start v.item n.item s.item space.space rest e whole;
     }
 
-pub no_xml_decl_start : (bytes : List ℕ) → ((rest : List ℕ) → bytes ≢ codes "<?xml" ++ rest) → BeginsNone IsXmlDecl bytes
-no_xml_decl_start bytes none rest d = let i = d.is_item in
-    none _ (d.whole ∙ ap (λ l. l ++ rest) i.whole ∙ append_assoc (codes "<?xml") (i.version
-    ++ (i.encoding ++ (i.standalone ++ (i.space ++ codes "?>")))) rest)
-
 pub no_xml_decl_version : (bytes start : List ℕ) → bytes ≡ codes "<?xml" ++ start → BeginsNone IsVersionInfo start → BeginsNone IsXmlDecl bytes
 no_xml_decl_version bytes start e none rest d = let found = xml_decl_ends bytes start rest e d in none found.0 found.4
 

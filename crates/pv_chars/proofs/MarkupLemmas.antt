@@ -114,12 +114,6 @@ cdata_by bytes inside text rest e ends chars = record {
   whole = e ∙ ap (λ l. codes "<![CDATA[" ++ l) (ends.whole ∙ sym (append_assoc text (codes "]]>") rest)) ∙ sym (append_assoc (codes "<![CDATA[") (text ++ codes "]]>") rest);
 }
 
-pub no_cdata_start : (bytes : List ℕ) → ((rest : List ℕ) → bytes ≢ codes "<![CDATA[" ++ rest) → BeginsNone IsCdata bytes
-no_cdata_start bytes none rest c = none (c.is_item.text ++ codes "]]>" ++ rest) (c.whole ∙ ap (λ l. l ++ rest) c.is_item.whole ∙ append_assoc (codes "<![CDATA[") (c.is_item.text ++ codes "]]>") rest)
-
-pub no_cdata_end : (bytes inside : List ℕ) → bytes ≡ codes "<![CDATA[" ++ inside → (ContainsBytes inside (codes "]]>") → ⊥) → BeginsNone IsCdata bytes
-no_cdata_end bytes inside e none rest c = let found = cdata_ends bytes inside rest e c in none record { before = found.0; after = rest; whole = found.1.ends.whole }
-
 pub no_cdata_text : (bytes inside text end : List ℕ) → bytes ≡ codes "<![CDATA[" ++ inside → EndsAt (codes "]]>") inside text end → (IsChars text → ⊥) → BeginsNone IsCdata bytes
 no_cdata_text bytes inside text end e ends none rest c =
     let found = cdata_ends bytes inside rest e c in

@@ -1,14 +1,10 @@
 -- The parts of an XML declaration, read from the front.
-use Rattle.std.proofs.Common.{◌≡◌, ◌≢◌, ℕ, List, [], ◌∷◌, ◌++◌, Bool, true, false, Some, None, refl, sym, ap, subst, ◌∙◌, append_assoc}
+use Rattle.std.proofs.Common.{◌≡◌, ◌≢◌, ℕ, List, [], ◌∷◌, ◌++◌, false, Some, None, refl, sym, ap, subst, ◌∙◌, append_assoc}
 use Rattle.std.specs.Prelude.{codes}
-use Rattle.std.specs.List.{list_all}
-use Rattle.std.proofs.Common.{◌==◌, length, arith}
-use Rattle.std.specs.Char.{is_ascii_digit}
-use Rattle.std.proofs.lemmas.Bool.{ne_eqb}
 use Rattle.pv_chars.specs.Spaces.{is_space}
 use Rattle.pv_chars.specs.Scan.{after_space, after_blank}
 use Rattle.pv_chars.specs.Fronts.{Begins, BeginsNone}
-use Rattle.pv_chars.specs.Declarations.{is_quote, IsQuoted, IsPart, BeginsNoQuoted, BeginsNoPart, IsPartOf, IsVersionNum}
+use Rattle.pv_chars.specs.Declarations.{is_quote, IsQuoted, IsPart, BeginsNoQuoted, BeginsNoPart, IsPartOf}
 use Rattle.pv_chars.proofs.TextScans.{begins, after_space_takes, after_space-append, after_blank_takes, after_blank-append}
 use Rattle.pv_chars.proofs.Beginnings.{HasNoSpace, no_space, unlike}
 use Rattle.pv_chars.proofs.MarkupLemmas.{behind}
@@ -162,13 +158,3 @@ module _ (word bytes : List ℕ) (IsValue : List ℕ → Type 0) (some : word �
   part_of_starts rest b = let s = part_steps word bytes b.is_item.0 rest some black (part_in word bytes rest IsValue b) in (s.named, s.blank ∙ ap Some s.is_word)
 
 -- ---- values
-pub version_where : (value digits : List ℕ) (empty : Bool) → value ≡ codes "1." ++ digits →
-    empty ≡ (length digits == 0) → IsVersionNum value → (empty ≡ false)
-    × (list_all is_ascii_digit digits ≡ true)
-version_where value digits empty e is v =
-    let same : digits ≡ v.digits = behind (codes "1.") digits v.digits (sym e ∙ v.whole) in
-    (is ∙ some_are_not_empty digits (λ none. v.some (sym same ∙ none)), rw same v.are_digits)
-  where
-    some_are_not_empty : (xs : List ℕ) → (xs ≡ [] → ⊥) → (length xs == 0) ≡ false
-    some_are_not_empty [] some = absurd (some refl)
-    some_are_not_empty (x ∷ xs) some = ne_eqb (length (x ∷ xs)) 0 (λ none. omega arith)

@@ -1,5 +1,5 @@
 -- References, read from the front.
-use Rattle.std.proofs.Common.{◌≡◌, ◌≢◌, ℕ, ◌+◌, ◌*◌, ◌<◌, ◌≤◌, min, ◌⊎◌, inl, inr, ⊎_elim, List, [], ◌∷◌, ◌++◌, Bool, true, false, length, refl, sym}
+use Rattle.std.proofs.Common.{◌≡◌, ◌≢◌, ℕ, ◌+◌, ◌*◌, ◌<◌, ◌≤◌, min, ◌⊎◌, inl, ⊎_elim, List, [], ◌∷◌, ◌++◌, Bool, true, length, refl, sym}
 use Rattle.std.proofs.Common.{ap, subst, ◌∙◌, arith, append_assoc, length-append}
 use Rattle.std.proofs.lemmas.Bool.{and_parts, and_from, cases_lt, ltb-true, lt-ltb}
 use Rattle.std.proofs.lemmas.Bool.Decides.{nat_tests}
@@ -23,16 +23,6 @@ module _ (base : ℕ) (some : 1 ≤ base) where
       let below = number_grows (n * base + digit_value d) ds in
       let more : n * 1 ≤ n * base = mul-le-mul_left n some in omega arith
 
-  -- past all characters it doesn't matter by how much
-  number_past : (n m : ℕ) (ds : List ℕ) → min n PAST_CHARS ≡ min m PAST_CHARS → min (number_behind base n ds) PAST_CHARS ≡ min (number_behind base m ds) PAST_CHARS
-  number_past n m ds e = by (cases_lt n PAST_CHARS) (cases_lt m PAST_CHARS)
-    where
-      by : (n < PAST_CHARS) ⊎ (PAST_CHARS ≤ n) → (m < PAST_CHARS) ⊎ (PAST_CHARS ≤ m) → min (number_behind base n ds) PAST_CHARS ≡ min (number_behind base m ds) PAST_CHARS
-      by (inl a) (inl b) = let same : n ≡ m = omega arith in ap (λ k. min (number_behind base k ds) PAST_CHARS) same
-      by (inl a) (inr b) = absurd (omega arith)
-      by (inr a) (inl b) = absurd (omega arith)
-      by (inr a) (inr b) = let first = number_grows n ds in let second = number_grows m ds in omega arith
-
 pub no_char_past : (n : ℕ) → is_char (min n PAST_CHARS) ≡ is_char n
 no_char_past n = ⊎_elim (λ low. let same : min n PAST_CHARS ≡ n = omega arith in ap is_char same)
     (λ high. let same : min n PAST_CHARS ≡ PAST_CHARS = omega arith in ap is_char same
@@ -40,10 +30,6 @@ no_char_past n = ⊎_elim (λ low. let same : min n PAST_CHARS ≡ n = omega ari
   where
     none_above : (k : ℕ) → PAST_CHARS ≤ k → is_char k ≡ is_char PAST_CHARS
     none_above k high = grind (arith, nat_tests)
-
-pub product_small : (value base : ℕ) → value ≤ PAST_CHARS → base ≤ 36 → value * base ≤ 40108032
-product_small value base low known =
-    let first : value * base ≤ value * 36 = mul-le-mul_left value known in omega arith
 
 number_push : (base n : ℕ) (ds : List ℕ) (d : ℕ) → number_behind base n (ds ++ d ∷ []) ≡ number_behind base n ds * base + digit_value d
 number_push base n [] d = refl
@@ -82,16 +68,6 @@ digit_more base bytes rest more value digit d next some h e is v n = record {
   whole = h.whole ∙ ap (λ l. h.digits ++ l) e ∙ sym (append_assoc h.digits (d ∷ []) more);
   value_is = n ∙ capped base (number base h.digits) value digit some h.value_is ∙ ap (λ k. min k PAST_CHARS) (ap (λ k. number base h.digits * base + k) v ∙ sym (number_push base 0 h.digits d));
 }
-
-pub digits_end : (base : ℕ) (bytes rest : List ℕ) (value : ℕ) → HasDigits base bytes rest value →
-    ((d : ℕ) (more : List ℕ) → IsTrue (is_digit d base) → rest ≢ d ∷ more) → TakesDigits base bytes rest value
-digits_end base bytes rest value h ends = record { digits = h.digits; are_digits = h.are_digits; whole = h.whole; ends = ends; value_is = h.value_is }
-
-pub no_digit_next : (base d : ℕ) (rest more : List ℕ) → rest ≡ d ∷ more → is_digit d base ≡ false → (x : ℕ) (xs : List ℕ) → IsTrue (is_digit x base) → rest ≢ x ∷ xs
-no_digit_next base d rest more e other x xs is f = let same : d ≡ x = cc in let yes : is_digit d base ≡ true = rw same is in cc
-
-pub no_digit_at_end : (base : ℕ) (rest : List ℕ) → rest ≡ [] → (x : ℕ) (xs : List ℕ) → IsTrue (is_digit x base) → rest ≢ x ∷ xs
-no_digit_at_end base rest e x xs is f = cc
 
 -- digits and rest are determined
 pub same_digits_by : (base : ℕ) (xs ys r t : List ℕ) → list_all (λ d. is_digit d base) xs ≡ true →

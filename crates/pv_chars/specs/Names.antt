@@ -27,6 +27,6 @@ abbrev pub are_name_codes : List ℕ → Bool
 are_name_codes [] = false
 are_name_codes (c ∷ cs) = is_name_start c && list_all is_name_char cs
 
--- the same as a test: UTF-8 of such code points
+-- whether the bytes are a Name: UTF-8 of a NameStartChar and then NameChars (XML 1.0, 2.3)
 abbrev pub is_name : List ℕ → Bool
 is_name bytes = is_utf8 bytes && are_name_codes (chars bytes)

@@ -17,7 +17,7 @@ abbrev pub after_space : List ℕ → List ℕ
 after_space [] = []
 after_space (b ∷ bs) = if is_space b then after_space bs else b ∷ bs
 
--- the same, where there is some
+-- what stands after the white space at the front, where there is some
 unfoldable pub after_blank : List ℕ → Option (List ℕ)
 after_blank [] = None
 after_blank (b ∷ bs) = if is_space b then Some (after_space bs) else None

@@ -62,7 +62,8 @@ HasTextFault (Entity k) at rest = (k ≡ at) × BeginsOtherEntity rest
 HasTextFault (CloseMark k) at rest = (k ≡ at) × BeginsCloseMark rest
 HasTextFault NoMemory at rest = ⊥
 
--- the same, but that a unit may stand before `]]>`
+-- what keeps a unit from standing at a place, so many bytes from the start, where it may begin
+-- `]]>`
 abbrev pub HasUnitFault : TextError → ℕ → List ℕ → Type 0
 HasUnitFault Empty at rest = ⊥
 HasUnitFault (BadChar k) at rest = (k ≡ at) × BeginsBadChar rest
@@ -146,6 +147,7 @@ pub record MeansUnits (bytes : List ℕ) (count : ℕ) : Type 0 where
 abbrev pub is_simple : ℕ → Bool
 is_simple b = is_literal b && nat_lt b 128 && not (b == 62)
 
--- the same, and it doesn't begin `]]>`: it is a unit whatever stands after it
+-- a character of ASCII that stands for itself and is neither `>` nor `]`: it is a unit whatever
+-- stands after it
 abbrev pub is_lone : ℕ → Bool
 is_lone b = is_simple b && not (b == 93)

@@ -11,7 +11,7 @@ use crate::characters::are_chars;
 use crate::declarations::after_text_decl;
 use crate::markup::{after_comment, after_instruction};
 
-/// Whether it is one of these bytes.
+/// Whether the byte is one of these bytes.
 ///
 /// ```rust
 /// assert!(rt; is_one_of(b"ab", b'b') && !is_one_of(b"ab", b'c'));

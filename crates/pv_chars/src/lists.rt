@@ -1,4 +1,4 @@
-//! Lists.
+//! Values, numbers, names and bytes in order.
 
 ghost use Rattle.std.specs.Prelude.{◌≡◌, IfOk};
 
@@ -27,6 +27,11 @@ impl<T> Model for List<T> {
 
 impl<T> List<T> {
     /// The values of a vector, in its order; they aren't copied.
+    ///
+    /// ```rust
+    /// let numbers = Numbers::of([2, 1].to_vec(alloc)?);
+    /// assert!(rt; numbers.as_slice()[0] == 2);
+    /// ```
     pub fn of(items: Vec<T>) -> List<T>
         ensures { result ≡ items.items }
     {
@@ -34,6 +39,10 @@ impl<T> List<T> {
     }
 
     /// The values in order.
+    ///
+    /// ```rust
+    /// assert!(rt; bytes_of(alloc, b"em")?.as_slice() == b"em".as_slice());
+    /// ```
     pub fn as_slice(&self) -> &[T]
         ensures { result.now ≡ self.now }
     {
@@ -41,13 +50,23 @@ impl<T> List<T> {
     }
 }
 
-/// A string of bytes.
+/// Bytes in order: a name, a text, or any other part of a document.
+///
+/// ```rust
+/// let name: Bytes = bytes_of(alloc, b"em")?;
+/// assert!(rt; name.as_slice().len() == 2);
+/// ```
 pub type Bytes = List<u8>;
 
-/// A list of numbers.
+/// Numbers in order, as the marks of a completion.
+///
+/// ```rust
+/// let marks: Numbers = Numbers::of([1, 4].to_vec(alloc)?);
+/// assert!(rt; marks.as_slice().len() == 2);
+/// ```
 pub type Numbers = List<u32>;
 
-/// A list of names.
+/// Names in order, each as its bytes.
 ///
 /// ```rust
 /// // test_layers: labels

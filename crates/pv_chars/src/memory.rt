@@ -1,8 +1,13 @@
-//! Want of memory.
+//! The error of calls that find too little memory.
 
 use std::alloc::{AllocError, AllocFailed};
 
-/// There was no memory for a value. Nothing was changed.
+/// There was too little memory for a value. A call that returns it has changed nothing, unless it
+/// says otherwise.
+///
+/// ```rust
+/// assert!(rt; !matches!(bytes_of(alloc, b"em"), Err(NoMemory)));
+/// ```
 #[derive(Clone, Copy, Debug, PartialEq, Eq)]
 pub struct NoMemory;
 

@@ -1,4 +1,4 @@
-//! Names.
+//! Names at the front of some bytes (XML 1.0, section 2.3).
 
 ghost use Rattle.std.specs.Prelude.{◌≡◌, ◌<◌, ◌≤◌, ◌↔◌, length, IfSome, IsTrue, MatchOption};
 ghost use Rattle.pv_chars.specs.Characters.{is_name_char, TakesChars};

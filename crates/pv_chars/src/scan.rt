@@ -7,7 +7,7 @@ ghost use Rattle.pv_chars.specs.ByteOrderMark.{IsBehindByteOrderMark};
 ghost use Rattle.pv_chars.specs.Spaces.{is_space, begins, IsOptionalSpace, TakesSpace, TakesBlank};
 ghost use Rattle.pv_chars.specs.Scan.{space_length, after_space, after_blank, after_bytes};
 
-/// White space of XML 1.0, section 2.3.
+/// Whether the byte is white space: a space, a tab, a CR or an LF (XML 1.0, section 2.3, S).
 ///
 /// ```rust
 /// assert!(rt; is_space(b'\t') && !is_space(b'x'));
@@ -87,7 +87,13 @@ pub fn after_bytes<'a>(front: &[u8], bytes: &'a [u8]) -> Option<&'a [u8]>
     bytes.strip_prefix(front)
 }
 
-/// What stands after the byte order mark, where there is one.
+/// What stands after the byte order mark (XML 1.0, section 4.3.3), or all of the bytes where there
+/// is none.
+///
+/// ```rust
+/// assert!(rt; after_byte_order_mark(b"\xEF\xBB\xBF<a/>") == b"<a/>".as_slice());
+/// assert!(rt; after_byte_order_mark(b"<a/>") == b"<a/>".as_slice());
+/// ```
 pub fn after_byte_order_mark(bytes: &[u8]) -> &[u8]
     ensures behind { IsBehindByteOrderMark bytes.now result.now }
     ensures within { length result.now ≤ length bytes.now }

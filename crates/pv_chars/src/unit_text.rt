@@ -176,7 +176,11 @@ impl Model for Units {
 }
 
 impl Units {
-    /// The number of units.
+    /// How many units the text has, at least one; a reference is one unit.
+    ///
+    /// ```rust
+    /// assert!(rt; text_units(alloc, b"a&lt;b")?.len() == 3);
+    /// ```
     pub fn len(&self) -> usize
         ensures value { result ≡ length self.now }
         ensures some { 0 < result }
@@ -184,7 +188,11 @@ impl Units {
         self.count
     }
 
-    /// The bytes of the units, joined.
+    /// The bytes of the text: those of its units, joined.
+    ///
+    /// ```rust
+    /// assert!(rt; text_units(alloc, b"a&lt;b")?.bytes() == b"a&lt;b".as_slice());
+    /// ```
     pub fn bytes(&self) -> &[u8]
         ensures value { result.now ≡ joined self.now }
         ensures units { units_in result.now ≡ self.now }
@@ -205,7 +213,12 @@ impl Units {
         has_black(self.bytes.as_slice())
     }
 
-    /// A copy of the units.
+    /// A text of the same units.
+    ///
+    /// ```rust
+    /// let units = text_units(alloc, b"a&lt;b")?;
+    /// assert!(rt; units.copy(alloc)?.bytes() == units.bytes());
+    /// ```
     pub fn copy(&self, alloc: Global) -> Result<Units, NoMemory>
         ensures { IfOk result (λ u. u ≡ self.now) }
     {

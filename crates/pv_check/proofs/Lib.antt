@@ -1,7 +1,7 @@
 -- of this crate:
 pub mod PossibleCounts
 pub mod InsertedLists
-pub mod ByWord
+pub mod ListsByWords
 pub mod EndedLists
 pub mod Refusals
-pub mod Whole
+pub mod WholeRoots

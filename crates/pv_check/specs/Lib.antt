@@ -1,3 +1,3 @@
-pub mod Judging
+pub mod ListJudgements
 pub mod Findings
 pub mod Answers

@@ -1,6 +1,6 @@
 //! Judges the lists of a document while it is read, in one pass from left to right.
 
-ghost use Rattle.std.specs.Prelude.{◌≡◌, ◌+◌, List, IfOk, IfErr, OnErr, ℕ};
+ghost use Rattle.std.specs.Prelude.{◌≡◌, ◌+◌, List, IfOk, IfErr, OnErr, ℕ, Err, length};
 ghost use Rattle.pv_dtd.specs.Plain.{PlainDtd};
 ghost use Rattle.pv_productive.specs.PlainForms.{dtd_of};
 ghost use Rattle.pv_tree.specs.Lists.{Listed, lists_of};
@@ -10,12 +10,16 @@ ghost use Rattle.pv_tree.specs.declared.nodes.Mark.{Mark};
 ghost use Rattle.pv_read.specs.Meaning.{DocumentMeans, Outcome, is_document};
 ghost use Rattle.pv_lists.specs.Answers.{ReadsLists};
 ghost use Rattle.pv_check.specs.Answers.{AnswersText, CountsTold, RefusesBytes, Tells, TellsLists};
-ghost use Rattle.pv_check.specs.Answers.{root_lists};
+ghost use Rattle.pv_check.specs.Answers.{TellsAnyhow, root_lists};
 ghost use Rattle.pv_check.specs.Findings.{HasFound, verdicts_by};
+ghost use Rattle.pv_check.specs.declared.widths.Widths.{Widths as HowWide};
+ghost use Rattle.pv_read.specs.Errors.{Refuses};
+ghost use Rattle.pv_read.specs.PlainForms.{Answers};
 
 use crate::errors::{ListError, TextError};
 use crate::findings::{Findings, Noted};
 use crate::judging::Verdicts;
+use crate::widths::Widths;
 use crate::words::judge_word;
 use pv_dtd::laws::proper_dtd_law;
 use pv_fresh::count_lists;
@@ -23,7 +27,7 @@ use pv_lists::{OpenLists, read_lists};
 use pv_missing::laws::documents::live_lists_law;
 use pv_missing::root_owner;
 use pv_reach::Judge;
-use pv_read::{MAX_DEPTH, MAX_DOC_BYTES};
+use pv_read::{DocError, MAX_DEPTH, MAX_DOC_BYTES};
 use pv_steps::Steps;
 use pv_tree::{Mark, Path};
 use std::sync::ledger::Ledger;
@@ -43,34 +47,41 @@ pub enum Told {
 
 // What is found with the document node's list, where the root is whole.
 fn judge_root(
+    widths: Widths,
     judge: &Judge<'_>,
     root: &[u8],
     lists: OpenLists<'_, Noted, Findings>,
 ) -> Result<Findings, ListError>
     requires { (t : Tree Mark) ×
-        ReadsLists (verdicts_by (dtd_of judge.now)) root.now lists t }
-    ensures { (t : Tree Mark) → ReadsLists (verdicts_by (dtd_of judge.now)) root.now lists.entry t →
-        IfOk result (HasFound (dtd_of judge.now) root.now (root_lists t)) }
+        ReadsLists (verdicts_by widths (dtd_of judge.now)) root.now lists t }
+    ensures { (t : Tree Mark) →
+        ReadsLists (verdicts_by widths (dtd_of judge.now)) root.now lists.entry t →
+        IfOk result (HasFound widths (dtd_of judge.now) root.now (root_lists t)) }
 {
     let owner = root_owner(judge.grammar().dtd(), root);
-    let judged = judge_word(judge, owner, &[lists.inner.token], false)?;
+    let judged = judge_word(widths, judge, owner, &[lists.inner.token], false)?;
     let mut found = lists.found;
     found.add(judge.alloc(), judged, &[])?;
     Ok(found)
 }
 
-// What is found of all lists of the document that the bytes are.
-fn find_lists(judge: &Judge<'_>, root: &[u8], bytes: &[u8]) -> Result<Findings, TextError>
+// What is found of all lists of the document that the bytes are, which may be so wide.
+fn find_lists(
+    widths: Widths,
+    judge: &Judge<'_>,
+    root: &[u8],
+    bytes: &[u8],
+) -> Result<Findings, TextError>
     ensures read { IfOk result (λ _. (doc : PlainDoc Mark) ×
         DocumentMeans blank_mark root.now bytes.now (is_document doc)) }
     ensures finds { IfOk result (λ found. (doc : PlainDoc Mark) →
         DocumentMeans blank_mark root.now bytes.now (is_document doc) →
-        HasFound (dtd_of judge.now) root.now (lists_of doc) found) }
+        HasFound widths (dtd_of judge.now) root.now (lists_of doc) found) }
     ensures refused { IfErr result (RefusesBytes (DocumentMeans blank_mark root.now bytes.now)) }
     ensures exactly { (o : Outcome Mark) → DocumentMeans blank_mark root.now bytes.now o →
         IfErr result (AnswersText o) }
 {
-    let verdicts = Verdicts { judge };
+    let verdicts = Verdicts { judge, widths };
     let lists = read_lists(
         judge.alloc(),
         &verdicts,
@@ -79,33 +90,38 @@ fn find_lists(judge: &Judge<'_>, root: &[u8], bytes: &[u8]) -> Result<Findings, 
         root,
         bytes,
     )?;
-    let found = judge_root(judge, root, lists)?;
+    let found = judge_root(widths, judge, root, lists)?;
     Ok(found)
 }
 
-// What these findings tell of the lists, which are counted unless one is too wide.
-fn tell<L: Ledger>(found: Findings, steps: &mut Steps<L>) -> Told
-    ensures tells { (g : PlainDtd) (root : List ℕ) (lists : List (Listed Mark)) →
-        HasFound g root lists found → TellsLists g root lists result }
-    ensures counts { (g : PlainDtd) (root : List ℕ) (lists : List (Listed Mark)) →
-        HasFound g root lists found → CountsTold lists result steps.old steps.new }
+// What these findings tell of the lists.
+fn tell(found: Findings) -> Told
+    ensures { (s : HowWide) (g : PlainDtd) (root : List ℕ) (lists : List (Listed Mark)) →
+        HasFound s g root lists found → TellsLists s g root lists result }
 {
     let Findings {
         wide,
         first,
         possible,
-        lists,
         ..
     } = found;
     match wide {
         Some(path) => Told::TooWide(path),
-        None => {
-            count_lists(lists, steps);
-            match first {
-                Some(path) => Told::Impossible(path),
-                None => Told::Possible(possible),
-            }
-        }
+        None => match first {
+            Some(path) => Told::Impossible(path),
+            None => Told::Possible(possible),
+        },
+    }
+}
+
+// Counts so many lists, of which this is told, unless one is too wide.
+fn count<L: Ledger>(told: &Told, lists: u64, steps: &mut Steps<L>)
+    ensures { (all : List (Listed Mark)) → lists ≡ length all →
+        CountsTold all told.now steps.old steps.new }
+{
+    match told {
+        Told::TooWide(_) => {}
+        Told::Impossible(_) | Told::Possible(_) => count_lists(lists, steps),
     }
 }
 
@@ -136,6 +152,34 @@ pub fn check_text<L: Ledger>(
 {
     live_lists_law::<Mark>();
     proper_dtd_law(judge.grammar().dtd());
-    let found = find_lists(judge, root, bytes)?;
-    Ok(tell(found, steps))
+    let found = find_lists(Widths::Limited, judge, root, bytes)?;
+    let lists = found.lists;
+    let told = tell(found);
+    count(&told, lists, steps);
+    Ok(told)
+}
+
+/// What the lists of the document that the bytes are tell, where the root's name is this one,
+/// however wide they are: as `check_text` tells, but that none is too wide, and on no counter.
+///
+/// What `read_doc` refuses is refused, with the same error. A list whose table would have more than
+/// 268,435,456 numbers takes more memory than there may be.
+pub fn check_any_text(judge: &Judge<'_>, root: &[u8], bytes: &[u8]) -> Result<Told, DocError>
+    ensures read { IfOk result (λ _. (doc : PlainDoc Mark) ×
+        DocumentMeans blank_mark root.now bytes.now (is_document doc)) }
+    ensures tells { IfOk result (λ told. (doc : PlainDoc Mark) →
+        DocumentMeans blank_mark root.now bytes.now (is_document doc) →
+        TellsAnyhow (dtd_of judge.now) root.now doc told) }
+    ensures refused { IfErr result (Refuses (DocumentMeans blank_mark root.now bytes.now)) }
+    ensures exactly { (o : Outcome Mark) → DocumentMeans blank_mark root.now bytes.now o →
+        IfErr result (λ e. Answers o (Err e)) }
+{
+    live_lists_law::<Mark>();
+    proper_dtd_law(judge.grammar().dtd());
+    match find_lists(Widths::Any, judge, root, bytes) {
+        Ok(found) => Ok(tell(found)),
+        Err(TextError::Document(error)) => Err(error),
+        // No number of tokens is too many here.
+        Err(TextError::LongLists) => Err(DocError::NoMemory),
+    }
 }

@@ -5,11 +5,13 @@ ghost use Rattle.std.specs.List.{AllByRecursion};
 ghost use Rattle.pv_dtd.specs.Plain.{PlainDtd};
 ghost use Rattle.pv_tree.specs.Lists.{Listed};
 ghost use Rattle.pv_tree.specs.declared.nodes.Mark.{Mark};
-ghost use Rattle.pv_lists.specs.Judging.{MAX_KIDS};
+ghost use Rattle.pv_lists.specs.Judgements.{MAX_KIDS};
 ghost use Rattle.pv_check.specs.Findings.{HasFound, HasNoted};
-ghost use Rattle.pv_check.specs.Judging.{IsNarrowAndLive, IsPlaced, JudgesList};
+ghost use Rattle.pv_check.specs.ListJudgements.{IsNarrowAndLive, IsPlaced, JudgesList};
+ghost use Rattle.pv_check.specs.declared.widths.Widths.{Widths as HowWide};
 
 use crate::errors::ListError;
+use crate::widths::Widths;
 use pv_chars::NoMemory;
 use pv_tree::{Path, Verdict};
 use std::alloc::Global;
@@ -45,23 +47,26 @@ pub struct Findings {
 }
 
 impl Findings {
-    /// Those of no lists.
-    pub fn none() -> Findings
-        ensures { (g : PlainDtd) (root : List ℕ) → HasFound g root [] result }
+    /// Those of no lists, which may be so wide.
+    pub fn none(widths: Widths) -> Findings
+        ensures { (s : HowWide) (g : PlainDtd) (root : List ℕ) → HasFound s g root [] result }
     {
         Findings {
             wide: None,
             first: None,
             possible: 0,
             lists: 0,
-            left: TOKENS_BY_ONE_THREAD,
+            left: match widths {
+                Widths::Limited => TOKENS_BY_ONE_THREAD,
+                Widths::Any => usize::MAX,
+            },
         }
     }
 
     /// What is noted of these lists.
     pub fn noted(&self) -> Noted
-        ensures { (g : PlainDtd) (root : List ℕ) (lists : List (Listed Mark)) →
-            HasFound g root lists self.now → HasNoted g root lists result }
+        ensures { (s : HowWide) (g : PlainDtd) (root : List ℕ) (lists : List (Listed Mark)) →
+            HasFound s g root lists self.now → HasNoted s g root lists result }
     {
         Noted {
             wide: self.wide.is_some(),
@@ -72,8 +77,8 @@ impl Findings {
     /// Takes so many tokens of a list, where it is long and isn't valid, as it was judged, from
     /// those that may still be judged.
     pub fn spend(&mut self, tokens: usize, judged: Option<Verdict>) -> Result<(), ListError>
-        ensures { (g : PlainDtd) (root : List ℕ) (lists : List (Listed Mark)) →
-            HasFound g root lists self.old → HasFound g root lists self.new }
+        ensures { (s : HowWide) (g : PlainDtd) (root : List ℕ) (lists : List (Listed Mark)) →
+            HasFound s g root lists self.old → HasFound s g root lists self.new }
     {
         if tokens < COUNTED_TOKENS || matches!(judged, Some(Verdict::Valid)) {
             return Ok(());
@@ -93,11 +98,11 @@ impl Findings {
     ) -> Result<(), NoMemory>
         requires few_lists { self.old.lists < MAX_KIDS }
         requires few_possible { self.old.possible < MAX_KIDS }
-        ensures { (g : PlainDtd) (root : List ℕ) (before after : List (Listed Mark))
-            (list : Listed Mark) → HasFound g root (before ++ after) self.old →
-            AllByRecursion (IsNarrowAndLive g root) before → JudgesList g root list judged →
+        ensures { (s : HowWide) (g : PlainDtd) (root : List ℕ) (before after : List (Listed Mark))
+            (list : Listed Mark) → HasFound s g root (before ++ after) self.old →
+            AllByRecursion (IsNarrowAndLive s g root) before → JudgesList s g root list judged →
             IsPlaced judged list.path places.now →
-            OnOk result (HasFound g root (before ++ list ∷ after) self.new) }
+            OnOk result (HasFound s g root (before ++ list ∷ after) self.new) }
     {
         match judged {
             None => {
@@ -119,12 +124,12 @@ impl Findings {
     ) -> Result<(), NoMemory>
         requires few_lists { self.old.lists < MAX_KIDS }
         requires few_possible { self.old.possible < MAX_KIDS }
-        ensures { (g : PlainDtd) (root : List ℕ) (before after : List (Listed Mark))
-            (list : Listed Mark) → HasFound g root (before ++ after) self.old →
-            AllByRecursion (IsNarrowAndLive g root) before →
-            JudgesList g root list (Some verdict) →
+        ensures { (s : HowWide) (g : PlainDtd) (root : List ℕ) (before after : List (Listed Mark))
+            (list : Listed Mark) → HasFound s g root (before ++ after) self.old →
+            AllByRecursion (IsNarrowAndLive s g root) before →
+            JudgesList s g root list (Some verdict) →
             IsPlaced (Some verdict) list.path places.now →
-            OnOk result (HasFound g root (before ++ list ∷ after) self.new) }
+            OnOk result (HasFound s g root (before ++ list ∷ after) self.new) }
     {
         match verdict {
             Verdict::Impossible => {

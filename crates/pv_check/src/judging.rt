@@ -5,13 +5,13 @@ ghost use Rattle.std.specs.Prelude.{List};
 ghost use Rattle.pv_productive.specs.PlainForms.{dtd_of};
 ghost use Rattle.pv_tree.specs.Plain.{Tree};
 ghost use Rattle.pv_tree.specs.declared.nodes.Mark.{Mark};
-ghost use Rattle.pv_missing.specs.Widths.{FitsVerdict};
-ghost use Rattle.pv_lists.specs.Judging.{FindsEnded, IsEnded, MAX_KIDS, path_in};
+ghost use Rattle.pv_lists.specs.Judgements.{FindsEnded, IsEnded, MAX_KIDS, path_in};
 ghost use Rattle.pv_check.specs.Findings.{verdicts_by};
-ghost use Rattle.pv_check.specs.Judging.{IsPlaced, JudgesOwn};
+ghost use Rattle.pv_check.specs.ListJudgements.{FitsWithin, IsPlaced, JudgesOwn};
 
 use crate::errors::ListError;
 use crate::findings::{Findings, Noted};
+use crate::widths::Widths;
 use crate::words::{judge_word, owner_of};
 use pv_chars::NoMemory;
 use pv_dtd::Dtd;
@@ -26,14 +26,19 @@ use pv_tree::{Path, Verdict};
 #[derive(Drop)]
 pub struct Verdicts<'l, 'a> {
     pub judge: &'l Judge<'a>,
+    pub widths: Widths,
 }
 
 impl<'l, 'a> Verdicts<'l, 'a> {
     // Whether a list of this word isn't too wide.
     fn is_narrow(&self, word: &[Token]) -> bool
-        ensures { IsTrue result ↔ FitsVerdict (dtd_of self.now.judge.now) (length word.now) }
+        ensures { IsTrue result ↔
+            FitsWithin self.now.widths (dtd_of self.now.judge.now) (length word.now) }
     {
-        is_narrow(self.judge.grammar().dtd(), word.len() as u64)
+        match self.widths {
+            Widths::Limited => is_narrow(self.judge.grammar().dtd(), word.len() as u64),
+            Widths::Any => true,
+        }
     }
 
     // The verdict of the list of this element, which ends with this word; none where it is too
@@ -45,11 +50,12 @@ impl<'l, 'a> Verdicts<'l, 'a> {
     ) -> Result<Option<Verdict>, NoMemory>
         ensures { (kids : List (Tree Mark)) →
             IsEnded (dtd_of self.now.judge.now) list.now word.now kids →
-            IfOk result (JudgesOwn (dtd_of self.now.judge.now) list.now.name.now kids) }
+            IfOk result (JudgesOwn self.now.widths (dtd_of self.now.judge.now) list.now.name.now
+            kids) }
     {
         let owner = owner_of(list.token);
         let has_kids = list.kids > 0;
-        judge_word(self.judge, owner, word, !has_kids)
+        judge_word(self.widths, self.judge, owner, word, !has_kids)
     }
 
     // The places of a list in these elements, where it is, judged so, too wide or Impossible.
@@ -76,8 +82,9 @@ impl<'l, 'a> Verdicts<'l, 'a> {
     ) -> Result<(), NoMemory>
         requires few { found.old.lists < MAX_KIDS }
         requires behind { list.now.before.any ≡ true }
-        ensures { OnOk result (FindsEnded (verdicts_by (dtd_of self.now.judge.now)) list.now word.now
-            outer.now found.old found.new) }
+        ensures { OnOk result (FindsEnded
+            (verdicts_by self.now.widths (dtd_of self.now.judge.now)) list.now word.now outer.now
+            found.old found.new) }
     {
         if list.before.wide {
             found.lists += 1;
@@ -105,8 +112,9 @@ impl<'l, 'a> Verdicts<'l, 'a> {
         requires few_lists { found.old.lists < MAX_KIDS }
         requires few_possible { found.old.possible < MAX_KIDS }
         requires first { list.now.before.any ≡ false }
-        ensures { OnOk result (FindsEnded (verdicts_by (dtd_of self.now.judge.now)) list.now word.now
-            outer.now found.old found.new) }
+        ensures { OnOk result (FindsEnded
+            (verdicts_by self.now.widths (dtd_of self.now.judge.now)) list.now word.now outer.now
+            found.old found.new) }
     {
         let judged = self.verdict(list, word)?;
         let places = self.places(outer, judged)?;
@@ -125,14 +133,14 @@ impl<'l, 'a> ListJudge for Verdicts<'l, 'a> {
 
     type Error = ListError;
 
-    ghost judgement = { λ s. verdicts_by (dtd_of s.judge.now) };
+    ghost judgement = { λ s. verdicts_by s.widths (dtd_of s.judge.now) };
 
     fn dtd(&self) -> &Dtd {
         self.judge.grammar().dtd()
     }
 
     fn none(&self) -> Findings {
-        Findings::none()
+        Findings::none(self.widths)
     }
 
     fn before(&self, found: &Findings) -> Noted {

@@ -7,14 +7,14 @@ use Rattle.std.proofs.lemmas.List.{length-append}
 use Rattle.pv_dtd.specs.Plain.{PlainDtd}
 use Rattle.pv_drill.specs.Drill.{drill_lines, section_line, section_lines}
 use Rattle.pv_tree.specs.Lists.{lists_of}
-use Rattle.pv_cli.specs.Checking.{CountsAtMost, CountsVerb, judging_files_stage}
+use Rattle.pv_cli.specs.RunCounts.{CountsAtMost, CountsVerb, judging_files_stage}
 use Rattle.pv_cli.specs.declared.verb.Verb.{Verb}
 use Rattle.pv_cli.specs.declared.verb.Verb.TheVariants.{Valid, Check, Session, Complete, Why}
-use Rattle.pv_conversation.specs.Counting.{CountsScript}
+use Rattle.pv_conversation.specs.CountedLines.{CountsScript}
 use Rattle.pv_opening.specs.Course.{Course, RunEnding, after_fetches, without_input}
 use Rattle.pv_opening.specs.Documents.{PlainOpened, document_stage}
-use Rattle.pv_opening.specs.Judging.{CountsJudged, CountsNoMore, CountsOpening, judges_all}
-use Rattle.pv_opening.specs.Judging.{judges_none, judging_stage, lists_judged}
+use Rattle.pv_opening.specs.JudgedCounts.{CountsJudged, CountsNoMore, CountsOpening, judges_all}
+use Rattle.pv_opening.specs.JudgedCounts.{judges_none, judging_stage, lists_judged}
 use Rattle.pv_opening.specs.Opening.{Files, fetching_stage}
 use Rattle.pv_opening.specs.Possibility.{width_stage}
 use Rattle.pv_opening.specs.Returns.{StopsBy, ending_of}

@@ -10,7 +10,7 @@ use Rattle.pv_opening.specs.Course.{no_memory}
 use Rattle.pv_cli.specs.Headline.{HadNoMemory}
 use Rattle.pv_cli.specs.Laws.{AnswersWithoutFault, Answered}
 use Rattle.pv_opening.specs.Devices.{Devices}
-use Rattle.pv_opening.specs.Showing.{CountsShelf, CountsInput, WritesEnding, wrote, cut_off}
+use Rattle.pv_opening.specs.ShownCourses.{CountsShelf, CountsInput, WritesEnding, wrote, cut_off}
 use Rattle.pv_cli.specs.Program.{Runs}
 use Rattle.pv_opening.specs.Response.{PlainResponse}
 

@@ -18,7 +18,7 @@ use Rattle.pv_opening.specs.Documents.{PlainOpened}
 use Rattle.pv_cli.specs.Headline.{AnswersScript, HadNoMemory, HoldsDocument, HoldsDtd}
 use Rattle.pv_cli.specs.Laws.{Answered, AnswersWithoutFault, SessionsAreGuarded}
 use Rattle.pv_opening.specs.Opening.{AreFiles, Files, file_at, opening_stage}
-use Rattle.pv_opening.specs.Showing.{ReadsAll, TakesInput}
+use Rattle.pv_opening.specs.ShownCourses.{ReadsAll, TakesInput}
 use Rattle.pv_cli.specs.Program.{Runs}
 use Rattle.pv_opening.specs.Response.{PlainResponse}
 use Rattle.pv_conversation.specs.Script.{IsWithin}
@@ -28,7 +28,7 @@ use Rattle.pv_opening.specs.declared.status.Status.{Status}
 use Rattle.pv_opening.specs.declared.status.Status.TheVariants.{Done}
 use Rattle.pv_cli.specs.declared.verb.Verb.TheVariants.{Session}
 use Rattle.pv_conversation.proofs.Beginnings.{session_begins}
-use Rattle.pv_conversation.proofs.GoingOn.{more_changes_nothing}
+use Rattle.pv_conversation.proofs.ContinuedScripts.{more_changes_nothing}
 use Rattle.pv_opening.proofs.OneOpening.{AreSameOpened, GoesWith, ReadsOne, ReadsOneDtd, opening_sure, went_on}
 use Rattle.pv_conversation.proofs.OneSession.{guarding_sure, quit_on, within_or_past}
 

@@ -10,18 +10,18 @@ use Rattle.pv_opening.specs.declared.stop.Stop.TheVariants.{Refused, ShelfFault,
 use Rattle.pv_cli.specs.declared.verb.Verb.{Verb}
 use Rattle.pv_cli.specs.declared.verb.Verb.TheVariants.{Session}
 use Rattle.pv_session.specs.Sessions.{PlainSession}
-use Rattle.pv_cli.specs.Checking.{CountsVerb}
-use Rattle.pv_conversation.specs.Counting.{CountsScript}
+use Rattle.pv_cli.specs.RunCounts.{CountsVerb}
+use Rattle.pv_conversation.specs.CountedLines.{CountsScript}
 use Rattle.pv_cli.specs.CommandLine.{PlainCommandLine, files_named, on_document}
 use Rattle.pv_cli.specs.Commands.{GoesOn, VerbTells}
 use Rattle.pv_conversation.specs.Conversation.{Talked}
 use Rattle.pv_opening.specs.Course.{Course, after_fetches, responds, without_input}
 use Rattle.pv_opening.specs.Devices.{InputNow, OutputNow, ShelfNow, devices}
 use Rattle.pv_opening.specs.Documents.{PlainOpened, document_stage}
-use Rattle.pv_opening.specs.Judging.{CountsOpening, judging_stage, lists_judged}
+use Rattle.pv_opening.specs.JudgedCounts.{CountsOpening, judging_stage, lists_judged}
 use Rattle.pv_opening.specs.Opening.{AreFiles, fetching_stage, opening_stage}
 use Rattle.pv_cli.specs.Program.{ChecksLists, IsDefined, Runs}
-use Rattle.pv_opening.specs.Showing.{CountsInput, CountsShelf, ShowsStreams, WritesEnding}
+use Rattle.pv_opening.specs.ShownCourses.{CountsInput, CountsShelf, ShowsStreams, WritesEnding}
 use Rattle.pv_opening.specs.Response.{plain_response}
 use Rattle.pv_cli.specs.Returns.{DoesRest, FindsResponse, session_stage}
 use Rattle.pv_opening.specs.Returns.{TakesCourse, ReturnsOver, StopsBy, ending_of, plain_fetched}

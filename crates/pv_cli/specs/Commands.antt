@@ -29,7 +29,7 @@ VerbTells Why root opened = IsWhyCourse root opened
 abbrev pub IsDocumentCourse : Verb → List ℕ → Files → Course → Type 0
 IsDocumentCourse verb root files = Behind (opening_stage root files) (VerbTells verb root)
 
--- the same, once the DTD is opened and the document's bytes are fetched
+-- a command on a document, once the DTD is opened and the document's bytes are fetched
 abbrev pub GoesOn : Verb → List ℕ → PlainDtd × List ℕ → Course → Type 0
 GoesOn verb root fetched = Behind (document_stage root fetched.0 fetched.1) (VerbTells verb root)
 

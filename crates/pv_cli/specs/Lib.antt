@@ -1,4 +1,4 @@
-pub mod Checking
+pub mod RunCounts
 pub mod CommandLine
 pub mod Commands
 pub mod Drill

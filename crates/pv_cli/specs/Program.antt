@@ -2,7 +2,7 @@
 use Rattle.std.specs.Prelude.{◌≡◌, ℕ, codes, Option, Some, None}
 use Rattle.pv_opening.specs.declared.status.Status.{Status}
 use Rattle.pv_opening.specs.declared.status.Status.TheVariants.{Usage}
-use Rattle.pv_cli.specs.Checking.{CountsDrill, CountsVerb, judging_files_stage}
+use Rattle.pv_cli.specs.RunCounts.{CountsDrill, CountsVerb, judging_files_stage}
 use Rattle.pv_cli.specs.CommandLine.{PlainCommandLine, drill, files_named, on_certificate}
 use Rattle.pv_cli.specs.CommandLine.{on_document, on_dtd, on_ranges}
 use Rattle.pv_cli.specs.Commands.{IsCheckerCourse, IsDocumentCourse}
@@ -10,12 +10,12 @@ use Rattle.pv_opening.specs.Course.{Course}
 use Rattle.pv_opening.specs.Devices.{Devices}
 use Rattle.pv_cli.specs.Drill.{IsDrillCourse}
 use Rattle.pv_commands.specs.Dtd.{IsDtdCourse}
-use Rattle.pv_opening.specs.Judging.{CountsNoMore}
+use Rattle.pv_opening.specs.JudgedCounts.{CountsNoMore}
 use Rattle.pv_opening.specs.Opening.{AreFiles, Files}
 use Rattle.pv_opening.specs.Response.{with_line}
 use Rattle.pv_opening.specs.Stage.{Responds}
 use Rattle.pv_commands.specs.Standoff.{CountsNested, IsStandoffCourse}
-use Rattle.pv_opening.specs.Showing.{ShowsShelf, ShowsStreams}
+use Rattle.pv_opening.specs.ShownCourses.{ShowsShelf, ShowsStreams}
 
 -- the courses that a command line may take over its files
 abbrev pub IsDefined : Option PlainCommandLine → Files → Course → Type 0

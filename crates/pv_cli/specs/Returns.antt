@@ -3,11 +3,11 @@ use Rattle.std.specs.Prelude.{ℕ, List, Option, Result}
 use Rattle.pv_dtd.specs.Plain.{PlainDtd}
 use Rattle.pv_session.specs.Sessions.{PlainSession}
 use Rattle.pv_cli.specs.Commands.{GoesOn}
-use Rattle.pv_cli.specs.Checking.{CountsVerb}
+use Rattle.pv_cli.specs.RunCounts.{CountsVerb}
 use Rattle.pv_cli.specs.CommandLine.{PlainCommandLine, files_named}
 use Rattle.pv_opening.specs.Devices.{InputNow, OutputNow, ShelfNow}
 use Rattle.pv_opening.specs.Documents.{document_stage}
-use Rattle.pv_opening.specs.Judging.{judging_stage}
+use Rattle.pv_opening.specs.JudgedCounts.{judging_stage}
 use Rattle.pv_cli.specs.Program.{ChecksLists, IsDefined}
 use Rattle.pv_commands.specs.Returns.{FindsOver}
 use Rattle.pv_conversation.specs.Session.{guarding_stage}
@@ -31,7 +31,8 @@ FindsResponse line before after checked checked_now result =
     FindsOver (files_named line) (IsDefined line) (ChecksLists line) before after checked
     checked_now result
 
--- the same, for a verb, with the lists that were checked
+-- what a command of this verb does once its DTD is opened and the document's bytes are fetched,
+-- with the lists that were checked
 pub record DoesRest {S : Type 0} (verb : Verb) (root : List ℕ) (fetched : PlainDtd × List ℕ)
     (input input_now : InputNow S) (output output_now : OutputNow) (checked checked_now : ℕ)
     (status : Status) : Type 0 where

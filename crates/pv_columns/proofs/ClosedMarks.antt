@@ -6,7 +6,7 @@ use Rattle.std.proofs.lemmas.List.{get_or_default}
 use Rattle.pv_model.specs.declared.models.Token.{Token}
 use Rattle.pv_columns.specs.ColumnRules.{ReadThrough, ReadsToken, TokensMayBeMissing, by_rule, done}
 use Rattle.pv_columns.specs.Laws.{ClosedMarksAreLive}
-use Rattle.pv_columns.specs.Marks.{AreNullable, AreClosedMarks, AreLiveMarks, AreMarked, HoldsMark, IsMarked, unmarked}
+use Rattle.pv_columns.specs.Marks.{AreNullable, AreClosedMarks, AreLiveMarks, AreMarked, IsMarked, unmarked}
 use Rattle.pv_columns.specs.declared.rules.ColumnRule.{ColumnRule}
 use Rattle.pv_columns.proofs.Spans.{ends_are_intervals, join, reaches_on, reads_on}
 
@@ -67,9 +67,6 @@ fewer_unmarked (true ∷ marks) zero l e = absurd cc
 fewer_unmarked (false ∷ marks) zero l e = omega arith
 fewer_unmarked (true ∷ marks) (suc i) l e = fewer_unmarked marks i (omega arith) e
 fewer_unmarked (false ∷ marks) (suc i) l e = let r = fewer_unmarked marks i (omega arith) e in omega arith
-
-pub is_held : (marks : List Bool) (r : ColumnRule) → get_or marks r.left false ≡ true → HoldsMark marks r
-is_held marks r m none a = m
 
 -- one rule more holds
 pub holds_more : (H : ColumnRule → Type 0) (xs : List ColumnRule) (i : ℕ) (d0 : ColumnRule) → i < length xs → H (get_or xs i d0) → ((k : ℕ) (d : ColumnRule) → k < i → H (get_or xs k d)) →

@@ -12,7 +12,7 @@ use Rattle.pv_columns.specs.Marks.{AreMarked, IsAmong}
 use Rattle.pv_columns.specs.Takes.{Takes, takes_column, takes_token}
 use Rattle.pv_columns.specs.declared.rules.ColumnRule.{ColumnRule}
 use Rattle.pv_columns.specs.Bits.{HasIn, bit}
-use Rattle.pv_columns.specs.Flowing.{Flows, Grow, EdgesInRange, flows_along, flows_seed}
+use Rattle.pv_columns.specs.EdgeFlows.{Flows, Grow, EdgesInRange, flows_along, flows_seed}
 use Rattle.pv_columns.specs.ColumnRules.{InRange}
 use Rattle.pv_columns.specs.Rows.{AddsEdges, AreEdges, AreSeeds, HasEdges, HasSeed, IsEdgeOf, IsLayer, edge}
 use Rattle.pv_columns.specs.Tokens.{token_number}

@@ -1,7 +1,6 @@
 -- Free columns by their layers.
-use Rattle.std.proofs.Common.{Bool, Contains, List, None, Option, Some, false, [], arith, get_or, inl, inr, length, refl, subst, suc, zero, ℕ, ◌+◌, ◌/◌, ◌%◌, ◌<◌, ◌∷◌, ◌≡◌}
+use Rattle.std.proofs.Common.{Bool, Contains, List, None, [], arith, get_or, inl, inr, length, refl, subst, suc, zero, ℕ, ◌+◌, ◌/◌, ◌%◌, ◌<◌, ◌∷◌, ◌≡◌}
 use Rattle.std.proofs.lemmas.Bool.{cases_lt}
-use Rattle.std.specs.Prelude.{is_some}
 use Rattle.pv_model.specs.declared.models.Token.{Token}
 use Rattle.pv_columns.specs.Marks.{AreMarked, IsAmong, IsMarked}
 use Rattle.pv_columns.specs.Takes.{IsFree, Takes, free_leads, free_repeats, takes_column, takes_token}
@@ -55,7 +54,3 @@ module _ (rules : List ColumnRule) (live : List Bool) where
       IsMarked frees d →
       TakesAll rules live d r.left → IsFree rules live r.left
   leads frees are r con s a d among marked all = free_leads r.left d r con refl s a among (are d marked) all
-
-pub no_token : (o : Option Token) → is_some o ≡ false → o ≡ None
-no_token None e = refl
-no_token (Some t) e = absurd cc

@@ -3,7 +3,7 @@ pub mod Marks
 pub mod Takes
 pub mod Laws
 pub mod Bits
-pub mod Flowing
+pub mod EdgeFlows
 pub mod Tokens
 pub mod Rows
 pub mod Frees

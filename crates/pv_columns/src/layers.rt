@@ -4,8 +4,8 @@
 ghost use Rattle.std.specs.Prelude.{◌≡◌, ◌≤◌, ◌<◌, ◌^◌, ◌↔◌, ℕ, List, bit_or, false, length};
 ghost use Rattle.std.specs.Prelude.{slice_index, true};
 ghost use Rattle.pv_columns.specs.Bits.{HasIn, room};
-ghost use Rattle.pv_columns.specs.Flowing.{AreAttained, AreClosed, Flows, Grow, EdgesInRange};
-ghost use Rattle.pv_columns.specs.Flowing.{Joins};
+ghost use Rattle.pv_columns.specs.EdgeFlows.{AreAttained, AreClosed, Flows, Grow, EdgesInRange};
+ghost use Rattle.pv_columns.specs.EdgeFlows.{Joins};
 
 /// A column, and one that it leads to.
 #[derive(Clone, Copy, Debug)]

@@ -5,9 +5,9 @@
 //! spans of a word (`specs/ColumnRules.antt`). Where a token may be missing, whatever reaches a
 //! span reaches each span within it. Which columns reach over no tokens is found by raising marks
 //! until nothing changes (`specs/Marks.antt`); which single tokens a column takes, by sets of bits
-//! that flow along rules until nothing changes (`specs/Takes.antt`, `Flowing.antt`). A free column
-//! takes its tokens in any order and number: it reaches over exactly the spans of which it takes
-//! each token, so a word is tried against one set, without a table (`specs/FreeSets.antt`).
+//! that flow along rules until nothing changes (`specs/Takes.antt`, `EdgeFlows.antt`). A free
+//! column takes its tokens in any order and number: it reaches over exactly the spans of which it
+//! takes each token, so a word is tried against one set, without a table (`specs/FreeSets.antt`).
 #![tactic(auto)]
 
 mod free_sets;

@@ -4,7 +4,7 @@ ghost use Rattle.std.specs.Prelude.{◌≡◌, ◌<◌, ◌^◌, ◌/◌, ◌%�
 ghost use Rattle.std.specs.Prelude.{true};
 ghost use Rattle.pv_columns.specs.Marks.{AreMarked};
 ghost use Rattle.pv_columns.specs.Bits.{HasIn};
-ghost use Rattle.pv_columns.specs.Flowing.{Grow, EdgesInRange};
+ghost use Rattle.pv_columns.specs.EdgeFlows.{Grow, EdgesInRange};
 ghost use Rattle.pv_columns.specs.ColumnRules.{InRange};
 ghost use Rattle.pv_columns.specs.Rows.{AddsEdges, AreEdges, AreSeeds, HasEdges, HasSeed, IsEdgeOf};
 ghost use Rattle.pv_columns.specs.Rows.{IsLayer, IsSeedOf};

@@ -14,14 +14,14 @@ use Rattle.pv_opening.specs.declared.response.Response.{Response}
 use Rattle.pv_opening.specs.declared.stop.Stop.{Stop}
 use Rattle.pv_opening.specs.Course.{RunEnding, without_input}
 use Rattle.pv_opening.specs.Devices.{ShelfNow}
-use Rattle.pv_opening.specs.Judging.{CountsJudged, CountsNoMore}
+use Rattle.pv_opening.specs.JudgedCounts.{CountsJudged, CountsNoMore}
 use Rattle.pv_opening.specs.Possibility.{width_stage}
 use Rattle.pv_tree.specs.Lists.{lists_of}
 use Rattle.pv_tree.specs.Plain.{PlainDoc}
 use Rattle.pv_tree.specs.declared.nodes.Mark.{Mark}
 use Rattle.pv_opening.proofs.JudgedLists.{judged_beside, judged_second, stops_first}
 use Rattle.pv_opening.specs.Opening.{Files, IsFile, dtd_file_stage}
-use Rattle.pv_opening.specs.Showing.{CountsShelf}
+use Rattle.pv_opening.specs.ShownCourses.{CountsShelf}
 use Rattle.pv_opening.specs.Returns.{TakesCourse, ReturnsOver, ending_of}
 use Rattle.pv_opening.specs.Stage.{Behind, Stage, beside, followed_by}
 use Rattle.pv_commands.specs.Returns.{FindsOver}

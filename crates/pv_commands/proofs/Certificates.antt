@@ -10,7 +10,7 @@ use Rattle.pv_opening.specs.Course.{Course, without_input}
 use Rattle.pv_opening.specs.Devices.{ShelfNow}
 use Rattle.pv_opening.specs.Documents.{PlainOpened}
 use Rattle.pv_opening.specs.Opening.{AreFiles, Files, IsFile, file_at, opening_stage}
-use Rattle.pv_opening.specs.Showing.{CountsShelf}
+use Rattle.pv_opening.specs.ShownCourses.{CountsShelf}
 use Rattle.pv_opening.specs.Response.{PlainResponse}
 use Rattle.pv_opening.specs.Returns.{ReturnsOver, StopCounts, TellsBy, ending_of, plain_opened}
 use Rattle.pv_opening.specs.Stage.{Behind, Responds, Stage, beside, opened}

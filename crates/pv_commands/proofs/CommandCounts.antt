@@ -4,7 +4,7 @@ use Rattle.pv_dtd.specs.Plain.{PlainDtd}
 use Rattle.pv_tree.specs.Lists.{lists_of}
 use Rattle.pv_opening.specs.Course.{RunEnding}
 use Rattle.pv_opening.specs.Documents.{PlainOpened, document_stage}
-use Rattle.pv_opening.specs.Judging.{CountsJudged, CountsNoMore, judging_stage, lists_judged}
+use Rattle.pv_opening.specs.JudgedCounts.{CountsJudged, CountsNoMore, judging_stage, lists_judged}
 use Rattle.pv_opening.specs.Possibility.{width_stage}
 use Rattle.pv_opening.specs.Stage.{beside}
 use Rattle.pv_opening.proofs.JudgedLists.{judged_beside, judged_second}

@@ -2,7 +2,7 @@
 use Rattle.std.proofs.Common.{◌≡◌, inl, inr, Err, List, Result, ap, refl, subst, sym, ℕ}
 use Rattle.pv_cert.specs.Packs.{lines_of_pack, lines_text}
 use Rattle.pv_cert.specs.declared.packs.Pack.{Pack}
-use Rattle.pv_complete.specs.Needing.{CanNeed, HasCause}
+use Rattle.pv_complete.specs.NeededElements.{CanNeed, HasCause}
 use Rattle.pv_complete.specs.Tables.{HasTablesCause}
 use Rattle.pv_complete.specs.declared.errors.NeedError.{NeedError}
 use Rattle.pv_complete.specs.declared.errors.NeedError.TheVariants as error
@@ -17,7 +17,7 @@ use Rattle.pv_tree.specs.declared.nodes.Mark.{Mark}
 use Rattle.pv_commands.specs.Complete.{IsPackOfCompletion, IsVerifiable, TellsPack, has_too_many}
 use Rattle.pv_commands.specs.Complete.{is_heavy, is_pack, is_wide}
 use Rattle.pv_opening.specs.Course.{Course, responds, without_input}
-use Rattle.pv_commands.specs.Packing.{IsRefusalFor}
+use Rattle.pv_commands.specs.PackRefusals.{IsRefusalFor}
 use Rattle.pv_opening.specs.Possibility.{is_impossible, is_too_wide, possibility_stage}
 use Rattle.pv_opening.specs.Response.{PlainResponse, plain_response}
 use Rattle.pv_opening.specs.Returns.{TakesCourse, RefusesWith}

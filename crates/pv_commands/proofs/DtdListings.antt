@@ -8,7 +8,7 @@ use Rattle.pv_opening.specs.Course.{without_input}
 use Rattle.pv_opening.specs.Devices.{ShelfNow}
 use Rattle.pv_opening.specs.Opening.{IsFile, dtd_file_stage}
 use Rattle.pv_opening.specs.Returns.{ReturnsOver, TellsBy, ending_of}
-use Rattle.pv_opening.specs.Showing.{CountsShelf}
+use Rattle.pv_opening.specs.ShownCourses.{CountsShelf}
 use Rattle.pv_opening.specs.Stage.{Responds, opened}
 use Rattle.pv_opening.specs.declared.response.Response.{Response}
 use Rattle.pv_opening.specs.declared.stop.Stop.{Stop}

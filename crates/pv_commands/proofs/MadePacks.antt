@@ -12,25 +12,25 @@ use Rattle.pv_tree.specs.Plain.{PlainDoc, nodes_in}
 use Rattle.pv_tree.specs.View.{view}
 use Rattle.pv_tree.specs.declared.nodes.Mark.{Mark}
 use Rattle.pv_tree.specs.declared.nodes.Verdict.{Verdict}
-use Rattle.pv_tree.proofs.Every.{contains_first, contains_later}
+use Rattle.pv_tree.proofs.JoinedLists.{contains_first, contains_later}
 use Rattle.pv_read.specs.DocumentLaws.{MeansWhatItSpells, with_marks}
 use Rattle.pv_read.specs.Grammar.{IsDocumentText}
 use Rattle.pv_write.specs.Laws.{WritesWhatIsSpelled}
 use Rattle.pv_write.specs.Text.{doc_text}
-use Rattle.pv_missing.specs.Completing.{Completes, LeavesOut}
-use Rattle.pv_missing.specs.Extending.{Extends}
+use Rattle.pv_missing.specs.Completions.{Completes, LeavesOut}
+use Rattle.pv_missing.specs.Extensions.{Extends}
 use Rattle.pv_missing.specs.Proper.{IsProperDoc}
 use Rattle.pv_missing.specs.Verdicts.{AreVerdicts}
 use Rattle.pv_missing.specs.Widths.{IsListForWeights}
 use Rattle.pv_tables.specs.TableLaws.{OneListAtPath}
 use Rattle.pv_tables.specs.Tables.{AreTables, no_list, other_list, possible_list}
 use Rattle.pv_tables.specs.declared.tables.Table.{Table}
-use Rattle.pv_flat.specs.Coming.{flat_limits}
+use Rattle.pv_flat.specs.ComingEvents.{flat_limits}
 use Rattle.pv_compare.specs.Kept.{IsBodyText}
 use Rattle.pv_table_check.specs.ClosedTables.{AreClosedTables, AreNarrowTables, IsNarrowTable}
 use Rattle.pv_reach.proofs.OtherMarks.{view_as}
-use Rattle.pv_complete.specs.Growing.{IsBounded}
-use Rattle.pv_complete.specs.Needing.{CanWeigh}
+use Rattle.pv_complete.specs.GrownTrees.{IsBounded}
+use Rattle.pv_complete.specs.NeededElements.{CanWeigh}
 use Rattle.pv_complete.proofs.FewMarks.{few_marks}
 use Rattle.pv_words.specs.Numbers.{AreNumbers}
 use Rattle.pv_cert.specs.declared.packs.Pack.{Pack}

@@ -14,7 +14,7 @@ use Rattle.pv_rules.specs.Sites.{HasSite, PlainSite, content_site, name_site, pa
 use Rattle.pv_rules.proofs.Facts.{parts_by_number}
 use Rattle.pv_tree.specs.Lists.{Listed, lists_at, lists_from, lists_of}
 use Rattle.pv_tree.specs.Plain.{Forest, PlainDoc, Tree, cdata_node, element, misc_node, no_trees, nodes_in, nodes_in_all, text_node, tree}
-use Rattle.pv_tree.proofs.Every.{all_joined, contains_cases}
+use Rattle.pv_tree.proofs.JoinedLists.{all_joined, contains_cases}
 use Rattle.pv_missing.specs.Widths.{FitsWeights, columns_of}
 use Rattle.pv_tables.specs.Tables.{Precedes, site_number}
 use Rattle.pv_tables.specs.declared.tables.Entry.{Entry}

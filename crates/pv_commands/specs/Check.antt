@@ -5,7 +5,7 @@ use Rattle.pv_tree.specs.Lists.{lists_of}
 use Rattle.pv_tree.specs.Plain.{PlainDoc}
 use Rattle.pv_tree.specs.View.{view}
 use Rattle.pv_tree.specs.declared.nodes.Mark.{Mark}
-use Rattle.pv_missing.specs.Completing.{IsPotentiallyValid}
+use Rattle.pv_missing.specs.Completions.{IsPotentiallyValid}
 use Rattle.pv_missing.specs.Verdicts.{HavePossible}
 use Rattle.pv_opening.specs.declared.status.Status.TheVariants.{Done}
 use Rattle.pv_opening.specs.Course.{Course}

@@ -3,9 +3,9 @@ use Rattle.std.specs.Prelude.{◌≡◌, ℕ, List, ◌++◌, codes}
 use Rattle.pv_cert.specs.Packs.{IsPackText, lines_of_pack, lines_text}
 use Rattle.pv_cert.specs.declared.packs.Pack.{Pack}
 use Rattle.pv_table_check.specs.ClosedTables.{AreNarrowTables}
-use Rattle.pv_complete.specs.Completing.{IsLeastCompletion}
-use Rattle.pv_complete.specs.Growing.{IsGrownText}
-use Rattle.pv_complete.specs.Needing.{IsHeavy, StopsAtWide}
+use Rattle.pv_complete.specs.LeastCompletions.{IsLeastCompletion}
+use Rattle.pv_complete.specs.GrownTrees.{IsGrownText}
+use Rattle.pv_complete.specs.NeededElements.{IsHeavy, StopsAtWide}
 use Rattle.pv_complete.specs.Tables.{HasTables, HasTooMany}
 use Rattle.pv_dtd.specs.Plain.{PlainDtd}
 use Rattle.pv_words.specs.Paths.{path_text}

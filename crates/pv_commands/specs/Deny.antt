@@ -1,12 +1,12 @@
 -- What `deny DTD ROOT DOC TABLE` responds.
 use Rattle.std.specs.Prelude.{◌≡◌, ℕ, List, ◌++◌, codes}
-use Rattle.pv_denial.specs.Judging.{IsDenialJudged, IsTooWideFor}
+use Rattle.pv_denial.specs.Judgements.{IsDenialJudged, IsTooWideFor}
 use Rattle.pv_denial.specs.declared.denials.Denial.{Denial}
 use Rattle.pv_denial.specs.declared.denials.Flaw.{Flaw}
 use Rattle.pv_denial.specs.declared.denials.Flaw.TheVariants as flaw
 use Rattle.pv_denial.specs.declared.denials.Judged.TheVariants as judged
 use Rattle.pv_dtd.specs.Plain.{PlainDtd}
-use Rattle.pv_missing.specs.Completing.{IsPotentiallyValid}
+use Rattle.pv_missing.specs.Completions.{IsPotentiallyValid}
 use Rattle.pv_words.specs.Paths.{path_text}
 use Rattle.pv_tree.specs.Plain.{PlainDoc}
 use Rattle.pv_tree.specs.View.{view}

@@ -6,7 +6,7 @@ pub mod DenialFiles
 pub mod Deny
 pub mod Dtd
 pub mod PackFiles
-pub mod Packing
+pub mod PackRefusals
 pub mod Returns
 pub mod Standoff
 pub mod Valid

@@ -4,10 +4,10 @@ use Rattle.pv_dtd.specs.Plain.{PlainDtd}
 use Rattle.pv_opening.specs.Course.{Course, without_input}
 use Rattle.pv_opening.specs.Devices.{ShelfNow}
 use Rattle.pv_opening.specs.Documents.{PlainOpened, document_stage}
-use Rattle.pv_opening.specs.Judging.{CountsNoMore}
+use Rattle.pv_opening.specs.JudgedCounts.{CountsNoMore}
 use Rattle.pv_opening.specs.Opening.{AreFiles, Files}
 use Rattle.pv_opening.specs.Returns.{ending_of}
-use Rattle.pv_opening.specs.Showing.{ShowsShelf}
+use Rattle.pv_opening.specs.ShownCourses.{ShowsShelf}
 use Rattle.pv_opening.specs.Stage.{Behind}
 use Rattle.pv_opening.specs.declared.response.Response.{Response}
 use Rattle.pv_opening.specs.declared.stop.Stop.{Stop}

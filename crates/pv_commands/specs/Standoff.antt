@@ -5,7 +5,7 @@ use Rattle.pv_chars.specs.declared.errors.TextError.{TextError}
 use Rattle.pv_chars.specs.declared.errors.TextError.TheVariants as fault
 use Rattle.pv_dtd.specs.Plain.{PlainDtd}
 use Rattle.pv_standoff.specs.Lines.{RangesMean}
-use Rattle.pv_standoff.specs.Nested.{NestMeans}
+use Rattle.pv_standoff.specs.NestOutcomes.{NestMeans}
 use Rattle.pv_standoff.specs.declared.errors.NestError.{NestError}
 use Rattle.pv_standoff.specs.declared.errors.NestError.TheVariants as nesting
 use Rattle.pv_standoff.specs.declared.errors.RangesError.{RangesError}
@@ -19,7 +19,7 @@ use Rattle.pv_tree.specs.declared.nodes.Mark.{Mark}
 use Rattle.pv_opening.specs.declared.status.Status.TheVariants.{BadDocument, BadPack, Limit}
 use Rattle.pv_commands.specs.Check.{TellsPossibility}
 use Rattle.pv_opening.specs.Course.{Course}
-use Rattle.pv_opening.specs.Judging.{CountsJudged, CountsNoMore}
+use Rattle.pv_opening.specs.JudgedCounts.{CountsJudged, CountsNoMore}
 use Rattle.pv_opening.specs.Opening.{Files, dtd_file_stage, file_at, file_stage}
 use Rattle.pv_opening.specs.Possibility.{width_stage}
 use Rattle.pv_opening.specs.Response.{PlainResponse, with_line}
@@ -136,7 +136,8 @@ abbrev pub judging_nested_stage : List ℕ → PlainDtd → List (List ℕ) → 
 judging_nested_stage root g text ranges = followed_by (beside g (nesting_stage root text ranges))
     (λ nested. beside nested (width_stage nested.0 nested.1))
 
--- the same, of the text and the ranges of some files
+-- the document that stands for the text and the ranges of some files, and testing the width of its
+-- lists
 abbrev pub judging_ranges_stage : List ℕ → Files → Stage ((PlainDtd × PlainDoc Mark) × Unit {0})
 judging_ranges_stage root files = followed_by (annotation_stage files)
     (λ given. judging_nested_stage root given.0.0 given.0.1 given.1)

@@ -2,9 +2,9 @@
 use Rattle.std.specs.Prelude.{◌≡◌, ℕ, List, codes}
 use Rattle.pv_denial.specs.declared.denials.Denial.{Denial}
 use Rattle.pv_denial_text.specs.Texts.{lines_of_denial, lines_text}
-use Rattle.pv_deny.specs.Denying.{HasTooMany, IsDenialOf}
+use Rattle.pv_deny.specs.DocumentDenials.{HasTooMany, IsDenialOf}
 use Rattle.pv_dtd.specs.Plain.{PlainDtd}
-use Rattle.pv_missing.specs.Completing.{IsPotentiallyValid}
+use Rattle.pv_missing.specs.Completions.{IsPotentiallyValid}
 use Rattle.pv_tree.specs.Plain.{PlainDoc}
 use Rattle.pv_tree.specs.View.{view}
 use Rattle.pv_opening.specs.declared.status.Status.TheVariants.{Done, Limit, Negative}

@@ -8,7 +8,7 @@ ghost use Rattle.pv_commands.specs.Check.{IsCheckCourse, TellsPossibility, possi
 ghost use Rattle.pv_commands.specs.Returns.{BehindDocument};
 ghost use Rattle.pv_dtd.specs.Plain.{PlainDtd};
 ghost use Rattle.pv_opening.specs.Documents.{PlainOpened};
-ghost use Rattle.pv_opening.specs.Judging.{CountsJudged, CountsNoMore, judging_stage, lists_judged};
+ghost use Rattle.pv_opening.specs.JudgedCounts.{CountsJudged, CountsNoMore, judging_stage, lists_judged};
 ghost use Rattle.pv_opening.specs.Possibility.{AreVerdictsOf, width_stage};
 ghost use Rattle.pv_opening.specs.Response.{plain_response, with_line};
 ghost use Rattle.pv_opening.specs.Returns.{TakesCourse, ending_of, plain_fetched};
@@ -40,6 +40,15 @@ use std::thread::Threads;
 
 // A small text has at most so many bytes for each column of the DTD.
 const TEXT_FOR_COLUMN: u64 = 64;
+
+/// What becomes of a document that was read from a text, once there is an answer.
+#[derive(Clone, Copy)]
+pub enum Keeping {
+    /// Its memory is given back.
+    Freed,
+    /// It stays as long as the process, which ends sooner so.
+    Kept,
+}
 
 // So many lists are Possible, and none is Impossible.
 fn possible(alloc: Global, left: u64) -> Result<Response, AllocError>
@@ -107,13 +116,22 @@ fn respond_told(alloc: Global, told: Told) -> Result<Response, Stop>
     }
 }
 
+// Lets go of a document.
+fn release(doc: Doc, keeping: Keeping) {
+    match keeping {
+        Keeping::Freed => drop(doc),
+        Keeping::Kept => forget(doc),
+    }
+}
+
 // What is told of the lists of a document that is opened first, so that threads share its lists, by
-// the plan that is there. It is never freed.
+// the plan that is there.
 fn check_opened<L: Ledger>(
     rt: &(impl Threads + Sync),
     judge: &Judge<'_>,
     root: &[u8],
     bytes: &[u8],
+    keeping: Keeping,
     steps: &mut Steps<L>,
 ) -> Result<Response, Stop>
     ensures finds { TakesCourse
@@ -124,7 +142,7 @@ fn check_opened<L: Ledger>(
     match read_doc(judge.alloc(), bytes, root) {
         Ok(doc) => {
             let response = tell(rt, judge, &doc, root, steps);
-            forget(doc);
+            release(doc, keeping);
             response
         }
         Err(error) => Err(refuse_document(judge.alloc(), error)),
@@ -138,6 +156,7 @@ fn check_again<L: Ledger>(
     root: &[u8],
     bytes: &[u8],
     error: TextError,
+    keeping: Keeping,
     steps: &mut Steps<L>,
 ) -> Result<Response, Stop>
     requires { RefusesBytes (DocumentMeans blank_mark root.now bytes.now) error }
@@ -148,7 +167,28 @@ fn check_again<L: Ledger>(
 {
     match error {
         TextError::Document(fault) => Err(refuse_document(judge.alloc(), fault)),
-        TextError::LongLists => check_opened(rt, judge, root, bytes, steps),
+        TextError::LongLists => check_opened(rt, judge, root, bytes, keeping, steps),
+    }
+}
+
+/// Whether inserting elements can make the document that the bytes are valid, by what judges its
+/// lists, each in one step. Where threads share its lists it is read first.
+pub fn check_by<L: Ledger>(
+    rt: &(impl Threads + Sync),
+    judge: &Judge<'_>,
+    root: &[u8],
+    bytes: &[u8],
+    keeping: Keeping,
+    steps: &mut Steps<L>,
+) -> Result<Response, Stop>
+    ensures finds { TakesCourse
+        (BehindDocument IsCheckCourse root.now (dtd_of judge.now, bytes.now)) result }
+    ensures checks { CountsJudged (judging_stage root.now (dtd_of judge.now) bytes.now)
+        lists_judged CountsNoMore (ending_of result) steps.old steps.new }
+{
+    match check_text(judge, root, bytes, steps) {
+        Ok(told) => respond_told(judge.alloc(), told),
+        Err(error) => check_again(rt, judge, root, bytes, error, keeping, steps),
     }
 }
 
@@ -187,8 +227,9 @@ fn judge_by<'a>(alloc: Global, grammar: &'a Grammar, plan: &'a Option<Plan>) -> 
     }
 }
 
-// Whether inserting elements can make a document valid for this grammar.
-fn check_by<L: Ledger>(
+// Whether inserting elements can make a document valid for this grammar. The document is never
+// freed.
+fn check_under<L: Ledger>(
     rt: &(impl Threads + Sync),
     alloc: Global,
     grammar: &Grammar,
@@ -203,10 +244,7 @@ fn check_by<L: Ledger>(
 {
     let plan = plan_for(alloc, grammar, root, bytes)?;
     let judge = judge_by(alloc, grammar, &plan);
-    match check_text(&judge, root, bytes, steps) {
-        Ok(told) => respond_told(alloc, told),
-        Err(error) => check_again(rt, &judge, root, bytes, error, steps),
-    }
+    check_by(rt, &judge, root, bytes, Keeping::Kept, steps)
 }
 
 /// Whether inserting elements can make a document valid for a DTD.
@@ -225,5 +263,5 @@ pub fn check<L: Ledger>(
 {
     let Fetched { dtd, bytes } = fetched;
     let grammar = build(alloc, dtd)?;
-    check_by(rt, alloc, &grammar, root, &bytes, steps)
+    check_under(rt, alloc, &grammar, root, &bytes, steps)
 }

@@ -3,7 +3,7 @@
 ghost use Rattle.std.specs.Prelude.{◌≡◌, IfErr, IfOk};
 ghost use Rattle.pv_commands.specs.Complete.{IsCompleteCourse, IsPackOfCompletion, IsVerifiable};
 ghost use Rattle.pv_opening.specs.Documents.{HasText, PlainOpened};
-ghost use Rattle.pv_commands.specs.Packing.{IsRefusalFor};
+ghost use Rattle.pv_commands.specs.PackRefusals.{IsRefusalFor};
 ghost use Rattle.pv_commands.specs.Returns.{BehindDocument};
 ghost use Rattle.pv_opening.specs.Returns.{TakesCourse, RefusesWith, plain_fetched};
 ghost use Rattle.pv_complete.specs.Tables.{HasTablesCause};

@@ -101,7 +101,7 @@ fn tell_by(
     }
 }
 
-// The same, for this DTD.
+// Whether the denial shows that no insertions can make the document valid, for this DTD.
 fn tell(alloc: Global, dtd: Dtd, doc: &Doc, root: &[u8], denial: &Denial) -> Result<Response, Stop>
     ensures { TellsBy (TellsJudgement root.now (plain_dtd dtd) (plain_doc doc.now) denial.now)
         result }

@@ -5,7 +5,7 @@ ghost use Rattle.std.specs.Prelude.{length};
 ghost use Rattle.pv_chars.specs.Names.{IsName};
 ghost use Rattle.pv_chars.specs.Texts.{holds_close_mark};
 ghost use Rattle.pv_opening.specs.Opening.{IsFile};
-ghost use Rattle.pv_opening.specs.Judging.{CountsJudged, CountsNoMore};
+ghost use Rattle.pv_opening.specs.JudgedCounts.{CountsJudged, CountsNoMore};
 ghost use Rattle.pv_opening.specs.Possibility.{width_stage};
 ghost use Rattle.pv_opening.specs.Response.{plain_response};
 ghost use Rattle.pv_opening.specs.Returns.{TakesCourse, RefusesWith, Returns, ending_of};

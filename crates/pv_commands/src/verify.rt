@@ -11,7 +11,7 @@ ghost use Rattle.pv_dtd.specs.PlainForms.{plain_dtd};
 ghost use Rattle.pv_read.specs.Meaning.{DocumentMeans, is_document};
 ghost use Rattle.pv_tree.specs.Marks.{blank_mark};
 ghost use Rattle.pv_tree.specs.PlainDocs.{plain_doc};
-ghost use Rattle.pv_verify.specs.Reading.{IsMeant};
+ghost use Rattle.pv_verify.specs.ReadBodies.{IsMeant};
 
 use pv_cert::{MAX_PACK_BYTES, Pack, PackError, take_pack};
 use pv_dtd::Dtd;

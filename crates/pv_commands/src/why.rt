@@ -3,7 +3,7 @@
 ghost use Rattle.std.specs.Prelude.{◌≡◌, length};
 ghost use Rattle.pv_commands.specs.Returns.{BehindDocument};
 ghost use Rattle.pv_opening.specs.Documents.{PlainOpened};
-ghost use Rattle.pv_opening.specs.Judging.{CountsJudged, CountsNoMore, judging_stage, lists_judged};
+ghost use Rattle.pv_opening.specs.JudgedCounts.{CountsJudged, CountsNoMore, judging_stage, lists_judged};
 ghost use Rattle.pv_opening.specs.Possibility.{width_stage};
 ghost use Rattle.pv_opening.specs.Returns.{TakesCourse, TellsBy, ending_of, plain_fetched};
 ghost use Rattle.pv_commands.specs.Why.{IsWhyCourse, TellsWhy};
@@ -68,7 +68,8 @@ fn tell<L: Ledger>(
     }
 }
 
-// The same, for a grammar, whose rules are laid out once, for the verdicts and for the table.
+// Why no insertions can make the document valid, or that they can, by a grammar whose rules are
+// laid out once, for the verdicts and for the table.
 fn tell_by<L: Ledger>(
     rt: &(impl Threads + Sync),
     alloc: Global,
@@ -88,7 +89,7 @@ fn tell_by<L: Ledger>(
     tell(rt, &judge, doc, root, steps)
 }
 
-// The same, for a DTD.
+// Why no insertions can make the document valid, or that they can, for a DTD.
 fn tell_for<L: Ledger>(
     rt: &(impl Threads + Sync),
     alloc: Global,

@@ -2,10 +2,10 @@
 use Rattle.std.proofs.Common.{Bool, List, [], append-nil, append_assoc, ap, false, sym, true, ℕ, ◌++◌, ◌∙◌, ◌∷◌, ◌≡◌}
 use Rattle.std.proofs.lemmas.List.{append_cancel_left}
 use Rattle.pv_flat.specs.Plain.{PlainEvent}
-use Rattle.pv_compare.specs.Comparing.{IsPast}
+use Rattle.pv_compare.specs.EventComparison.{IsPast}
 use Rattle.pv_compare.specs.LeftOut.{LeavesEvents, bytewise, kept_events, marks_left}
-use Rattle.pv_compare.specs.Walking.{PassesBy, kept_from, left_from}
-use Rattle.pv_compare.specs.Wanting.{IsTaken, wanted_events}
+use Rattle.pv_compare.specs.ReaderMoves.{PassesBy, kept_from, left_from}
+use Rattle.pv_compare.specs.WantedEvents.{IsTaken, wanted_events}
 use Rattle.pv_compare.specs.declared.comparing.Comparison.{Comparison}
 use Rattle.pv_compare.proofs.OneHedge.{bytewise-append}
 

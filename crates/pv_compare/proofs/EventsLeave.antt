@@ -1,7 +1,7 @@
 -- Leaving the tags of marked elements out of events is leaving the elements out of hedges.
 use Rattle.std.proofs.Common.{List, [], append-nil, ap, refl, subst, sym, ℕ, ◌+◌, ◌++◌, ◌∙◌, ◌∷◌, ◌≡◌}
 use Rattle.pv_tree.specs.declared.nodes.Mark.{Mark}
-use Rattle.pv_missing.specs.Completing.{LeavesOut}
+use Rattle.pv_missing.specs.Completions.{LeavesOut}
 use Rattle.pv_flat.specs.Plain.{events_of}
 use Rattle.pv_tree.specs.Plain.{Tree}
 use Rattle.pv_chars.specs.Laws.{UnitsAreDetermined}

@@ -5,15 +5,11 @@ use Rattle.pv_read.specs.Errors.{Refuses}
 use Rattle.pv_read.specs.Meaning.{DocumentMeansWithin}
 use Rattle.pv_read.specs.declared.errors.DocError.{DocError}
 use Rattle.pv_read.specs.declared.errors.DocError.TheVariants.{Deep, DoctypeName, Entity, Limit, Mismatch, NoMemory, Subset, Syntax}
-use Rattle.pv_flat.specs.Coming.{EventsCome, ComesAt, TextEnd, LeadsBy, RefusesRest, TextComes, ends_with, flat_limits}
+use Rattle.pv_flat.specs.ComingEvents.{EventsCome, ComesAt, TextEnd, LeadsBy, RefusesRest, TextComes, ends_with, flat_limits}
 use Rattle.pv_flat.specs.Plain.{PlainEvent}
 use Rattle.pv_flat.specs.declared.state.Events.{Events}
 use Rattle.pv_flat.specs.declared.state.Stage.TheVariants as stage
-use Rattle.pv_compare.specs.Reading.{HasGiven}
-
-pub given-none : (root bytes : List ℕ) (s : Events) → s.stage ≡ stage.Fresh → s.root ≡ root → s.bytes.now ≡ bytes → HasGiven root bytes [] s
-given-none root bytes s at is-root is-bytes =
-    record { comes = λ es end c. subst (λ b. TextComes root b es end) is-bytes (subst (λ x. TextComes x s.bytes.now es end) is-root (subst (λ st. ComesAt st s es end) at c)) }
+use Rattle.pv_compare.specs.ReadEvents.{HasGiven}
 
 module _ (root bytes : List ℕ) (given : List PlainEvent) (old : Events) (g : HasGiven root bytes given old) where
   pub given-more : (e : PlainEvent) (new : Events) → LeadsBy (e ∷ []) old new → HasGiven root bytes (given ++ e ∷ []) new

@@ -4,9 +4,9 @@ use Rattle.pv_tree.specs.Plain.{PlainDoc}
 use Rattle.pv_tree.specs.declared.nodes.Mark.{Mark}
 use Rattle.pv_read.specs.DocumentLaws.{DocumentsMeanOne, GrammarsAgree}
 use Rattle.pv_read.specs.Meaning.{is_document}
-use Rattle.pv_flat.specs.Coming.{flat_limits}
+use Rattle.pv_flat.specs.ComingEvents.{flat_limits}
 use Rattle.pv_flat.specs.Plain.{events_of, plain_event}
-use Rattle.pv_compare.specs.Comparing.{AgreesWith, AreEventsOf, ArePartsOf, IsCompared}
+use Rattle.pv_compare.specs.EventComparison.{AgreesWith, AreEventsOf, ArePartsOf, IsCompared}
 use Rattle.pv_compare.specs.Kept.{IsBodyText, KeepsDocument}
 use Rattle.pv_compare.specs.LeftOut.{EventsLeaveOut, LeavesEvents}
 use Rattle.pv_compare.specs.declared.comparing.Compared.{Compared}

@@ -2,9 +2,9 @@
 use Rattle.std.proofs.Common.{Bool, List, [], append_assoc, ap, arith, false, refl, subst, suc, sym, true, ℕ, ◌+◌, ◌++◌, ◌∙◌, ◌∷◌, ◌≡◌, ◌≤◌, ◌==◌}
 use Rattle.std.proofs.lemmas.Bool.{eq-eqb, eqb-true}
 use Rattle.pv_dtd.specs.Hedge.{Hedge, Leaf, cdata, data_unit, done, elem, elements, leaf, misc, white}
-use Rattle.pv_missing.specs.Completing.{LeavesOut, out_done, out_kept, out_leaf, out_new}
+use Rattle.pv_missing.specs.Completions.{LeavesOut, out_done, out_kept, out_leaf, out_new}
 use Rattle.pv_flat.specs.Plain.{PlainEvent, begin_element, cdata_here, end_element, misc_here, text_here}
-use Rattle.pv_missing.specs.Extending.{join}
+use Rattle.pv_missing.specs.Extensions.{join}
 use Rattle.pv_compare.specs.LeftOut.{behind_first, is_marked, kept_events, marks_left}
 
 -- the event of a leaf

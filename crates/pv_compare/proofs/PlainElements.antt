@@ -6,7 +6,7 @@ use Rattle.pv_tree.specs.Plain.{Forest, Tree, cdata_node, element, misc_node, no
 use Rattle.pv_tree.specs.View.{spread, view, view_all, view_before}
 use Rattle.pv_flat.specs.Plain.{PlainEvent, end_element, events_of, events_of_all}
 use Rattle.pv_compare.specs.Kept.{are_plain, attributes_of}
-use Rattle.pv_compare.specs.Reading.{is_plain_start, plain_starts}
+use Rattle.pv_compare.specs.ReadEvents.{is_plain_start, plain_starts}
 
 pub plain-append : (es fs : List PlainEvent) → plain_starts (es ++ fs) ≡ plain_starts es ++ plain_starts fs
 plain-append [] fs = refl

@@ -4,10 +4,10 @@ use Rattle.std.proofs.lemmas.List.{map-append}
 use Rattle.pv_chars.specs.Units.{AllUnits, IsUnit}
 use Rattle.pv_tree.specs.Plain.{Forest, Tree, cdata_node, element, misc_node, no_trees, text_node, tree}
 use Rattle.pv_dtd.specs.Hedge.{Hedge, data_unit, done, elem, leaf, white}
-use Rattle.pv_missing.specs.Completing.{LeavesOut, out_done, out_kept, out_leaf, out_new}
+use Rattle.pv_missing.specs.Completions.{LeavesOut, out_done, out_kept, out_leaf, out_new}
 use Rattle.pv_flat.specs.Plain.{PlainEvent, begin_element, cdata_here, end_element, events_of, events_of_all, misc_here, text_here}
 use Rattle.pv_chars.specs.Texts.{is_data, joined}
-use Rattle.pv_missing.specs.Extending.{join}
+use Rattle.pv_missing.specs.Extensions.{join}
 use Rattle.pv_tree.specs.View.{spread, unit_leaf, view, view_all, view_before}
 use Rattle.pv_compare.specs.LeftOut.{HasUnitTexts, HaveUnitTexts, behind_first, bytewise, is_left_out, is_marked, kept_events, marks_left}
 use Rattle.pv_compare.proofs.LeftOutHedges.{leaf_event, shown}

@@ -5,7 +5,7 @@ use Rattle.pv_tree.specs.Marks.{blank_mark}
 use Rattle.pv_tree.specs.declared.nodes.Mark.{Mark}
 use Rattle.pv_read.specs.DocumentLaws.{GrammarsAgree}
 use Rattle.pv_read.specs.Grammar.{SpellsContent, SpellsNode}
-use Rattle.pv_flat.specs.Coming.{flat_limits}
+use Rattle.pv_flat.specs.ComingEvents.{flat_limits}
 use Rattle.pv_compare.specs.Kept.{IsBodyText}
 use Rattle.pv_compare.specs.LeftOut.{HasUnitTexts, HaveUnitTexts}
 

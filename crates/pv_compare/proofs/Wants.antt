@@ -6,7 +6,7 @@ use Rattle.std.proofs.lemmas.List.{append_cancel_left, nil_from_length, map-appe
 use Rattle.pv_flat.specs.Plain.{plain_event}
 use Rattle.pv_flat.specs.Plain.{PlainEvent, begin_element, cdata_here, end_element, misc_here, text_here}
 use Rattle.pv_compare.specs.LeftOut.{bytewise}
-use Rattle.pv_compare.specs.Wanting.{begins_no_text}
+use Rattle.pv_compare.specs.WantedEvents.{begins_no_text}
 use Rattle.pv_flat.specs.declared.event.Event.{Event}
 use Rattle.pv_compare.proofs.OneHedge.{texts}
 

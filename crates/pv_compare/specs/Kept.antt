@@ -8,8 +8,8 @@ use Rattle.pv_tree.specs.Plain.{PlainDoc}
 use Rattle.pv_tree.specs.View.{view}
 use Rattle.pv_tree.specs.declared.nodes.Mark.{Mark}
 use Rattle.pv_read.specs.Meaning.{DocumentMeansWithin, is_document}
-use Rattle.pv_missing.specs.Completing.{LeavesOut}
-use Rattle.pv_flat.specs.Coming.{flat_limits}
+use Rattle.pv_missing.specs.Completions.{LeavesOut}
+use Rattle.pv_flat.specs.ComingEvents.{flat_limits}
 
 -- The body: the bytes are the text of this document, of any depth, and no more than a gibibyte.
 abbrev pub IsBodyText : List ℕ → List ℕ → PlainDoc Mark → Type 0

@@ -7,7 +7,7 @@ use Rattle.pv_chars.specs.Units.{AllUnits}
 use Rattle.pv_tree.specs.Plain.{Tree, element, text_node, cdata_node, misc_node, Forest, no_trees}
 use Rattle.pv_tree.specs.Plain.{tree}
 use Rattle.pv_tree.specs.declared.nodes.Mark.{Mark}
-use Rattle.pv_missing.specs.Completing.{LeavesOut}
+use Rattle.pv_missing.specs.Completions.{LeavesOut}
 use Rattle.pv_dtd.specs.Hedge.{elements}
 use Rattle.pv_tree.specs.View.{view}
 

@@ -1,6 +1,6 @@
 pub mod Kept
 pub mod LeftOut
-pub mod Reading
-pub mod Walking
-pub mod Wanting
-pub mod Comparing
+pub mod ReadEvents
+pub mod ReaderMoves
+pub mod WantedEvents
+pub mod EventComparison

@@ -8,9 +8,9 @@ ghost use Rattle.pv_tree.specs.PlainDocs.{plain_doc};
 ghost use Rattle.pv_tree.specs.declared.nodes.Mark.{Mark};
 ghost use Rattle.pv_read.specs.Errors.{Refuses};
 ghost use Rattle.pv_read.specs.Meaning.{DocumentMeansWithin};
-ghost use Rattle.pv_flat.specs.Coming.{MAX_FLAT_BYTES as MAX_BYTES, flat_limits};
+ghost use Rattle.pv_flat.specs.ComingEvents.{MAX_FLAT_BYTES as MAX_BYTES, flat_limits};
 ghost use Rattle.pv_flat.specs.Plain.{plain_event};
-ghost use Rattle.pv_compare.specs.Comparing.{IsBodyRead};
+ghost use Rattle.pv_compare.specs.EventComparison.{IsBodyRead};
 ghost use Rattle.pv_compare.specs.Kept.{IsBodyText, KeepsDocument};
 ghost use Rattle.pv_compare.specs.LeftOut.{LeavesEvents};
 
@@ -47,7 +47,7 @@ pub struct Compared<'a> {
 }
 
 impl<'a> Comparison<'a> {
-    ghost use Rattle.pv_compare.specs.Comparing.{IsPast, ComparesBy};
+    ghost use Rattle.pv_compare.specs.EventComparison.{IsPast, ComparesBy};
     ghost use Rattle.std.specs.Prelude.{List, ℕ};
     ghost use Rattle.pv_flat.specs.Plain.{PlainEvent};
 
@@ -86,7 +86,7 @@ impl<'a> Comparison<'a> {
 }
 
 impl<'a> Compared<'a> {
-    ghost use Rattle.pv_compare.specs.Comparing.{AgreesWith, IsCompared};
+    ghost use Rattle.pv_compare.specs.EventComparison.{AgreesWith, IsCompared};
 
     // The document that the bytes are without the tags of marked elements, compared with these
     // events.

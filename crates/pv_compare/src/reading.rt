@@ -4,9 +4,9 @@ ghost use Rattle.std.specs.Prelude.{◌≡◌, ◌++◌, IfOk, IfErr};
 ghost use Rattle.pv_tree.specs.Marks.{blank_mark};
 ghost use Rattle.pv_read.specs.Errors.{Refuses};
 ghost use Rattle.pv_read.specs.Meaning.{DocumentMeansWithin};
-ghost use Rattle.pv_flat.specs.Coming.{flat_limits};
+ghost use Rattle.pv_flat.specs.ComingEvents.{flat_limits};
 ghost use Rattle.pv_flat.specs.Plain.{plain_event};
-ghost use Rattle.pv_compare.specs.Reading.{is_plain_start};
+ghost use Rattle.pv_compare.specs.ReadEvents.{is_plain_start};
 
 use pv_chars::NoMemory;
 use pv_flat::{Event, Events};
@@ -36,7 +36,7 @@ pub struct EventParts<'a> {
 }
 
 impl<'a> EventParts<'a> {
-    ghost use Rattle.pv_compare.specs.Comparing.{ArePartsOf};
+    ghost use Rattle.pv_compare.specs.EventComparison.{ArePartsOf};
 
     /// Those of the document that the bytes are.
     pub fn of(alloc: Global, root: &[u8], bytes: &'a [u8]) -> Result<EventParts<'a>, DocError>

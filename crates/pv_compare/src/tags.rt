@@ -19,7 +19,7 @@ pub struct Tags<'a> {
 
 impl<'a> Tags<'a> {
     ghost use Rattle.std.specs.Prelude.{[]};
-    ghost use Rattle.pv_compare.specs.Walking.{PassesBy};
+    ghost use Rattle.pv_compare.specs.ReaderMoves.{PassesBy};
     ghost use Rattle.pv_compare.specs.LeftOut.{is_marked};
     ghost use Rattle.pv_flat.specs.Plain.{begin_element, end_element};
 

@@ -4,7 +4,7 @@ ghost use Rattle.std.specs.Prelude.{◌≡◌, ◌++◌, ◌∷◌, [], IfOk, On
 ghost use Rattle.pv_tree.specs.PlainDocs.{plain_doc};
 ghost use Rattle.pv_tree.specs.PlainForms.{plain, forest};
 ghost use Rattle.pv_flat.specs.Plain.{events_of, events_of_all, plain_event};
-ghost use Rattle.pv_compare.specs.Comparing.{AreEventsOf};
+ghost use Rattle.pv_compare.specs.EventComparison.{AreEventsOf};
 
 use crate::reading::EventParts;
 use pv_chars::NoMemory;

@@ -15,7 +15,7 @@ pub struct Wanted<'a> {
 }
 
 impl<'a> Wanted<'a> {
-    ghost use Rattle.pv_compare.specs.Wanting.{IsTaken, begins_no_text, wanted_events};
+    ghost use Rattle.pv_compare.specs.WantedEvents.{IsTaken, begins_no_text, wanted_events};
 
     // Goes on to a text that has bytes, where one stands at the front.
     fn open_text(&mut self)

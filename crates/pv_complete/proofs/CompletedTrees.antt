@@ -9,18 +9,21 @@ use Rattle.pv_tree.specs.Lists.{IsOwnValid}
 use Rattle.pv_tree.specs.View.{spread, unit_leaf, view_all}
 use Rattle.pv_tree.specs.Words.{word_of}
 use Rattle.pv_write.specs.Text.{forest_text}
-use Rattle.pv_missing.specs.Completing.{LeavesOut, out_done, out_kept, out_leaf}
+use Rattle.pv_missing.specs.Completions.{LeavesOut, out_done, out_kept, out_leaf}
 use Rattle.pv_missing.proofs.CoversToInsertions.{allows-empty}
-use Rattle.pv_complete.specs.Events.{Event, marks_from, old_bytes, opens}
-use Rattle.pv_complete.specs.Merging.{IsCompletedList}
+use Rattle.pv_write.specs.Events.{Event, marks_from, old_bytes, opens}
+use Rattle.pv_complete.specs.MergedLists.{IsCompletedList}
 use Rattle.pv_complete.specs.MergingLaws.{BareIsCompleted, ElementIsCompleted, LeafIsCompleted, MergedIsCompleted}
-use Rattle.pv_complete.specs.Pieces.{PlainPiece, Writes, WritesContent, write_kept, write_new, write_none, write_text}
-use Rattle.pv_complete.specs.Growing.{KeepsEnding, gap_of}
+use Rattle.pv_write.specs.Pieces.{PlainPiece}
+use Rattle.pv_complete.specs.Pieces.{Writes, WritesContent, write_kept, write_new, write_none, write_text}
+use Rattle.pv_write.specs.TaggedTexts.{gap_of}
+use Rattle.pv_complete.specs.GrownTrees.{KeepsEnding}
 use Rattle.pv_complete.specs.Writable.{KeepsWritable}
 use Rattle.pv_chars.specs.Spaces.{IsOptionalSpace}
 use Rattle.pv_tree.specs.Legal.{IsLegalEnding}
 use Rattle.pv_complete.proofs.WritableTrees.{keeps_element, keeps_none, keeps_tree, none_grown}
-use Rattle.pv_complete.proofs.MergedPieces.{trees_and-done, trees_and-none, events-join, marks-join, merged, opens-join}
+use Rattle.pv_write.proofs.EventLists.{events-join, marks-join, opens-join}
+use Rattle.pv_complete.proofs.MergedPieces.{trees_and-done, trees_and-none, merged}
 
 -- the text of an element, cut at its content
 tag_text : (lt x attrs gt k lt2 gap : List ℕ) → lt ++ x ++ attrs ++ gt ++ k ++ lt2 ++ x ++ gap ++ gt ≡ (lt ++ x ++ attrs ++ gt) ++ (k ++ ((lt2 ++ x ++ gap ++ gt) ++ []))

@@ -23,7 +23,7 @@ module _ (g : PlainDtd) (n : ℕ) (t : Goal → ℕ) where
     all = λ e light before. absurd (before_none (kind_rank (plain_site e.site)) (site_number (plain_site e.site)) e.from e.to before);
   }
 
-  -- the same entries are before another key
+  -- entries listed to one key are listed to another, if no entry stands between the two
   listed_moved : (A B : List ℕ) (es : List Entry) → ((e : Entry) → IsLight g n t e → IsBefore (key_of e) A → IsBefore (key_of e) B) →
       ((e : Entry) → IsLight g n t e → IsBefore (key_of e) B → IsBefore (key_of e) A) → IsListedTo g n t A es → IsListedTo g n t B es
   listed_moved A B es f h l = record {

@@ -9,8 +9,8 @@ use Rattle.pv_tree.specs.Legal.{MAX_NODES}
 use Rattle.pv_tree.specs.Plain.{Forest, PlainDoc, Tree, cdata_node, element, misc_node, no_trees, nodes_in, nodes_in_all, text_node, tree}
 use Rattle.pv_tree.specs.View.{spread, view, view_all, view_before}
 use Rattle.pv_tree.specs.declared.nodes.Mark.{Mark}
-use Rattle.pv_missing.specs.Completing.{LeavesOut, out_done, out_kept, out_leaf, out_new}
-use Rattle.pv_complete.specs.Completing.{IsLeastCompletion}
+use Rattle.pv_missing.specs.Completions.{LeavesOut, out_done, out_kept, out_leaf, out_new}
+use Rattle.pv_complete.specs.LeastCompletions.{IsLeastCompletion}
 
 pub elements_spread : (us : List (List ℕ)) (h : Hedge) → elements (spread us h) ≡ elements h
 elements_spread [] h = refl

@@ -3,7 +3,7 @@ use Rattle.std.proofs.Common.{Bool, List, Option, Some, [], arith, false, inl, i
 use Rattle.std.specs.Prelude.{if◌then◌else◌}
 use Rattle.pv_dtd.specs.Plain.{PlainDtd}
 use Rattle.pv_missing.specs.PlainForms.{plain_of}
-use Rattle.pv_missing.specs.Weighing.{whole}
+use Rattle.pv_missing.specs.ListWeights.{whole}
 use Rattle.pv_missing.specs.Widths.{FitsWeights}
 use Rattle.pv_model.specs.Plain.{PlainToken}
 use Rattle.pv_model.specs.PlainForms.{plain_token}
@@ -13,9 +13,9 @@ use Rattle.pv_rules.specs.Sites.{PlainSite}
 use Rattle.pv_tables.specs.Tables.{AreAllEntries}
 use Rattle.pv_tables.specs.declared.tables.Entry.{Entry}
 use Rattle.pv_complete.specs.KnownWeights.{AreKnownEntries, AreKnownPieces, IsWeighedWord}
-use Rattle.pv_complete.specs.PieceForms.{plain_pieces}
+use Rattle.pv_write.specs.PieceForms.{plain_pieces}
 use Rattle.pv_complete.specs.Pieces.{WritesAt}
-use Rattle.pv_complete.specs.declared.words.pieces.Piece.{Piece}
+use Rattle.pv_write.specs.declared.pieces.Piece.{Piece}
 use Rattle.pv_complete.specs.declared.missing.known.KnownWeight.{KnownWeight}
 
 -- an element of a list with one more at its end
@@ -25,7 +25,7 @@ one_of_both [] y (suc k) x h = absurd cc
 one_of_both (z ∷ xs) y zero x h = inl h
 one_of_both (z ∷ xs) y (suc k) x h = one_of_both xs y k x h
 
--- the same list, where all elements are
+-- lists of one length are equal if their elements are, place by place
 pub same_elements : {X : Type 0} (xs ys : List X) → length xs ≡ length ys → ((k : ℕ) → k < length xs → slice_get xs k ≡ slice_get ys k) → xs ≡ ys
 same_elements [] [] n f = refl
 same_elements [] (y ∷ ys) n f = absurd (let e : length (y ∷ ys) ≡ suc (length ys) = refl in omega (arith, n))
@@ -44,13 +44,6 @@ pub right_one_more : (g : PlainDtd) (old new : List KnownWeight) (e : KnownWeigh
     new ≡ old ++ e ∷ [] → AreRight g old → IsWeighedWord g (plain_of e.of) (map plain_token e.word)
     e.weight e.pieces e.table → AreRight g new
 right_one_more g old new e is all one k x h = elim (one_of_both old e k x (rw is at h)) [ inl at_old ↦ all k x at_old | inr same ↦ rw same one ]
-
-no_entry : {X : Type 0} (k : ℕ) (x : X) → slice_get [] k ≡ Some x → ⊥
-no_entry zero x h = absurd cc
-no_entry (suc k) x h = absurd cc
-
-pub right_none : (g : PlainDtd) (new : List KnownWeight) → new ≡ [] → AreRight g new
-right_none g new is k x h = absurd (no_entry k x (rw is at h))
 
 -- after a push, which there may be no memory for
 pub right_pushed : (g : PlainDtd) (old new : List KnownWeight) (e : KnownWeight) (b : Bool) →

@@ -1,17 +1,16 @@
--- The Possible lists of a document that misses at most 1,000,000 elements are light, and which list comes next in a walk.
+-- The Possible lists of a document that misses at most 1,000,000 elements are light, and so is the list that comes next.
 use Rattle.std.specs.Option.{option_map}
-use Rattle.std.proofs.Common.{List, None, Option, Some, [], append_assoc, arith, drop, refl, subst, suc, sym, true, length, ℕ, ◌++◌, ◌<◌, ◌∙◌, ◌∷◌, ◌≡◌, ◌≢◌}
+use Rattle.std.proofs.Common.{List, None, Option, Some, [], arith, drop, refl, subst, sym, true, length, ℕ, ◌<◌, ◌∙◌, ◌∷◌, ◌≡◌, ◌≢◌}
 use Rattle.std.proofs.Math.Logic.{∥∥₁_elim, ∥∥₁_map}
 use Rattle.std.specs.List.{AllByRecursion}
 use Rattle.pv_dtd.specs.Plain.{PlainDtd}
 use Rattle.pv_dtd.specs.Proper.{IsProperDtd}
-use Rattle.pv_tree.specs.Lists.{Listed, an_element, lists_at, lists_from, lists_of}
+use Rattle.pv_tree.specs.Lists.{Listed, lists_of}
 use Rattle.pv_tree.specs.Words.{word_of}
-use Rattle.pv_tree.specs.Plain.{Ending, Forest, PlainDoc, Tree, element, tree}
+use Rattle.pv_tree.specs.Plain.{Forest, PlainDoc}
 use Rattle.pv_tree.specs.declared.nodes.Mark.{Mark}
 use Rattle.pv_tree.specs.declared.nodes.Verdict.{Verdict}
 use Rattle.pv_tree.specs.declared.nodes.Verdict.TheVariants as verdict
-use Rattle.pv_tree.proofs.Every.{all_left, all_right}
 use Rattle.pv_model.specs.Plain.{PlainToken}
 use Rattle.pv_rules.specs.Derivations.{IsWeight, heaviest}
 use Rattle.pv_rules.specs.Rules.{Rule}
@@ -22,14 +21,13 @@ use Rattle.pv_missing.specs.LiveWords.{IsLiveWord}
 use Rattle.pv_missing.specs.PlainForms.{plain_of}
 use Rattle.pv_missing.specs.Proper.{IsProperDoc}
 use Rattle.pv_missing.specs.Verdicts.{AreVerdicts, IsLive, IsVerdict}
-use Rattle.pv_missing.specs.Weighing.{BoundInAll, IsBound, site_of, whole}
+use Rattle.pv_missing.specs.ListWeights.{BoundInAll, IsBound, site_of, whole}
 use Rattle.pv_missing.specs.Widths.{FitsWeights}
 use Rattle.pv_missing.specs.declared.owners.Of.{Of}
 use Rattle.pv_tables.specs.WeightLaws.{LiveWeighs, LiveWeight}
 use Rattle.pv_complete.specs.Loads.{UsesVerdict}
-use Rattle.pv_complete.specs.Needing.{AreLightLists, CanWeigh, IsLightList, Needs}
-use Rattle.pv_complete.specs.Pieces.{PlainPiece}
-use Rattle.pv_complete.specs.Written.{AreListPieces, AreNotImpossible, HasNextKids, HasNextList, HasNextTree, PlainWriting, WritesSome}
+use Rattle.pv_complete.specs.NeededElements.{AreLightLists, CanWeigh, IsLightList, Needs}
+use Rattle.pv_complete.specs.ListPieces.{AreNotImpossible, HasNextList}
 use Rattle.pv_complete.proofs.WeightSums.{live_site}
 use Rattle.pv_complete.proofs.PiecesByVerdict.{not_at}
 
@@ -56,49 +54,6 @@ light_lists M g root doc n proper proper_doc live_weight weight_is_least add_up 
 pub live_verdicts : (vs : List Verdict) → ∥ AreNotImpossible vs ∥₁ → AreNotImpossible vs
 live_verdicts [] h = tt
 live_verdicts (v ∷ vs) h = (λ e. ∥∥₁_elim h (λ x. absurd x) (λ all. all.0 e), live_verdicts vs (∥∥₁_map h (λ all. all.1)))
-
-module _ (g : PlainDtd) (vs : List Verdict) where
-  -- the list of an element
-  pub next_list : (t : Tree Mark) (x attrs : List ℕ) (e : Ending) (kids : Forest Mark) (m : Mark) (owner : Option Of) (used : ℕ) → t ≡ element x attrs e kids m →
-      site_of g [] (an_element x) ≡ option_map plain_of owner → HasNextTree g t vs used → HasNextList g owner kids vs used
-  next_list t x attrs e kids m owner used is site h = record {
-    root = h.root;
-    list = record { path = h.path; owner = an_element x; kids = kids };
-    more = lists_from h.path 0 kids ++ h.more;
-    is_kids = refl;
-    is_owner = site;
-    verdicts = subst (λ k. AreVerdicts g h.root (lists_at h.path k ++ h.more) (drop used vs)) is h.verdicts;
-    light = let l = subst (λ k. AreLightLists g h.root (lists_at h.path k)) is h.light in l.0;
-  }
-
-  -- and then those of its kids
-  pub next_kids : (t : Tree Mark) (x attrs : List ℕ) (e : Ending) (kids : Forest Mark) (m : Mark) (used new : ℕ) (ps : List PlainPiece) → t ≡ element x attrs e kids m → (h : HasNextTree g t vs used) →
-      ((root path : List ℕ) (more : List (Listed Mark)) → AreVerdicts g root (record { path = path; owner = an_element x; kids = kids } ∷ (lists_from path 0 kids ++ more)) (drop used vs) →
-      AreListPieces g root (record { path = path; owner = an_element x; kids = kids }) (lists_from path 0 kids ++ more) vs used new ps) → HasNextKids g kids vs new
-  next_kids t x attrs e kids m used new ps is h f = record {
-    root = h.root;
-    path = h.path;
-    more = h.more;
-    verdicts = let p = f h.root h.path h.more (subst (λ k. AreVerdicts g h.root (lists_at h.path k ++ h.more) (drop used vs)) is h.verdicts) in let q = p.passes in q.left;
-    light = let l = subst (λ k. AreLightLists g h.root (lists_at h.path k)) is h.light in l.1;
-  }
-
-  -- the lists of the kid that is next
-  pub next_kid : (kids rest others : Forest Mark) (kid : Tree Mark) (i used : ℕ)
-      (ps qs : List PlainPiece) (old new : PlainWriting) (h : HasNextKids g kids vs old.used) →
-      rest ≡ tree kid others → used ≡ new.used →
-      WritesSome g h.root h.path i ps qs kids rest h.more vs old new → HasNextTree g kid vs used
-  next_kid kids rest others kid i used ps qs old new h is same s = record {
-    root = h.root;
-    path = h.path ++ i ∷ [];
-    more = lists_from h.path (suc i) others ++ h.more;
-    verdicts = subst (λ xs. AreVerdicts g h.root xs (drop used vs)) (append_assoc (lists_at (h.path ++ i ∷ []) kid) (lists_from h.path (suc i) others) h.more)
-        (subst (λ k. AreVerdicts g h.root (lists_from h.path i k ++ h.more) (drop used vs)) is
-        (subst (λ k. AreVerdicts g h.root (lists_from h.path i rest ++ h.more) (drop k vs))
-        (sym same) (let p = s.passes in p.left)));
-    light = all_left (IsLightList g h.root) (lists_at (h.path ++ i ∷ []) kid) (lists_from h.path (suc i) others) (subst (λ k. AreLightLists g h.root (lists_from h.path i k)) is
-        (all_right (IsLightList g h.root) s.lists (lists_from h.path i rest) (let e = s.are_lists in subst (AreLightLists g h.root) e h.light)));
-  }
 
 module _ (g : PlainDtd) (vs : List Verdict) (kids : Forest Mark) (used : ℕ) where
   -- a list that isn't Impossible has an owner in the DTD

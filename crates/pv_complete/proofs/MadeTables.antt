@@ -5,24 +5,24 @@ use Rattle.pv_model.specs.Plain.{PlainToken}
 use Rattle.pv_tree.specs.Lists.{Listed, lists_of}
 use Rattle.pv_tree.specs.Plain.{Forest, PlainDoc}
 use Rattle.pv_tree.specs.Words.{word_of}
-use Rattle.pv_tree.proofs.Every.{all_joined}
-use Rattle.pv_tree.proofs.Firsts.{first_before, first_behind}
+use Rattle.pv_tree.proofs.JoinedLists.{all_joined}
+use Rattle.pv_tree.proofs.FirstLists.{first_before, first_behind}
 use Rattle.pv_tree.specs.declared.nodes.Mark.{Mark}
 use Rattle.pv_tree.specs.declared.nodes.Verdict.{Verdict}
 use Rattle.pv_tree.specs.declared.nodes.Verdict.TheVariants as verdict
 use Rattle.pv_missing.specs.LiveWords.{IsLiveWord}
 use Rattle.pv_missing.specs.Verdicts.{AreVerdicts, IsVerdict}
-use Rattle.pv_missing.specs.Weighing.{site_of}
+use Rattle.pv_missing.specs.ListWeights.{site_of}
 use Rattle.pv_missing.specs.Widths.{FitsWeights, IsListForWeights}
 use Rattle.pv_missing.proofs.Verdict.{one_verdict}
 use Rattle.std.specs.Prelude.{None}
 use Rattle.pv_tables.specs.declared.tables.Entry.{Entry}
 use Rattle.pv_tables.specs.declared.tables.Table.{Table}
 use Rattle.pv_complete.specs.Loads.{UsesVerdict}
-use Rattle.pv_complete.specs.Needing.{CanWeigh, HasCause, Needs}
+use Rattle.pv_complete.specs.NeededElements.{CanWeigh, HasCause, Needs}
 use Rattle.pv_tables.specs.Tables.{AreTables, IsTableOf, entries_in, no_list, other_list, possible_list}
 use Rattle.pv_complete.specs.Tables.{HasTables, HasTablesCause, most_entries}
-use Rattle.pv_complete.specs.Tabling.{AreListEntries, Makes, MakesTables, PlainMade, StopsKids, StopsLists, StopsTables, StopsWord}
+use Rattle.pv_complete.specs.TableWalks.{AreListEntries, Makes, MakesTables, PlainMade, StopsKids, StopsLists, StopsTables, StopsWord}
 use Rattle.pv_complete.specs.declared.errors.NeedError.{NeedError}
 use Rattle.pv_complete.specs.declared.errors.NeedError.TheVariants.{Impossible, NoMemory, TooHeavy, TooMany, TooWide}
 use Rattle.pv_complete.proofs.WeightSums.{live_site}

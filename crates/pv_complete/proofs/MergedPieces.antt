@@ -7,49 +7,23 @@ use Rattle.pv_model.specs.Models.{Allows}
 use Rattle.pv_dtd.specs.Hedge.{Hedge, done, leaf}
 use Rattle.pv_dtd.specs.Plain.{PlainDtd, declared, model_of, number_of, spelling_of}
 use Rattle.pv_dtd.specs.Proper.{IsProperDtd}
-use Rattle.pv_dtd.proofs.Proper.{spelled}
+use Rattle.pv_dtd.proofs.ProperDtds.{spelled}
 use Rattle.pv_tree.specs.Plain.{Forest, Tree, cdata_node, element, misc_node, no_trees, tagged, text_node, tree}
 use Rattle.pv_tree.specs.Lists.{IsOwnValid}
 use Rattle.pv_tree.specs.View.{spread, unit_leaf, view_all, view_before}
 use Rattle.pv_tree.specs.Words.{node_before, word_of}
 use Rattle.pv_write.specs.Text.{forest_text, tree_text}
-use Rattle.pv_missing.specs.Completing.{LeavesOut, out_done, out_new}
-use Rattle.pv_missing.specs.Extending.{join}
+use Rattle.pv_write.proofs.EventLists.{events-join, marks-join, news-join, opens-join}
+use Rattle.pv_missing.specs.Completions.{LeavesOut, out_done, out_new}
+use Rattle.pv_missing.specs.Extensions.{join}
 use Rattle.pv_missing.proofs.CoversToInsertions.{allows-empty, empty_join}
-use Rattle.pv_complete.specs.Events.{Event, events_text, marks_from, new_end, new_start, news, old_bytes, old_start, opens}
-use Rattle.pv_complete.specs.Growing.{trees_and}
-use Rattle.pv_complete.specs.Merging.{AreValidTrees, IsCompletedList, IsCompletedTree, Merges, merge_along, merge_end, merge_finish, merge_kept, merge_left, merge_start, view_beside}
-use Rattle.pv_complete.specs.Pieces.{PlainPiece, Writes, finish, kept, start, write_kept, write_new, write_none, write_text}
+use Rattle.pv_write.specs.Events.{Event, events_text, marks_from, new_end, new_start, news, old_bytes, old_start, opens}
+use Rattle.pv_complete.specs.GrownTrees.{trees_and}
+use Rattle.pv_complete.specs.MergedLists.{AreValidTrees, IsCompletedList, IsCompletedTree, Merges, merge_along, merge_end, merge_finish, merge_kept, merge_left, merge_start, view_beside}
+use Rattle.pv_write.specs.Pieces.{PlainPiece, finish, kept, start}
+use Rattle.pv_complete.specs.Pieces.{Writes, write_kept, write_new, write_none, write_text}
 use Rattle.pv_complete.specs.Writable.{HasNames, KeepsWritable}
 use Rattle.pv_complete.proofs.WritableTrees.{keeps_new, keeps_none, name_of_number, no-attributes}
-
-pub events-join : (a b : List Event) → events_text (a ++ b) ≡ events_text a ++ events_text b
-events-join [] b = refl
-events-join (new_start x ∷ a) b = ap (λ s. codes "<" ++ x ++ codes ">" ++ s) (events-join a b) ∙ sym (append_assoc (codes "<" ++ x ++ codes ">") (events_text a) (events_text b))
-events-join (new_end x ∷ a) b = ap (λ s. codes "</" ++ x ++ codes ">" ++ s) (events-join a b) ∙ sym (append_assoc (codes "</" ++ x ++ codes ">") (events_text a) (events_text b))
-events-join (old_start x ∷ a) b = ap (λ s. x ++ s) (events-join a b) ∙ sym (append_assoc x (events_text a) (events_text b))
-events-join (old_bytes x ∷ a) b = ap (λ s. x ++ s) (events-join a b) ∙ sym (append_assoc x (events_text a) (events_text b))
-
-pub opens-join : (a b : List Event) → opens (a ++ b) ≡ opens a + opens b
-opens-join [] b = omega arith
-opens-join (new_start x ∷ a) b = omega (arith, opens-join a b)
-opens-join (new_end x ∷ a) b = opens-join a b
-opens-join (old_start x ∷ a) b = omega (arith, opens-join a b)
-opens-join (old_bytes x ∷ a) b = opens-join a b
-
-pub news-join : (a b : List Event) → news (a ++ b) ≡ news a + news b
-news-join [] b = omega arith
-news-join (new_start x ∷ a) b = omega (arith, news-join a b)
-news-join (new_end x ∷ a) b = news-join a b
-news-join (old_start x ∷ a) b = news-join a b
-news-join (old_bytes x ∷ a) b = news-join a b
-
-pub marks-join : (m : ℕ) (a b : List Event) → marks_from m (a ++ b) ≡ marks_from m a ++ marks_from (m + opens a) b
-marks-join m [] b = let e : m + 0 ≡ m = omega arith in rw e refl
-marks-join m (new_start x ∷ a) b = let e : suc m + opens a ≡ m + suc (opens a) = omega arith in let r = marks-join (suc m) a b in ap (λ s. m ∷ s) (rw e at r)
-marks-join m (new_end x ∷ a) b = marks-join m a b
-marks-join m (old_start x ∷ a) b = let e : suc m + opens a ≡ m + suc (opens a) = omega arith in let r = marks-join (suc m) a b in rw e at r
-marks-join m (old_bytes x ∷ a) b = marks-join m a b
 
 spread-join : (us : List (List ℕ)) (h b : Hedge) → spread us (join h b) ≡ join (spread us h) b
 spread-join [] h b = refl

@@ -6,14 +6,14 @@ use Rattle.pv_dtd.specs.Plain.{PlainDtd}
 use Rattle.pv_dtd.specs.Proper.{IsProperDtd}
 use Rattle.pv_tree.specs.Lists.{IsFirstNot, Listed, lists_of}
 use Rattle.pv_tree.specs.Plain.{PlainDoc}
-use Rattle.pv_tree.proofs.Every.{all_right}
-use Rattle.pv_tree.proofs.Firsts.{one_first}
+use Rattle.pv_tree.proofs.JoinedLists.{all_right}
+use Rattle.pv_tree.proofs.FirstLists.{one_first}
 use Rattle.pv_missing.specs.DocumentLaws.{IsPotentiallyValidByLists}
 use Rattle.pv_missing.specs.Proper.{IsProperDoc}
 use Rattle.pv_missing.specs.Verdicts.{IsLive}
 use Rattle.pv_missing.specs.Widths.{IsFirstTooWide, IsListForVerdict}
 use Rattle.pv_complete.specs.NeedLaws.{HasNeed, OneNeed}
-use Rattle.pv_complete.specs.Needing.{CanNeed, CanWeigh, HasCause, IsHeavy, Needs, StopsAtImpossible, StopsAtWide}
+use Rattle.pv_complete.specs.NeededElements.{CanNeed, CanWeigh, HasCause, IsHeavy, Needs, StopsAtImpossible, StopsAtWide}
 use Rattle.pv_complete.specs.declared.errors.NeedError.{NeedError}
 use Rattle.pv_complete.specs.declared.errors.NeedError.TheVariants.{Impossible, NoMemory, TooHeavy, TooMany, TooWide}
 

@@ -12,26 +12,26 @@ use Rattle.pv_rules.specs.Rules.{Goal, IsSpan, over}
 use Rattle.pv_rules.specs.Sites.{HasSite, content_site, name_site, part_site, rest_site}
 use Rattle.pv_rules.proofs.FlatKinds.{IsNoRest}
 use Rattle.pv_complete.specs.Moves.{AreWeightsBy, IsNoItem}
-use Rattle.pv_complete.proofs.Optimal.{content_any as by_content_any}
-use Rattle.pv_complete.proofs.Optimal.{content_children as by_content_children}
-use Rattle.pv_complete.proofs.Optimal.{content_declared as by_content_declared}
-use Rattle.pv_complete.proofs.Optimal.{content_empty as by_content_empty}
-use Rattle.pv_complete.proofs.Optimal.{content_mixed as by_content_mixed}
-use Rattle.pv_complete.proofs.Optimal.{content_nothing as by_content_nothing}
-use Rattle.pv_complete.proofs.Optimal.{name_kept as by_name_kept}
-use Rattle.pv_complete.proofs.Optimal.{name_new as by_name_new}
-use Rattle.pv_complete.proofs.Optimal.{part_choice_weight as by_part_choice_weight}
-use Rattle.pv_complete.proofs.Optimal.{part_name_weight as by_part_name_weight}
-use Rattle.pv_complete.proofs.Optimal.{part_opt_nothing as by_part_opt_nothing}
-use Rattle.pv_complete.proofs.Optimal.{part_opt_weight as by_part_opt_weight}
-use Rattle.pv_complete.proofs.Optimal.{part_plus_cut as by_part_plus_cut}
-use Rattle.pv_complete.proofs.Optimal.{part_seq_weight as by_part_seq_weight}
-use Rattle.pv_complete.proofs.Optimal.{part_stands as by_part_stands}
-use Rattle.pv_complete.proofs.Optimal.{part_star_cut as by_part_star_cut}
-use Rattle.pv_complete.proofs.Optimal.{part_star_nothing as by_part_star_nothing}
-use Rattle.pv_complete.proofs.Optimal.{rest_cut as by_rest_cut}
-use Rattle.pv_complete.proofs.Optimal.{rest_last_weight as by_rest_last_weight}
-use Rattle.pv_complete.proofs.Optimal.{rest_stands as by_rest_stands}
+use Rattle.pv_complete.proofs.OptimalRules.{content_any as by_content_any}
+use Rattle.pv_complete.proofs.OptimalRules.{content_children as by_content_children}
+use Rattle.pv_complete.proofs.OptimalRules.{content_declared as by_content_declared}
+use Rattle.pv_complete.proofs.OptimalRules.{content_empty as by_content_empty}
+use Rattle.pv_complete.proofs.OptimalRules.{content_mixed as by_content_mixed}
+use Rattle.pv_complete.proofs.OptimalRules.{content_nothing as by_content_nothing}
+use Rattle.pv_complete.proofs.OptimalRules.{name_kept as by_name_kept}
+use Rattle.pv_complete.proofs.OptimalRules.{name_new as by_name_new}
+use Rattle.pv_complete.proofs.OptimalRules.{part_choice_weight as by_part_choice_weight}
+use Rattle.pv_complete.proofs.OptimalRules.{part_name_weight as by_part_name_weight}
+use Rattle.pv_complete.proofs.OptimalRules.{part_opt_nothing as by_part_opt_nothing}
+use Rattle.pv_complete.proofs.OptimalRules.{part_opt_weight as by_part_opt_weight}
+use Rattle.pv_complete.proofs.OptimalRules.{part_plus_cut as by_part_plus_cut}
+use Rattle.pv_complete.proofs.OptimalRules.{part_seq_weight as by_part_seq_weight}
+use Rattle.pv_complete.proofs.OptimalRules.{part_stands as by_part_stands}
+use Rattle.pv_complete.proofs.OptimalRules.{part_star_cut as by_part_star_cut}
+use Rattle.pv_complete.proofs.OptimalRules.{part_star_nothing as by_part_star_nothing}
+use Rattle.pv_complete.proofs.OptimalRules.{rest_cut as by_rest_cut}
+use Rattle.pv_complete.proofs.OptimalRules.{rest_last_weight as by_rest_last_weight}
+use Rattle.pv_complete.proofs.OptimalRules.{rest_stands as by_rest_stands}
 
 module _ (g : PlainDtd) (w : List PlainToken) (t : Goal → ℕ) (are : ∥ AreWeightsBy g w t ∥₁)
     (known : IsTrue (are_known g)) (some_names : declared g ≤ length g.names) (i j : ℕ)

@@ -6,7 +6,7 @@ use Rattle.pv_dtd.specs.Plain.{PlainDtd, number_of}
 use Rattle.pv_dtd.proofs.NameSequences.{get-place}
 use Rattle.pv_rules.specs.Sites.{HasSite, PlainSite, content_site, name_site}
 use Rattle.pv_tree.specs.Lists.{Owner, an_element, the_document}
-use Rattle.pv_missing.specs.Weighing.{site_of}
+use Rattle.pv_missing.specs.ListWeights.{site_of}
 
 module _ (g : PlainDtd) (s : PlainSite) (x : List ℕ) where
   named : (o : Option ℕ) → number_of g x ≡ o → option_map name_site o ≡ Some s → HasSite g s

@@ -1,12 +1,10 @@
 -- The pieces of a list by its verdict.
-use Rattle.std.proofs.Common.{List, None, Option, Some, [], ap, append-nil, append_assoc, arith, drop, false, inl, inr, length, map, refl, subst, suc}
-use Rattle.std.proofs.Common.{true, zero, zero-add, ℕ, ◌++◌, ◌+◌, ◌<◌, ◌∙◌, ◌∷◌, ◌≡◌, ◌≢◌}
-use Rattle.std.proofs.lemmas.Option.{slice_get_within}
+use Rattle.std.proofs.Common.{Global, List, None, Option, Some, Vec, [], ap, append-nil, append_assoc, drop, false, inl, inr, map, refl, subst, suc}
+use Rattle.std.proofs.Common.{true, zero, zero-add, ℕ, ◌++◌, ◌+◌, ◌∙◌, ◌∷◌, ◌≡◌, ◌≢◌}
 use Rattle.std.specs.List.{AllByRecursion}
 use Rattle.pv_model.specs.Plain.{PlainModel, PlainToken, any, children, empty, mixed, named, other, text}
 use Rattle.pv_model.specs.Models.{Allows, IsOfAny, IsOfMixed}
 use Rattle.pv_dtd.specs.Plain.{PlainDtd, declared, model_of, number_of}
-use Rattle.pv_dtd.specs.Proper.{IsProperDtd}
 use Rattle.pv_tree.specs.Lists.{IsOwnValid, IsRootList, IsValidBy, Listed, Owner, an_element, the_document}
 use Rattle.pv_tree.specs.Plain.{Forest, cdata_node, element, misc_node, no_trees, text_node, tree}
 use Rattle.pv_tree.specs.Words.{word_of}
@@ -15,70 +13,19 @@ use Rattle.pv_tree.specs.declared.nodes.Verdict.{Verdict}
 use Rattle.pv_tree.specs.declared.nodes.Verdict.TheVariants as verdict
 use Rattle.pv_rules.specs.Derivations.{IsWeight}
 use Rattle.pv_rules.specs.Rules.{Rule}
-use Rattle.pv_rules.specs.Sites.{PlainSite, content_site, name_site, part_site, rest_site}
+use Rattle.pv_rules.specs.Sites.{PlainSite, content_site, name_site}
 use Rattle.pv_missing.specs.LiveWords.{IsLiveWord}
 use Rattle.pv_missing.specs.Verdicts.{AreVerdicts, IsLiveBy, IsVerdict}
-use Rattle.pv_missing.specs.Weighing.{site_of, whole}
+use Rattle.pv_missing.specs.ListWeights.{site_of, whole}
 use Rattle.pv_missing.proofs.LiveFacts.{live_follows}
-use Rattle.pv_missing.proofs.LiveOnce.{one_live_word}
+use Rattle.pv_missing.proofs.OneLiveWord.{one_live_word}
 use Rattle.pv_tables.proofs.WeightSums.{same_word}
 use Rattle.pv_complete.specs.Loads.{UsesVerdict}
-use Rattle.pv_complete.specs.Pieces.{PlainPiece, Writes, WritesAt, WritesContent, finish, kept, start, write_kept, write_new, write_none, write_text}
-use Rattle.pv_complete.specs.PieceForms.{plain_piece, plain_pieces}
-use Rattle.pv_complete.specs.Written.{AreListPieces, AreNotImpossible, SuitsWord, kept_for, kept_times}
-use Rattle.pv_complete.specs.declared.words.pieces.Piece.{Piece}
-use Rattle.pv_complete.specs.declared.words.pieces.Piece.TheVariants as piece
-
--- ---- pieces suit a word
-pub suits_length : (g : PlainDtd) (ps : List PlainPiece) (w v : List PlainToken) → length v ≡ length w → SuitsWord g ps w → SuitsWord g ps v
-suits_length g [] w [] e s = refl
-suits_length g [] w (t ∷ v) e s = absurd (let z : w ≡ [] = s in let l = ap length z in omega arith)
-suits_length g (kept ∷ ps) w [] e (t, r, f, s) = absurd (let l = ap length f in omega arith)
-suits_length g (kept ∷ ps) w (u ∷ v) e (t, r, f, s) = (u, v, refl, suits_length g ps r v (let l = ap length f in omega arith) s)
-suits_length g (start y ∷ ps) w v e s = (s.0, suits_length g ps w v e s.1)
-suits_length g (finish y ∷ ps) w v e s = (s.0, suits_length g ps w v e s.1)
-
-pub suits_kept : (g : PlainDtd) (w : List PlainToken) → SuitsWord g (kept_for w) w
-suits_kept g [] = refl
-suits_kept g (t ∷ w) = (t, w, refl, suits_kept g w)
-
--- ---- kept pieces
-pub kept_by_length : (w : List PlainToken) → kept_times (length w) ≡ kept_for w
-kept_by_length [] = refl
-kept_by_length (t ∷ w) = ap (λ x. kept ∷ x) (kept_by_length w)
-
-kept_join : (n : ℕ) → kept_times n ++ kept ∷ [] ≡ kept_times (suc n)
-kept_join zero = refl
-kept_join (suc n) = ap (λ x. kept ∷ x) (kept_join n)
-
-plain_more : (ps : List Piece) (p : Piece) → plain_pieces (ps ++ p ∷ []) ≡ plain_pieces ps ++ plain_piece p ∷ []
-plain_more [] p = refl
-plain_more (q ∷ ps) p = ap (λ x. plain_piece q ∷ x) (plain_more ps p)
-
-pub one_kept_more : (ps qs : List Piece) (n : ℕ) → plain_pieces ps ≡ kept_times n → qs ≡ ps ++ piece.Kept ∷ [] → plain_pieces qs ≡ kept_times (n + 1)
-one_kept_more ps qs n e f = let s : n + 1 ≡ suc n = omega arith in rw s (ap plain_pieces f ∙ plain_more ps piece.Kept ∙ ap (λ x. x ++ kept ∷ []) e ∙ kept_join n)
-
-module _ (g : PlainDtd) (proper : IsProperDtd g) where
-  known : (y : ℕ) (m : PlainModel) → model_of g y ≡ Some m → y < length g.names
-  known y m is = let d = slice_get_within g.models y m is in let n = proper.named in omega arith
-
-  suits_writes : (n : ℕ) (u w : List PlainToken) (ps : List PlainPiece) → Writes g n u w ps → (qs : List PlainPiece) (v : List PlainToken) → SuitsWord g qs v → SuitsWord g (ps ++ qs) (w ++ v)
-  suits_writes n u w ps (write_none _ z) qs v s = s
-  suits_writes n u w ps (write_text _ u2 w2 os c) qs v s = (text, w2 ++ v, refl, suits_writes n u2 w2 os c qs v s)
-  suits_writes n u w ps (write_kept _ y u2 w2 os c) qs v s = (named y, w2 ++ v, refl, suits_writes n u2 w2 os c qs v s)
-  suits_writes n u w ps (write_new _ a b y m z u2 w1 w2 _ one two _ e j h is ok c1 c2) qs v s =
-      let p : ps ++ qs ≡ start y ∷ (one ++ (finish y ∷ (two ++ qs))) = ap (λ x. x ++ qs) h ∙ ap (λ x. start y ∷ x) (append_assoc one (finish y ∷ two) qs) in
-      let q : w ++ v ≡ w1 ++ (w2 ++ v) = ap (λ x. x ++ v) j ∙ append_assoc w1 w2 v in
-      rw (p, q) (known y m is, suits_writes a z w1 one c1 (finish y ∷ (two ++ qs)) (w2 ++ v) (known y m is, suits_writes b u2 w2 two c2 qs v s))
-
-  all_suits : (n : ℕ) (u w : List PlainToken) (ps : List PlainPiece) → Writes g n u w ps → SuitsWord g ps w
-  all_suits n u w ps c = rw (append-nil ps, append-nil w) at (suits_writes n u w ps c [] [] refl)
-
-  pub suits_at : (s : PlainSite) (n : ℕ) (w : List PlainToken) (ps : List PlainPiece) → WritesAt g s n w ps → SuitsWord g ps w
-  suits_at (name_site x) n w ps c = all_suits n (named x ∷ []) w ps c
-  suits_at (content_site x) n w ps c = all_suits n c.whole w ps c.writes
-  suits_at (part_site q) n w ps c = absurd c
-  suits_at (rest_site q) n w ps c = absurd c
+use Rattle.pv_write.specs.Pieces.{PlainPiece}
+use Rattle.pv_complete.specs.Pieces.{Writes, WritesAt, WritesContent, write_kept, write_none, write_text}
+use Rattle.pv_write.specs.PieceForms.{plain_lists, plain_pieces}
+use Rattle.pv_complete.specs.ListPieces.{AreNextPieces, AreNotImpossible, ArePieces, HaveFound, kept_for}
+use Rattle.pv_write.specs.declared.pieces.Piece.{Piece}
 
 -- ---- a valid list's pieces
 module _ (g : PlainDtd) where
@@ -152,47 +99,75 @@ module _ (g : PlainDtd) (root : List ℕ) (list : Listed Mark) (more : List (Lis
   pub possible_pieces : (s : PlainSite) (n : ℕ) (live : List PlainToken) (ps : List PlainPiece) →
       UsesVerdict vs old new true → site_of g root list.owner ≡ Some s →
       IsLiveWord g (word_of g list.kids) live →
-      IsWeight (Rule g live) (whole s live) n → WritesAt g s n live ps → AreVerdicts g root (list ∷ more) (drop old vs) → AreListPieces g root list more vs old new ps
+      IsWeight (Rule g live) (whole s live) n → WritesAt g s n live ps → AreVerdicts g root (list ∷ more) (drop old vs) → AreNextPieces g root list more vs old new ps
   possible_pieces s n live ps next site is weighs writes (u, rest, e, j, others) =
       let head : u ≡ verdict.Possible = cc (e, next) in
       let tail : rest ≡ drop new vs = cc (e, next) in
       let judged : IsVerdict g root list verdict.Possible = rw head at j in
       record {
         count = n;
-        site = s;
-        is_site = site;
-        live = judged.0;
-        writes = let w = live_is_word g root list.owner list.kids live judged.0 is in rw w at writes;
-        passes = record {
-          left = rw tail at others;
-          weigh = λ b w. rw next (n, b, refl, (s, live, site, is, weighs), w);
+        are = record {
+          site = s;
+          is_site = site;
+          live = judged.0;
+          all = ps;
+          stand = inl refl;
+          writes = let w = live_is_word g root list.owner list.kids live judged.0 is in rw w at writes;
         };
+        left = rw tail at others;
+        weigh = λ b w. rw next (n, b, refl, (s, live, site, is, weighs), w);
       }
 
   -- a Valid one
-  pub kept_pieces : (s : PlainSite) (live : List PlainToken) (ps : List PlainPiece) →
-      UsesVerdict vs old new false → AreNotImpossible vs → site_of g root list.owner ≡ Some s →
-      IsLiveWord g (word_of g list.kids) live →
-      ps ≡ kept_for live → AreVerdicts g root (list ∷ more) (drop old vs) → AreListPieces g root list more vs old new ps
-  kept_pieces s live ps (inl none) all site is same (u, rest, e, j, others) = absurd cc
-  kept_pieces s live ps (inr (v, next, not)) all site is same (u, rest, e, j, others) =
+  pub kept_pieces : (s : PlainSite) (ps : List PlainPiece) → UsesVerdict vs old new false → AreNotImpossible vs → site_of g root list.owner ≡ Some s → ps ≡ [] →
+      AreVerdicts g root (list ∷ more) (drop old vs) → AreNextPieces g root list more vs old new ps
+  kept_pieces s ps (inl none) all site nothing (u, rest, e, j, others) = absurd cc
+  kept_pieces s ps (inr (v, next, not)) all site nothing (u, rest, e, j, others) =
       let head : u ≡ v = cc (e, next) in
       let tail : rest ≡ drop new vs = cc (e, next) in
       let valid : v ≡ verdict.Valid = is_valid v not (not_at vs old v (drop new vs) all next) in
       let judged : IsVerdict g root list verdict.Valid = rw (head ∙ valid) at j in
       record {
         count = 0;
-        site = s;
-        is_site = site;
-        live = judged.0;
-        writes = let w = live_is_word g root list.owner list.kids live judged.0 is in rw (same, w) (valid_pieces g root list.owner s list.kids site judged.1);
-        passes = record {
-          left = rw tail at others;
-          weigh = λ b w. rw (next, valid, zero-add b) w;
+        are = record {
+          site = s;
+          is_site = site;
+          live = judged.0;
+          all = kept_for (word_of g list.kids);
+          stand = inr (nothing, refl);
+          writes = valid_pieces g root list.owner s list.kids site judged.1;
         };
+        left = rw tail at others;
+        weigh = λ b w. rw (next, valid, zero-add b) w;
       }
     where
       is_valid : (o : Verdict) → o ≢ verdict.Possible → o ≢ verdict.Impossible → o ≡ verdict.Valid
       is_valid verdict.Valid n m = refl
       is_valid verdict.Possible n m = absurd (n refl)
       is_valid verdict.Impossible n m = absurd (m refl)
+
+-- ---- one list after the other
+lists_more : (xs : List (Vec Piece Global)) (x : Vec Piece Global) → plain_lists (xs ++ x ∷ []) ≡ plain_lists xs ++ plain_pieces x.items ∷ []
+lists_more [] x = refl
+lists_more (y ∷ xs) x = ap (λ qs. plain_pieces y.items ∷ qs) (lists_more xs x)
+
+module _ (g : PlainDtd) (root : List ℕ) (all : List (Listed Mark)) (vs : List Verdict) where
+  pub found_none : AreVerdicts g root all vs → HaveFound g root all all vs 0 []
+  found_none are = record { verdicts = are; goes_on = λ qs f. f }
+
+  pub found_more : (list : Listed Mark) (rest : List (Listed Mark)) (old new : ℕ) (xs ys : List (Vec Piece Global)) (x : Vec Piece Global) → ys ≡ xs ++ x ∷ [] →
+      HaveFound g root all (list ∷ rest) vs old (plain_lists xs) →
+      (AreVerdicts g root (list ∷ rest) (drop old vs) → AreNextPieces g root list rest vs old new (plain_pieces x.items)) → HaveFound g root all rest vs new (plain_lists ys)
+  found_more list rest old new xs ys x is h f =
+      let next = f h.verdicts in
+      record {
+        verdicts = next.left;
+        goes_on = λ qs a. rw (is, lists_more xs x, append_assoc (plain_lists xs) (plain_pieces x.items ∷ []) qs) (h.goes_on (plain_pieces x.items ∷ qs) (record {
+          sum = next.count + a.sum;
+          have = (plain_pieces x.items, qs, next.count, a.sum, refl, refl, next.are, a.have);
+          weigh = next.weigh a.sum a.weigh;
+        }));
+      }
+
+  pub found_all : (used : ℕ) (qs : List (List PlainPiece)) → HaveFound g root all [] vs used qs → ArePieces g root all vs qs
+  found_all used qs h = rw append-nil at (h.goes_on [] (record { sum = 0; have = refl; weigh = refl }))

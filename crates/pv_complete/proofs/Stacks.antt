@@ -10,9 +10,9 @@ use Rattle.pv_rules.specs.Sites.{content_site, name_site}
 use Rattle.pv_rules.specs.declared.sites.Site.{Site}
 use Rattle.pv_rules.specs.declared.sites.Site.TheVariants as site
 use Rattle.pv_complete.specs.Moves.{IsMove}
-use Rattle.pv_complete.specs.PieceForms.{plain_piece, plain_pieces}
-use Rattle.pv_complete.specs.declared.words.pieces.Piece.{Piece}
-use Rattle.pv_complete.specs.Pieces.{PlainPiece, finish, kept, start}
+use Rattle.pv_write.specs.PieceForms.{plain_piece, plain_pieces}
+use Rattle.pv_write.specs.declared.pieces.Piece.{Piece}
+use Rattle.pv_write.specs.Pieces.{PlainPiece, finish, kept, start}
 use Rattle.pv_complete.specs.Spelling.{SpellsSpan, spell_kept, spell_new, spell_none, spell_one, spell_text, spell_two}
 use Rattle.pv_complete.specs.Works.{Goes, Wants, WantsAll, goal_work, wants_none, wants_top}
 use Rattle.pv_complete.specs.declared.words.pieces.Move.TheVariants as move

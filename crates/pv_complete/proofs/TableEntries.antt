@@ -13,7 +13,7 @@ use Rattle.pv_tables.specs.declared.tables.Entry.{Entry}
 use Rattle.pv_span.specs.declared.weighing.Spans.{Spans}
 use Rattle.pv_complete.specs.Listings.{HasMoreLight, IsLight, IsListedTo, StopsListing, key}
 use Rattle.pv_tables.specs.Tables.{AreAllEntries, AreEntries, IsEntry, Precedes, kind_rank, site_number}
-use Rattle.pv_complete.specs.Tabling.{HasMoreEntries, StopsWord}
+use Rattle.pv_complete.specs.TableWalks.{HasMoreEntries, StopsWord}
 use Rattle.pv_complete.specs.declared.errors.NeedError.{NeedError}
 use Rattle.pv_complete.specs.declared.errors.NeedError.TheVariants.{Impossible, NoMemory, TooHeavy, TooMany, TooWide}
 use Rattle.pv_complete.proofs.Keys.{all_before}

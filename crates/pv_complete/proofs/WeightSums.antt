@@ -11,8 +11,8 @@ use Rattle.pv_model.specs.Plain.{PlainToken}
 use Rattle.pv_tree.specs.Plain.{Forest, PlainDoc}
 use Rattle.pv_tree.specs.Words.{word_of}
 use Rattle.pv_tree.specs.View.{view}
-use Rattle.pv_tree.proofs.Every.{all_joined}
-use Rattle.pv_tree.proofs.Firsts.{first_before, first_behind}
+use Rattle.pv_tree.proofs.JoinedLists.{all_joined}
+use Rattle.pv_tree.proofs.FirstLists.{first_before, first_behind}
 use Rattle.pv_tree.specs.declared.nodes.Mark.{Mark}
 use Rattle.pv_tree.specs.declared.nodes.Verdict.{Verdict}
 use Rattle.pv_tree.specs.declared.nodes.Verdict.TheVariants as verdict
@@ -20,15 +20,15 @@ use Rattle.pv_rules.specs.Derivations.{IsWeight, heaviest}
 use Rattle.pv_rules.specs.Rules.{Rule}
 use Rattle.pv_rules.specs.Sites.{PlainSite}
 use Rattle.pv_missing.specs.LiveWords.{IsLiveWord}
-use Rattle.pv_missing.specs.Completing.{IsPotentiallyValid}
+use Rattle.pv_missing.specs.Completions.{IsPotentiallyValid}
 use Rattle.pv_missing.specs.Proper.{IsProperDoc}
 use Rattle.pv_missing.specs.Verdicts.{AreVerdicts, IsLiveBy, IsVerdict, is_possible}
-use Rattle.pv_missing.specs.Weighing.{site_of, whole}
+use Rattle.pv_missing.specs.ListWeights.{site_of, whole}
 use Rattle.pv_missing.specs.Widths.{IsListForWeights}
 use Rattle.pv_missing.proofs.Verdict.{one_verdict}
 use Rattle.pv_tables.specs.WeightLaws.{LiveWeighs, PossibleWeigh, PossibleWeightsAddUp}
 use Rattle.pv_complete.specs.Loads.{LoadsMore, AddsUp, PlainLoad, StopsAtList, UsesVerdict}
-use Rattle.pv_complete.specs.Needing.{AreListsForVerdicts, CanWeigh, IsHeavy, Needs, WeighsIn}
+use Rattle.pv_complete.specs.NeededElements.{AreListsForVerdicts, CanWeigh, IsHeavy, Needs, WeighsIn}
 
 -- the verdict that is next, and those after it
 pub drop_next : (vs : List Verdict) (k n : ℕ) (v : Verdict) → slice_get vs k ≡ Some v → n ≡ k + 1 → drop k vs ≡ v ∷ drop n vs

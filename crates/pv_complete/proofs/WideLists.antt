@@ -12,7 +12,7 @@ use Rattle.pv_tree.specs.declared.nodes.Mark.{Mark}
 use Rattle.pv_tree.specs.declared.nodes.Verdict.{Verdict}
 use Rattle.pv_missing.specs.Widths.{FitsWeights, IsListForWeights, columns_of}
 use Rattle.pv_complete.specs.Loads.{UsesVerdict}
-use Rattle.pv_complete.specs.Needing.{CanWeigh}
+use Rattle.pv_complete.specs.NeededElements.{CanWeigh}
 use Rattle.pv_complete.specs.WideLists.{HaveVerdictsFrom}
 use Rattle.pv_complete.proofs.WeightSums.{adds_other, stops_here}
 

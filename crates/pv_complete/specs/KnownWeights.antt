@@ -2,7 +2,7 @@
 use Rattle.std.specs.Prelude.{IfSome, List, Option, Some, length, map, slice_get, ℕ, ◌≡◌}
 use Rattle.pv_dtd.specs.Plain.{PlainDtd}
 use Rattle.pv_missing.specs.PlainForms.{plain_of}
-use Rattle.pv_missing.specs.Weighing.{whole}
+use Rattle.pv_missing.specs.ListWeights.{whole}
 use Rattle.pv_missing.specs.Widths.{FitsWeights}
 use Rattle.pv_model.specs.Plain.{PlainToken}
 use Rattle.pv_model.specs.PlainForms.{plain_token}
@@ -13,8 +13,8 @@ use Rattle.pv_tables.specs.Tables.{AreAllEntries}
 use Rattle.pv_tables.specs.declared.tables.Entry.{Entry}
 use Rattle.pv_complete.specs.declared.missing.known.KnownWeight.{KnownWeight}
 use Rattle.pv_complete.specs.declared.missing.known.KnownWeights.{KnownWeights}
-use Rattle.pv_complete.specs.declared.words.pieces.Piece.{Piece}
-use Rattle.pv_complete.specs.PieceForms.{plain_pieces}
+use Rattle.pv_write.specs.declared.pieces.Piece.{Piece}
+use Rattle.pv_write.specs.PieceForms.{plain_pieces}
 use Rattle.pv_complete.specs.Pieces.{WritesAt}
 
 -- A word weighs so much at a site, and isn't too wide for weights.

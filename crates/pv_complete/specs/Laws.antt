@@ -3,8 +3,9 @@ use Rattle.std.specs.Prelude.{List, [], ℕ, ◌∷◌}
 use Rattle.pv_model.specs.Plain.{PlainToken, named}
 use Rattle.pv_dtd.specs.Plain.{PlainDtd}
 use Rattle.pv_rules.specs.Sites.{content_site, name_site}
-use Rattle.pv_missing.specs.Weighing.{whole}
-use Rattle.pv_complete.specs.Pieces.{PlainPiece, Writes, WritesContent}
+use Rattle.pv_missing.specs.ListWeights.{whole}
+use Rattle.pv_write.specs.Pieces.{PlainPiece}
+use Rattle.pv_complete.specs.Pieces.{Writes, WritesContent}
 use Rattle.pv_complete.specs.Spelling.{SpellsSpan}
 
 -- The pieces that are spelled over a whole word make it into what the content of an element allows,

@@ -10,7 +10,7 @@ use Rattle.pv_tree.specs.declared.nodes.Verdict.TheVariants as verdict
 use Rattle.pv_rules.specs.Derivations.{heaviest}
 use Rattle.pv_missing.specs.Verdicts.{AreVerdicts}
 use Rattle.pv_tables.specs.WeightLaws.{PossibleWeigh}
-use Rattle.pv_complete.specs.Needing.{CanWeigh}
+use Rattle.pv_complete.specs.NeededElements.{CanWeigh}
 
 -- how many verdicts are used, and the sum of the weights so far, cut
 pub record PlainLoad : Type 0 where

@@ -6,10 +6,11 @@ use Rattle.pv_dtd.specs.Proper.{IsProperDtd}
 use Rattle.pv_tree.specs.Plain.{Ending, Forest, Tree, element, is_element, no_trees, short, tagged}
 use Rattle.pv_tree.specs.Words.{word_of}
 use Rattle.pv_write.specs.Text.{tree_text}
-use Rattle.pv_complete.specs.Events.{Event, old_bytes, old_start}
-use Rattle.pv_complete.specs.Merging.{IsCompletedList, IsCompletedTree, Merges}
-use Rattle.pv_complete.specs.Growing.{gap_of}
-use Rattle.pv_complete.specs.Pieces.{PlainPiece, Writes, WritesContent}
+use Rattle.pv_write.specs.Events.{Event, old_bytes, old_start}
+use Rattle.pv_complete.specs.MergedLists.{IsCompletedList, IsCompletedTree, Merges}
+use Rattle.pv_write.specs.TaggedTexts.{gap_of}
+use Rattle.pv_write.specs.Pieces.{PlainPiece}
+use Rattle.pv_complete.specs.Pieces.{Writes, WritesContent}
 use Rattle.pv_complete.specs.Writable.{HasNames}
 
 -- Pieces that make the word of some nodes into u, merged with the nodes, each completed by itself,

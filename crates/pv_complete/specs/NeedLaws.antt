@@ -5,7 +5,7 @@ use Rattle.pv_dtd.specs.Plain.{PlainDtd}
 use Rattle.pv_dtd.specs.Proper.{IsProperDtd}
 use Rattle.pv_tree.specs.Plain.{PlainDoc}
 use Rattle.pv_missing.specs.Proper.{IsProperDoc}
-use Rattle.pv_complete.specs.Needing.{HasCause, Needs}
+use Rattle.pv_complete.specs.NeededElements.{HasCause, Needs}
 use Rattle.pv_complete.specs.declared.errors.NeedError.{NeedError}
 use Rattle.pv_complete.specs.declared.errors.NeedError.TheVariants.{Impossible, NoMemory}
 use Rattle.pv_complete.specs.declared.errors.NeedError.TheVariants.{TooHeavy, TooMany, TooWide}

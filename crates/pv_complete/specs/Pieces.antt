@@ -4,13 +4,7 @@ use Rattle.pv_model.specs.Plain.{PlainModel, PlainToken, named, text}
 use Rattle.pv_model.specs.Models.{Allows}
 use Rattle.pv_dtd.specs.Plain.{PlainDtd, declared, model_of}
 use Rattle.pv_rules.specs.Sites.{PlainSite, content_site, name_site, part_site, rest_site}
-
--- the node of the next token, which stays as it is; the start tag, and the end tag, of a new
--- element of a name
-pub data PlainPiece : Type 0 where
-  kept : PlainPiece
-  start : ℕ → PlainPiece
-  finish : ℕ → PlainPiece
+use Rattle.pv_write.specs.Pieces.{PlainPiece, finish, kept, start}
 
 -- The pieces make the word w, of which each token is kept, into the word u, by n new elements, of
 -- which each has content that its model allows.

@@ -1,6 +1,6 @@
 -- The plain forms of what walks over lists have added up and made.
 use Rattle.pv_complete.specs.Loads.{PlainLoad}
-use Rattle.pv_complete.specs.Tabling.{PlainMade}
+use Rattle.pv_complete.specs.TableWalks.{PlainMade}
 use Rattle.pv_complete.specs.declared.missing.load.Load.{Load}
 use Rattle.pv_complete.specs.declared.listings.made.Made.{Made}
 

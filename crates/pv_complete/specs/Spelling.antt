@@ -7,7 +7,7 @@ use Rattle.pv_dtd.specs.Plain.{IsDeclared, PlainDtd, model_of, parts_in}
 use Rattle.pv_rules.specs.Numbering.{IsMemberAt, first_part, part_at, rest_at}
 use Rattle.pv_rules.specs.Rules.{Goal, over}
 use Rattle.pv_rules.specs.Sites.{PlainSite, content_site, name_site, part_site, rest_site}
-use Rattle.pv_complete.specs.Pieces.{PlainPiece, finish, kept, start}
+use Rattle.pv_write.specs.Pieces.{PlainPiece, finish, kept, start}
 
 -- elements of this name may hold data
 abbrev pub HoldsData : PlainDtd → ℕ → Type 0

@@ -12,7 +12,7 @@ use Rattle.pv_tables.specs.Tables.{AreEntries, AreTables, entries_in}
 pub use Rattle.pv_tables.specs.Tables.{most_entries}
 use Rattle.pv_tables.specs.declared.tables.Entry.{Entry}
 use Rattle.pv_tables.specs.declared.tables.Table.{Table}
-use Rattle.pv_complete.specs.Needing.{HasCause, Needs}
+use Rattle.pv_complete.specs.NeededElements.{HasCause, Needs}
 use Rattle.pv_complete.specs.declared.errors.NeedError.{NeedError}
 use Rattle.pv_complete.specs.declared.errors.NeedError.TheVariants.{Impossible, NoMemory}
 use Rattle.pv_complete.specs.declared.errors.NeedError.TheVariants.{TooHeavy, TooMany, TooWide}

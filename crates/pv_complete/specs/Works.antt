@@ -9,7 +9,7 @@ use Rattle.pv_rules.specs.Rules.{Goal, IsSpan, over}
 use Rattle.pv_rules.specs.Sites.{HasSite}
 use Rattle.pv_rules.specs.declared.sites.Site.{Site}
 use Rattle.pv_complete.specs.Moves.{site_rank}
-use Rattle.pv_complete.specs.Pieces.{PlainPiece, finish}
+use Rattle.pv_write.specs.Pieces.{PlainPiece, finish}
 use Rattle.pv_complete.specs.Spelling.{SpellsSpan}
 use Rattle.pv_complete.specs.declared.words.pieces.Work.{Work}
 use Rattle.pv_complete.specs.declared.words.pieces.Work.TheVariants as work

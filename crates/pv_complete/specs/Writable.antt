@@ -6,7 +6,7 @@ use Rattle.pv_dtd.specs.Plain.{PlainDtd}
 use Rattle.pv_tree.specs.Legal.{AreLegal, are_formed, front_units, have_names, have_no_close_mark}
 use Rattle.pv_tree.specs.Plain.{Forest, is_element, no_trees, tree}
 use Rattle.pv_tree.specs.Units.{HaveUnits}
-use Rattle.pv_complete.specs.Growing.{Grows}
+use Rattle.pv_complete.specs.GrownTrees.{Grows}
 
 -- Each element's name is a Name, an empty-element tag stands only where there are no kids, each
 -- text has a unit, all other bytes are legal, and no run of texts spells `]]>`.

@@ -7,9 +7,9 @@ ghost use Rattle.std.specs.Prelude.{◌≡◌, ℕ, IfErr, IfOk};
 ghost use Rattle.pv_productive.specs.PlainForms.{dtd_of};
 ghost use Rattle.pv_tree.specs.PlainDocs.{plain_doc};
 ghost use Rattle.pv_tree.specs.Prolog.{IsProlog};
-ghost use Rattle.pv_complete.specs.Completing.{IsLeastCompletion};
-ghost use Rattle.pv_complete.specs.Growing.{IsBounded, IsGrownText};
-ghost use Rattle.pv_complete.specs.Needing.{HasCause, HasVerdicts, Needs};
+ghost use Rattle.pv_complete.specs.LeastCompletions.{IsLeastCompletion};
+ghost use Rattle.pv_complete.specs.GrownTrees.{IsBounded, IsGrownText};
+ghost use Rattle.pv_complete.specs.NeededElements.{HasCause, HasVerdicts, Needs};
 ghost use Rattle.pv_complete.specs.Tables.{HasTables, HasTablesCause};
 ghost use Rattle.pv_complete.specs.declared.errors.NeedError.TheVariants.{NoMemory as no_memory};
 

@@ -2,6 +2,3 @@
 
 pub mod by_verdict;
 pub mod completion;
-pub mod tags;
-pub mod text;
-pub mod walk;

@@ -3,23 +3,23 @@ use Rattle.std.proofs.Common.{◌≡◌, ◌∙◌, Bool, Err, IfOk, IsTrue, Lis
 use Rattle.std.proofs.Math.Logic.{∥∥₁_map}
 use Rattle.pv_cache.specs.Rows.{TellVerdicts}
 use Rattle.pv_cache.specs.Stamps.{doc_as, stamp_of, stamps_of}
-use Rattle.pv_cache.proofs.Alike.{unmarked_as}
+use Rattle.pv_cache.proofs.RemarkedDocuments.{unmarked_as}
 use Rattle.pv_reach.proofs.OtherMarks.{view_as}
-use Rattle.pv_complete.specs.Completing.{IsLeastCompletion}
-use Rattle.pv_complete.specs.Needing.{AreLiveVerdicts}
-use Rattle.pv_complete.specs.Growing.{Grows, IsGrownText, KeepsEnding, trees_and, grows_kept, grows_leaf, grows_new, grows_none}
+use Rattle.pv_complete.specs.LeastCompletions.{IsLeastCompletion}
+use Rattle.pv_complete.specs.NeededElements.{AreLiveVerdicts}
+use Rattle.pv_complete.specs.GrownTrees.{Grows, IsGrownText, KeepsEnding, trees_and, grows_kept, grows_leaf, grows_new, grows_none}
 use Rattle.pv_dtd.specs.Plain.{PlainDtd}
 use Rattle.pv_dtd.specs.Proper.{IsProperDtd}
-use Rattle.pv_missing.specs.Completing.{Completes}
+use Rattle.pv_missing.specs.Completions.{Completes}
 use Rattle.pv_read.specs.Grammar.{IsElement, IsWholeRun, SpellsContent, SpellsDocument, SpellsNode, begins_with_text}
 use Rattle.pv_tree.specs.Plain.{Ending, Forest, PlainDoc, Tree, cdata_node, element, is_element, map_marks, map_marks_all, misc_node, no_trees, short, tagged, text_node, tree}
 use Rattle.pv_script.specs.declared.replies.Reply.{Reply}
 use Rattle.pv_missing.specs.Verdicts.{PlainVerdicts}
-use Rattle.pv_session.specs.Keeping.{IsSession}
+use Rattle.pv_session.specs.SessionFacts.{IsSession}
 use Rattle.pv_session.specs.Sessions.{PlainSession, stamped_document}
 use Rattle.pv_tree.specs.declared.nodes.Mark.{Mark}
 use Rattle.pv_write.specs.Text.{doc_text}
-use Rattle.pv_conversation.specs.Missing.{TellsCompletion, TellsNeed, Withholds, is_not_completed, is_withheld}
+use Rattle.pv_conversation.specs.MissingReplies.{TellsCompletion, TellsNeed, Withholds, is_not_completed, is_withheld}
 use Rattle.pv_conversation.proofs.MissingElements.{live_verdicts, needs_as}
 use Rattle.pv_conversation.proofs.Texts.{doc_text-without_marks}
 

@@ -8,10 +8,10 @@ use Rattle.pv_session.specs.Sessions.{PlainSession}
 use Rattle.pv_opening.specs.declared.status.Status.{Status}
 use Rattle.pv_opening.specs.declared.status.Status.TheVariants.{NoMemory}
 use Rattle.pv_conversation.specs.Conversation.{Talked}
-use Rattle.pv_conversation.specs.Counting.{CountsFirst, lines_answered}
+use Rattle.pv_conversation.specs.CountedLines.{CountsFirst, lines_answered}
 use Rattle.pv_opening.specs.Course.{RunEnding, no_memory, without_input}
 use Rattle.pv_opening.specs.Devices.{InputNow, OutputNow}
-use Rattle.pv_opening.specs.Showing.{AskedAtMost, CountsInput, CountsShelf, MadeAtMost, WritesEnding, wrote}
+use Rattle.pv_opening.specs.ShownCourses.{AskedAtMost, CountsInput, CountsShelf, MadeAtMost, WritesEnding, wrote}
 use Rattle.pv_conversation.specs.Session.{EndsSession, ended_over, without_room}
 use Rattle.pv_conversation.proofs.Replies.{appends_none}
 

@@ -1,6 +1,6 @@
 -- What an offer told is kept when it is tried.
 use Rattle.std.proofs.Common.{◌≡◌, ◌∙◌, Contains, IsTrue, List, Some, ap, subst, sym, ℕ}
-use Rattle.pv_edit.specs.Given.{is_new_name}
+use Rattle.pv_edit.specs.GivenNames.{is_new_name}
 use Rattle.pv_edit.specs.declared.answers.EditAnswer.{EditAnswer}
 use Rattle.pv_edit.specs.declared.answers.EditAnswer.TheVariants as refusal
 use Rattle.pv_edit.specs.declared.asks.Ask.{Ask}

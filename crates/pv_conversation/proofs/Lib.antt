@@ -1,7 +1,7 @@
 -- for other crates:
 pub mod Beginnings
 pub mod Completions
-pub mod GoingOn
+pub mod ContinuedScripts
 pub mod Likeness
 pub mod MissingElements
 pub mod OneReplies
@@ -14,10 +14,11 @@ pub mod HeldReplies
 pub mod KeptOffers
 pub mod Limits
 pub mod Moves
+pub mod NoneMissing
 pub mod OneNeed
 pub mod OneOffer
 pub mod OpenedSessions
-pub mod Piecewise
+pub mod ConversationPieces
 pub mod Replies
 pub mod ReplyTexts
 pub mod Scripts

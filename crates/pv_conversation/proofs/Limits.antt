@@ -8,7 +8,7 @@ use Rattle.pv_words.proofs.RawLines.{ended_raw_lines-lines, ended_raw_lines-part
 use Rattle.pv_words.proofs.FirstWords.{Free-append}
 use Rattle.pv_words.specs.Lines.{FEED, ended_raw_lines, lines_of, raw_lines_of, without_returns, HasNoFeed, with_feeds}
 use Rattle.pv_words.specs.Words.{with_feed}
-use Rattle.pv_script.specs.Taking.{MAX_LINE_BYTES}
+use Rattle.pv_script.specs.TakenLines.{MAX_LINE_BYTES}
 use Rattle.pv_conversation.specs.Conversation.{IsScriptLine}
 use Rattle.pv_conversation.specs.Script.{MAX_SCRIPT_BYTES, IsWithin, before_too_long, has_long_line, is_line_too_long, lines_within}
 

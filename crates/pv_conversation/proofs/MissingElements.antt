@@ -8,7 +8,7 @@ use Rattle.pv_cache.specs.Stamps.{doc_as, stamp_of, stamps_of}
 use Rattle.pv_cache.proofs.ListMarks.{all_as, all_narrow_from, all_narrow_to, first_as, first_to, list_as, lists_as, verdicts_from}
 use Rattle.pv_cache.proofs.OtherMarks.{heads_as, word_as}
 use Rattle.pv_reach.proofs.OtherMarks.{view_as}
-use Rattle.pv_complete.specs.Needing.{AreLiveVerdicts, CanNeed, CanWeigh, HasCause, Needs, StopsAtImpossible, StopsAtWide}
+use Rattle.pv_complete.specs.NeededElements.{AreLiveVerdicts, CanNeed, CanWeigh, HasCause, Needs, StopsAtImpossible, StopsAtWide}
 use Rattle.pv_complete.specs.declared.errors.NeedError.{NeedError}
 use Rattle.pv_complete.specs.declared.errors.NeedError.TheVariants.{Impossible, NoMemory, TooHeavy, TooMany, TooWide}
 use Rattle.pv_dtd.specs.Plain.{PlainDtd}
@@ -16,10 +16,10 @@ use Rattle.pv_dtd.specs.Proper.{IsProperDtd}
 use Rattle.pv_missing.proofs.DocLists.{live_locality}
 use Rattle.pv_missing.proofs.VerdictHeads.{verdict_by_heads}
 use Rattle.pv_missing.specs.Widths.{IsFirstTooWide, IsListForVerdict, IsListForWeights}
-use Rattle.pv_missing.specs.Completing.{IsPotentiallyValid}
+use Rattle.pv_missing.specs.Completions.{IsPotentiallyValid}
 use Rattle.pv_fresh.specs.Answers.{IsImpossibleAt}
 use Rattle.pv_missing.specs.Verdicts.{AreVerdicts, HaveVerdicts, IsFirstImpossible, IsLive, PlainVerdicts}
-use Rattle.pv_session.specs.Keeping.{IsSession}
+use Rattle.pv_session.specs.SessionFacts.{IsSession}
 use Rattle.pv_session.specs.Sessions.{PlainSession, stamped_document}
 use Rattle.pv_tree.specs.Lists.{Listed, lists_of}
 use Rattle.pv_tree.specs.Plain.{PlainDoc}

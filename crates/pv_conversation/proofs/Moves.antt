@@ -11,10 +11,10 @@ use Rattle.pv_edit.specs.declared.answers.EditAnswer.{EditAnswer}
 use Rattle.pv_edit.specs.declared.answers.EditAnswer.TheVariants as refusal
 use Rattle.pv_edit.specs.declared.edits.Edit.{Edit}
 use Rattle.pv_edit.specs.declared.edits.Edit.TheVariants.{Wrap, Insert, Unwrap, Rename, Split, Join, SetText, AddText, DelText}
-use Rattle.pv_missing.proofs.NoneImpossible.{none_impossible}
-use Rattle.pv_missing.specs.Completing.{IsPotentiallyValid}
+use Rattle.pv_missing.proofs.NoImpossibleLists.{none_impossible}
+use Rattle.pv_missing.specs.Completions.{IsPotentiallyValid}
 use Rattle.pv_missing.specs.Verdicts.{HaveImpossible, impossible_in}
-use Rattle.pv_session.specs.Keeping.{IsSession}
+use Rattle.pv_session.specs.SessionFacts.{IsSession}
 use Rattle.pv_session.specs.Sessions.{PlainSession, stamped_document}
 use Rattle.pv_session.specs.Steps.{IsEditStep, IsRedoStep, IsUndoStep, accepted, is_done, no_past, none_undone, redone, refusal_of, refused, undone}
 use Rattle.pv_tree.specs.Lists.{lists_of}

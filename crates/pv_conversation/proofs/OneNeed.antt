@@ -2,17 +2,17 @@
 use Rattle.std.proofs.Common.{◌≡◌, ◌≤◌, List, ap, arith, sym, ℕ, ◌∙◌}
 use Rattle.std.proofs.Math.Logic.{∥∥₁_elim, ∥∥₁_map}
 use Rattle.std.specs.Coded.{Coded-set, coded_list, coded_ℕ}
-use Rattle.pv_complete.specs.Completing.{IsLeastCompletion}
-use Rattle.pv_complete.specs.Needing.{CanNeed, CanWeigh, IsHeavy, Needs, StopsAtWide}
+use Rattle.pv_complete.specs.LeastCompletions.{IsLeastCompletion}
+use Rattle.pv_complete.specs.NeededElements.{CanNeed, CanWeigh, IsHeavy, Needs, StopsAtWide}
 use Rattle.pv_fresh.specs.Answers.{IsImpossibleAt}
 use Rattle.pv_missing.specs.Verdicts.{IsLive}
 use Rattle.pv_script.specs.declared.replies.Reply.{Reply}
 use Rattle.pv_script.specs.declared.replies.Reply.TheVariants as reply
 use Rattle.pv_session.specs.Sessions.{PlainSession}
 use Rattle.pv_tree.specs.Lists.{lists_of}
-use Rattle.pv_tree.proofs.Firsts.{one_first}
+use Rattle.pv_tree.proofs.FirstLists.{one_first}
 use Rattle.pv_conversation.specs.Alike.{RepliesAlike, are_completions, are_one}
-use Rattle.pv_conversation.specs.Missing.{TellsCompletion, TellsNeed, Withholds, is_completed, is_heavy, is_impossible, is_needed, is_not_completed, is_wide, is_withheld}
+use Rattle.pv_conversation.specs.MissingReplies.{TellsCompletion, TellsNeed, Withholds, is_completed, is_heavy, is_impossible, is_needed, is_not_completed, is_wide, is_withheld}
 use Rattle.pv_opening.proofs.OnePossibility.{none_first}
 
 module _ (s : PlainSession) where

@@ -17,7 +17,7 @@ use Rattle.pv_conversation.specs.Session.{Converses, EndsSession, IsSessionCours
 use Rattle.pv_conversation.specs.Session.{finished, guarding_stage, input_failed, limited, output_failed, past_line, past_script, quitted}
 use Rattle.pv_conversation.specs.Session.{without_room}
 use Rattle.pv_words.proofs.RawLines.{cut_of}
-use Rattle.pv_conversation.proofs.GoingOn.{lines_and_last}
+use Rattle.pv_conversation.proofs.ContinuedScripts.{lines_and_last}
 use Rattle.pv_conversation.proofs.Likeness.{alike_behind, endings_alike, one_response_alike}
 use Rattle.pv_opening.proofs.OnePossibility.{width_sure}
 use Rattle.pv_opening.proofs.OneOpening.{AreSameOpened, AreSure, IsEqual, RunsAs, followed_sure, one_like, reading_sure, unmarked_same}

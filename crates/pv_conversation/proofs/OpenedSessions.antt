@@ -2,7 +2,7 @@
 use Rattle.std.proofs.Common.{subst, sym, ◌≡◌}
 use Rattle.std.specs.Prelude.{None, Option, Some}
 use Rattle.std.specs.Option.{MatchOption}
-use Rattle.pv_complete.specs.Remembering.{Remembers}
+use Rattle.pv_complete.specs.RememberedGrammar.{Remembers}
 use Rattle.pv_complete.specs.declared.missing.remembering.Remembered.{Remembered}
 use Rattle.pv_edit.specs.declared.edits.Edit.{Edit}
 use Rattle.pv_session.specs.Sessions.{PlainSession}

@@ -12,7 +12,7 @@ use Rattle.pv_session.specs.Sessions.{PlainSession}
 use Rattle.pv_conversation.specs.Laws.{JoinsReplies, EndsAtQuit}
 use Rattle.pv_conversation.specs.Session.{is_among, Place, at_line, at_quit, Replies, no_lines, without_memory, answered, ended}
 use Rattle.pv_conversation.specs.Conversation.{AllBelow, IsReplyText, replied, without_memory as told_nothing}
-use Rattle.pv_conversation.specs.Counting.{CountedSession, CountsLines, was_silent}
+use Rattle.pv_conversation.specs.CountedLines.{CountedSession, CountsLines, was_silent}
 use Rattle.pv_conversation.proofs.LineCounts.{counts_silent, counts_then, number_behind, replied_goes}
 
 joined : (silent : List ℕ) (number next : ℕ) (session middle : PlainSession) (lines more : List (List ℕ)) (out rest : List ℕ) (here place : Place) →

@@ -2,7 +2,7 @@
 use Rattle.std.proofs.Common.{List, [], ap, append_assoc, append-nil, arith, codes, decimal, length, refl, subst, suc, sym, take, ℕ, ◌+◌, ◌++◌, ◌≤◌, ◌∙◌, ◌∷◌, ◌≡◌}
 use Rattle.std.proofs.lemmas.Grind.{common_steps}
 use Rattle.std.proofs.lemmas.List.{length-append}
-use Rattle.pv_cache.specs.Laying.{lists_in, lists_in_all}
+use Rattle.pv_cache.specs.LaidMarks.{lists_in, lists_in_all}
 use Rattle.pv_cache.specs.Rows.{AreRows, row_at, rows_at, rows_from, rows_of}
 use Rattle.pv_cache.specs.Stamps.{stamps_of}
 use Rattle.pv_cache.specs.WellMarked.{IsWellMarked}
@@ -18,7 +18,7 @@ use Rattle.pv_session.specs.Sessions.{PlainSession}
 use Rattle.pv_tree.specs.Plain.{Forest, PlainDoc, Tree, cdata_node, element, misc_node, no_trees, nodes_in, nodes_in_all, text_node, tree}
 use Rattle.pv_tree.specs.declared.nodes.Mark.{Mark}
 use Rattle.pv_conversation.specs.Conversation.{IsReplyText, replied, without_memory}
-use Rattle.pv_conversation.specs.Counting.{counted, counts_nothing}
+use Rattle.pv_conversation.specs.CountedLines.{counted, counts_nothing}
 use Rattle.pv_conversation.specs.Session.{known}
 use Rattle.pv_conversation.specs.VerdictLines.{IsVerdictsText, has_rows, lacks_memory, verdict_line, verdict_lines, verdict_lines_from, verdicts_head, verdicts_text}
 

@@ -8,7 +8,7 @@ use Rattle.pv_io.specs.declared.source.Failed.{Failed}
 use Rattle.pv_script.specs.Commands.{SpellsCommand}
 use Rattle.pv_words.specs.Lines.{FEED, without_returns, HasNoFeed, with_feeds}
 use Rattle.pv_script.specs.Replies.{reply_bytes}
-use Rattle.pv_script.specs.Taking.{HeldLine, MAX_LINE_BYTES}
+use Rattle.pv_script.specs.TakenLines.{HeldLine, MAX_LINE_BYTES}
 use Rattle.pv_script.specs.declared.commands.Command.TheVariants.{Quit}
 use Rattle.pv_script.specs.declared.replies.Reply.{Reply}
 use Rattle.pv_script.specs.declared.replies.Reply.TheVariants.{NoMemory}
@@ -17,8 +17,8 @@ use Rattle.pv_conversation.specs.declared.talk.Next.{Next}
 use Rattle.pv_conversation.specs.declared.talk.Next.TheVariants as next
 use Rattle.pv_conversation.specs.declared.talk.Reading.{Reading}
 use Rattle.pv_opening.specs.declared.status.Status.{Status}
-use Rattle.pv_conversation.specs.Counting.{CountedSession, CountsFirst, CountsOneLine, CountsLines}
-use Rattle.pv_conversation.specs.Counting.{CountsScript, lines_answered}
+use Rattle.pv_conversation.specs.CountedLines.{CountedSession, CountsFirst, CountsOneLine, CountsLines}
+use Rattle.pv_conversation.specs.CountedLines.{CountsScript, lines_answered}
 use Rattle.pv_opening.specs.Course.{RunEnding, output_fault}
 use Rattle.pv_opening.specs.Devices.{InputNow, OutputNow}
 use Rattle.pv_opening.specs.Returns.{GoesThrough}
@@ -114,7 +114,8 @@ ComesNext AreWritten first script current reading next.LineLimit =
 ComesNext AreWritten first script current reading next.ScriptLimit =
     EndedWith first current.checked script false (λ out. limited out (codes "limit script")) AreWritten
 
--- the same, or the output failed, and the replies were written otherwise
+-- how a session goes on after a piece, or ends, its replies written so; or the output failed, and
+-- the replies were written otherwise
 abbrev pub ComesOrFails : (List ℕ → Type 0) → (List ℕ → Type 0) → CountedSession → List ℕ →
     CountedSession → Reading → Result Next Failed → Type 0
 ComesOrFails AreWritten AreCutOff first script current reading (Ok after) =

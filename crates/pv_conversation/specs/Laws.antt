@@ -1,6 +1,6 @@
 -- Laws on what a session does.
 use Rattle.std.specs.Prelude.{◌≡◌, Contains, IsTrue, ℕ, false, List, ◌++◌}
-use Rattle.pv_edit.specs.Given.{is_new_name}
+use Rattle.pv_edit.specs.GivenNames.{is_new_name}
 use Rattle.pv_edit.specs.declared.answers.Done.{Done as WhatWasDone}
 use Rattle.pv_edit.specs.declared.asks.Ask.{Ask}
 use Rattle.pv_offer.specs.Offers.{declared_names, edit_with}

@@ -1,8 +1,8 @@
 pub mod Alike
 pub mod Conversation
-pub mod Counting
+pub mod CountedLines
 pub mod Laws
-pub mod Missing
+pub mod MissingReplies
 pub mod Offers
 pub mod OpenedSessions
 pub mod ReplyBuffer

@@ -1,5 +1,5 @@
 -- What is kept with a session on a document that was opened.
-use Rattle.pv_complete.specs.Remembering.{Remembers}
+use Rattle.pv_complete.specs.RememberedGrammar.{Remembers}
 use Rattle.pv_conversation.specs.declared.opened_session.OpenedSession.TheInside.{Inside}
 use Rattle.pv_tree.specs.Prolog.{IsProlog}
 

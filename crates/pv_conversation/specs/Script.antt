@@ -3,7 +3,7 @@ use Rattle.std.specs.Prelude.{◌≡◌, ◌≤◌, ℕ, suc, Bool, false, nat_l
 use Rattle.std.specs.Prelude.{take, if◌then◌else◌}
 use Rattle.std.specs.List.{list_any}
 use Rattle.pv_words.specs.Lines.{ended_raw_lines, raw_lines_of, without_returns}
-use Rattle.pv_script.specs.Taking.{MAX_LINE_BYTES}
+use Rattle.pv_script.specs.TakenLines.{MAX_LINE_BYTES}
 
 abbrev pub MAX_SCRIPT_BYTES : ℕ
 MAX_SCRIPT_BYTES = 268435456

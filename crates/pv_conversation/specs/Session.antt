@@ -4,7 +4,7 @@ use Rattle.std.specs.Prelude.{◌∷◌, ◌++◌, IfSome, length, codes, decima
 use Rattle.std.specs.List.{list_any}
 use Rattle.pv_dtd.specs.Plain.{PlainDtd}
 use Rattle.pv_tree.specs.Marks.{unmarked_doc}
-use Rattle.pv_missing.specs.Completing.{IsPotentiallyValid}
+use Rattle.pv_missing.specs.Completions.{IsPotentiallyValid}
 use Rattle.pv_tree.specs.Plain.{PlainDoc}
 use Rattle.pv_tree.specs.View.{view}
 use Rattle.pv_tree.specs.declared.nodes.Mark.{Mark}
@@ -26,7 +26,7 @@ use Rattle.pv_session.specs.Steps.{lacks_history, IsEditStep, IsUndoStep, IsRedo
 use Rattle.pv_opening.specs.declared.status.Status.TheVariants.{Done, Limit}
 use Rattle.pv_opening.specs.Course.{Course, RunEnding, responds, input_fault, output_fault}
 use Rattle.pv_opening.specs.Course.{no_memory as short_of_memory, without_input}
-use Rattle.pv_conversation.specs.Missing.{TellsCompletion, TellsNeed}
+use Rattle.pv_conversation.specs.MissingReplies.{TellsCompletion, TellsNeed}
 use Rattle.pv_conversation.specs.Offers.{TellsOffer}
 use Rattle.pv_opening.specs.Documents.{PlainOpened}
 use Rattle.pv_opening.specs.Possibility.{width_stage}

@@ -1,6 +1,6 @@
 -- The reply to `verdicts`, list by list.
 use Rattle.std.specs.Prelude.{◌≡◌, ℕ, suc, List, [], ◌∷◌, ◌++◌, codes, decimal}
-use Rattle.pv_cache.specs.Laying.{lists_in}
+use Rattle.pv_cache.specs.LaidMarks.{lists_in}
 use Rattle.pv_cache.specs.Rows.{AreRows}
 use Rattle.pv_edit.specs.declared.answers.VerdictRow.{VerdictRow}
 use Rattle.pv_script.specs.Replies.{reply_bytes, verdict_word}

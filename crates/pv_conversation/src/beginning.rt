@@ -1,10 +1,10 @@
 //! The beginning of a session.
 
 ghost use Rattle.std.specs.Prelude.{◌≡◌, ◌≤◌, IfErr, IfOk, length};
-ghost use Rattle.pv_cache.specs.Accepting.{MAX_EDITED_NODES};
+ghost use Rattle.pv_cache.specs.AcceptedEdits.{MAX_EDITED_NODES};
 ghost use Rattle.pv_conversation.specs.Session.{guarding_stage};
 ghost use Rattle.pv_dtd.specs.PlainForms.{plain_dtd};
-ghost use Rattle.pv_opening.specs.Judging.{CountsOpening};
+ghost use Rattle.pv_opening.specs.JudgedCounts.{CountsOpening};
 ghost use Rattle.pv_opening.specs.Possibility.{AreVerdictsOf, width_stage};
 ghost use Rattle.pv_opening.specs.Returns.{Returns, StopsBy};
 ghost use Rattle.pv_tree.specs.Lists.{lists_of};

@@ -1,13 +1,13 @@
 //! The replies to `need` and `complete`: how many elements are missing in a session's document, and
 //! the document with them.
 
-ghost use Rattle.std.specs.Prelude.{◌≡◌, IfOk, IfSome, MatchOption, None};
+ghost use Rattle.std.specs.Prelude.{◌≡◌, IfOk, IfSome, IsTrue, MatchOption, None};
 ghost use Rattle.pv_cache.specs.Rows.{TellVerdicts};
-ghost use Rattle.pv_conversation.specs.Missing.{TellsCompletion, TellsNeed, Withholds};
+ghost use Rattle.pv_conversation.specs.MissingReplies.{TellsCompletion, TellsNeed, Withholds};
 ghost use Rattle.pv_conversation.specs.Session.{done_of};
 ghost use Rattle.pv_conversation.specs.Turns.{IsReplyBy};
-ghost use Rattle.pv_complete.specs.Needing.{HasCause};
-ghost use Rattle.pv_complete.specs.Remembering.{Remembers};
+ghost use Rattle.pv_complete.specs.NeededElements.{HasCause, Needs};
+ghost use Rattle.pv_complete.specs.RememberedGrammar.{Remembers};
 ghost use Rattle.pv_session.specs.Sessions.{stamped_document};
 ghost use Rattle.pv_tree.specs.Prolog.{IsProlog};
 
@@ -17,6 +17,7 @@ use pv_chars::NoMemory;
 use pv_complete::{Completion, NeedError, Remembered, complete_by, need_remembering};
 use pv_dtd::laws::proper_dtd_law;
 use pv_missing::Verdicts;
+use pv_missing::laws::verdicts::{none_impossible_law, none_possible_law};
 use pv_script::{Command, Reply};
 use pv_session::Session;
 use pv_session::laws::session_law;
@@ -89,7 +90,26 @@ fn need_reply_by(
     }
 }
 
-/// The least number of missing elements, or why it isn't told, by what is remembered.
+// Whether no list is Possible or Impossible, so that nothing is missing. The session knows how many
+// are, so no list is looked at.
+fn is_whole(session: &Session) -> bool
+    ensures { IsTrue result →
+        ∥ Needs session.now.dtd session.now.root session.now.doc 0 ∥₁ }
+{
+    session_law(session);
+    proper_dtd_law(session.grammar().dtd());
+    none_impossible_law::<u64>();
+    none_possible_law::<u64>();
+    if session.open_count() == 0 {
+        if session.bad_count() == 0 {
+            return true;
+        }
+    }
+    false
+}
+
+/// The least number of missing elements, or why it isn't told, by what is remembered. Where each
+/// list is Valid it is 0 at once.
 pub fn need_reply(
     alloc: Global,
     session: &Session,
@@ -100,6 +120,9 @@ pub fn need_reply(
     ensures not_done { IfOk result (λ told. done_of told ≡ None) }
     ensures remembers { Remembers session.now.dtd remembered.new }
 {
+    if is_whole(session) {
+        return Ok(Reply::Need(0));
+    }
     let verdicts = session.verdicts()?;
     match impossible(alloc, session, &verdicts)? {
         Some(reply) => Ok(reply),

@@ -1,9 +1,10 @@
 //! The reply to `offer`: the names that may be put at a place of a session's document.
 
-ghost use Rattle.std.specs.Prelude.{IfOk};
+ghost use Rattle.std.specs.Prelude.{◌≡◌, IfOk};
 ghost use Rattle.pv_conversation.specs.Turns.{IsReplyBy};
 
 use crate::answers::{Answer, other};
+use crate::opened_session::OpenedSession;
 use pv_chars::NoMemory;
 use pv_edit::Ask;
 use pv_offer::{OfferError, offer as offered};
@@ -13,8 +14,22 @@ use std::alloc::Global;
 use std::thread::Threads;
 
 /// The reply to `offer`, found by as many threads as there are processors. The session stays as it
-/// is, and no list that it judges is counted.
+/// is, but for what it looked up, and no list that it judges is counted.
 pub fn offer(
+    rt: &(impl Threads + Sync),
+    alloc: Global,
+    session: &mut OpenedSession,
+    ask: &Ask,
+) -> Result<Answer, NoMemory>
+    ensures replied { IfOk result (IsReplyBy session.old (Command.Offer ask.now) session.new) }
+    ensures same { session.new ≡ session.old }
+{
+    session.keep_for(ask);
+    offer_by(rt, alloc, session.session(), ask)
+}
+
+// The reply to `offer`.
+fn offer_by(
     rt: &(impl Threads + Sync),
     alloc: Global,
     session: &Session,

@@ -1,7 +1,7 @@
 //! A session on a document that was opened, and what it remembers of weights.
 
 ghost use Rattle.std.specs.Prelude.{◌≡◌, ◌≤◌, ◌+◌, IfOk, MatchOption, None};
-ghost use Rattle.pv_conversation.specs.Missing.{TellsNeed};
+ghost use Rattle.pv_conversation.specs.MissingReplies.{TellsNeed};
 ghost use Rattle.pv_conversation.specs.Session.{done_of};
 ghost use Rattle.pv_session.specs.Answers.{back_answer, edit_answer};
 ghost use Rattle.pv_session.specs.Steps.{IsEditStep, IsRedoStep, IsUndoStep};
@@ -10,7 +10,7 @@ ghost use Rattle.pv_tree.specs.Prolog.{IsProlog};
 use crate::missing::need_reply;
 use pv_chars::NoMemory;
 use pv_complete::Remembered;
-use pv_edit::{Done, Edit, EditAnswer};
+use pv_edit::{Ask, Done, Edit, EditAnswer};
 use pv_script::Reply;
 use pv_session::laws::session_law;
 use pv_session::{BackAnswer, Session};
@@ -61,6 +61,14 @@ impl OpenedSession {
     {
         session_law(&self.session);
         &self.session
+    }
+
+    /// Looks up what the names that an edit is asked of are tried by, so that each is tried in less
+    /// time. No answer depends on it.
+    pub fn keep_for(&mut self, ask: &Ask)
+        ensures { self.new ≡ self.old }
+    {
+        self.session.keep_for(ask)
     }
 
     /// The least number of missing elements, or why it isn't told. Lists that were weighed before

@@ -2,7 +2,7 @@
 
 ghost use Rattle.std.specs.Prelude.{◌≡◌, ◌≤◌, ◌+◌, false, IfOk, MatchOption, OnErr, vec_len};
 ghost use Rattle.pv_cache.specs.Moves.{HasBad};
-ghost use Rattle.pv_conversation.specs.Counting.{CountsOneLine, is_move};
+ghost use Rattle.pv_conversation.specs.CountedLines.{CountsOneLine, is_move};
 ghost use Rattle.pv_conversation.specs.Session.{TellsMove};
 ghost use Rattle.pv_conversation.specs.Turns.{IsAnswerOf, IsFollowed, IsReplyBy, IsTurn};
 ghost use Rattle.pv_session.specs.Sessions.{stamped_document};
@@ -150,7 +150,7 @@ fn follow<L: Ledger>(
         Command::Verdicts => Ok(Some(verdicts(alloc, session.session())?)),
         Command::Need => Ok(Some(need(alloc, session)?)),
         Command::Complete => Ok(Some(complete(alloc, session)?)),
-        Command::Offer(ask) => Ok(Some(offer(rt, alloc, session.session(), ask)?)),
+        Command::Offer(ask) => Ok(Some(offer(rt, alloc, session, ask)?)),
         Command::Quit => Ok(None),
     }
 }

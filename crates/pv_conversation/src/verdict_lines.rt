@@ -3,7 +3,7 @@
 
 ghost use Rattle.std.specs.Prelude.{◌≡◌, ◌≤◌, ◌+◌, ◌*◌, ◌++◌, List, [], ℕ, OnErr, OnOk};
 ghost use Rattle.std.specs.Prelude.{codes, length, true};
-ghost use Rattle.pv_cache.specs.Laying.{lists_in, lists_in_all};
+ghost use Rattle.pv_cache.specs.LaidMarks.{lists_in, lists_in_all};
 ghost use Rattle.pv_conversation.specs.ReplyBuffer.{HoldsReplies};
 ghost use Rattle.pv_conversation.specs.VerdictLines.{IsVerdictsText, mark_text, verdict_line};
 ghost use Rattle.pv_conversation.specs.VerdictLines.{verdict_lines, verdict_lines_from};

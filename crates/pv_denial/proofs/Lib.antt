@@ -1,6 +1,6 @@
 -- for other crates:
 pub mod ListJudgements
-pub mod NotLive
+pub mod DeniedLists
 pub mod Lists
 pub mod PartSites
 pub mod SiteRows
@@ -8,7 +8,7 @@ pub mod SiteRows
 pub mod Contents
 pub mod RowRules
 pub mod RowIndex
-pub mod Most
+pub mod MostOfNames
 pub mod OneJudgement
 pub mod RisingValues
 pub mod SiteKinds

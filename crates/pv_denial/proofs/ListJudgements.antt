@@ -2,7 +2,7 @@
 use Rattle.std.specs.Prelude.{Bool, IfSome, IsTrue, MatchOption, option_map}
 use Rattle.std.proofs.lemmas.List.{length-map}
 use Rattle.std.proofs.lemmas.Option.{slice_get_within}
-use Rattle.std.proofs.Common.{List, None, Option, Some, [], ap, inl, inr, length, map, refl, subst, suc, sym, zero, ℕ, ◌∙◌, ◌≡◌, ◌≢◌, ◌<◌, ◌↔◌, ◌∷◌}
+use Rattle.std.proofs.Common.{List, None, Option, Some, [], ap, inl, length, map, refl, subst, suc, sym, zero, ℕ, ◌∙◌, ◌≡◌, ◌≢◌, ◌<◌, ◌↔◌, ◌∷◌}
 use Rattle.pv_model.specs.Plain.{PlainToken, empty}
 use Rattle.pv_model.specs.PlainForms.{plain_token}
 use Rattle.pv_model.specs.declared.models.NameId.{NameId}
@@ -17,11 +17,11 @@ use Rattle.pv_tree.specs.PlainForms.{forest}
 use Rattle.pv_tree.specs.declared.nodes.Node.{Node}
 use Rattle.pv_tree.specs.Words.{word_of}
 use Rattle.pv_missing.specs.LiveWords.{IsLiveWord, live_name, live_none, live_other, live_text, live_unproductive}
-use Rattle.pv_missing.specs.Weighing.{site_of}
+use Rattle.pv_missing.specs.ListWeights.{site_of}
 use Rattle.pv_missing.specs.WordLaws.{LiveFollows, OneLiveWord}
 use Rattle.pv_missing.specs.Widths.{FitsVerdict, IsListForVerdict}
 use Rattle.pv_denial.specs.Causes.{HasKidsInEmpty, HoldsOfList, owner_name}
-use Rattle.pv_denial.specs.Judging.{IsReached, IsRightCause, IsRightTable, JudgesAt, JudgesRows}
+use Rattle.pv_denial.specs.Judgements.{IsReached, IsRightCause, IsRightTable, JudgesAt, JudgesRows}
 use Rattle.pv_denial.specs.Rows.{AreBarrierRows, row_value}
 use Rattle.pv_denial.specs.declared.denials.Cause.{Cause}
 use Rattle.pv_denial.specs.declared.denials.Cause.TheVariants as cause
@@ -91,13 +91,6 @@ module _ {M : Type 0} (g : PlainDtd) (root : List ℕ) (d : Denial) (list : List
       rows_judged (judged.Rejected flaw.Table) not = ((λ _. fits), right, (λ t. not (t by_word live is)))
       rows_judged (judged.Rejected flaw.Reached) (are, e) =
           ((λ _. fits), right, table are, record { by_word = by_word; site = s; is_site = site; is_value = e ∙ ap (λ v. Some v) same_length })
-
-  module _ (other : d.cause ≢ cause.Word) where
-    pub cause_denied : HoldsOfList g root list d.cause → d.rows ≡ [] → JudgesAt g root d list judged.Denied
-    cause_denied h e = ((λ z. absurd (other z)), record { holds = h; rows = inr e }, (λ z. absurd (other z)), (λ (r : IsReached g root d list). other r.by_word))
-
-    pub cause_rejected : (HoldsOfList g root list d.cause → d.rows ≡ [] → ⊥) → JudgesAt g root d list (judged.Rejected flaw.Cause)
-    cause_rejected not = ((λ z. absurd (other z)), (λ (r : IsRightCause g root d list). elim r.rows [ inl z ↦ other z | inr e ↦ not r.holds e ]))
 
 -- the live word of a list has its length
 pub live_fits : (g d : PlainDtd) (w : List PlainToken) (live : List Token) → LiveFollows → d ≡ g → IsLiveWord g w (map plain_token live) → FitsVerdict d (length live) ↔ FitsVerdict g (length w)

@@ -2,7 +2,7 @@
 use Rattle.std.proofs.Common.{List, Some, [], arith, inl, inr, length, refl, slice_get, subst, suc, sym, zero, ℕ, ◌++◌, ◌<◌, ◌∷◌, ◌≡◌, ◌≤◌, ◌⊎◌}
 use Rattle.std.proofs.lemmas.Bool.{cases_lt}
 use Rattle.std.specs.List.{AllByRecursion, Contains}
-use Rattle.pv_tree.proofs.Every.{contains_cases}
+use Rattle.pv_tree.proofs.JoinedLists.{contains_cases}
 
 pub lt_or_eq : (k n : ℕ) → k < suc n → (k < n) ⊎ (k ≡ n)
 lt_or_eq k n lt = case (cases_lt k n)

@@ -3,7 +3,7 @@ use Rattle.std.proofs.Common.{List, ap, inl, inr, refl, subst, sym, ℕ, ◌∙�
 use Rattle.pv_dtd.specs.Plain.{PlainDtd}
 use Rattle.pv_tree.specs.Lists.{Listed}
 use Rattle.pv_tables.specs.TableLaws.{OneListAtPath}
-use Rattle.pv_denial.specs.Judging.{FailsAt, IsAbout, IsDenialJudged, IsTooWideFor, JudgesAt}
+use Rattle.pv_denial.specs.Judgements.{FailsAt, IsAbout, IsDenialJudged, IsTooWideFor, JudgesAt}
 use Rattle.pv_denial.specs.Laws.{OneJudged}
 use Rattle.pv_missing.specs.Widths.{IsListForVerdict}
 use Rattle.pv_denial.specs.declared.denials.Cause.TheVariants as cause

@@ -14,14 +14,6 @@ pub record RiseTo (values : List ℕ) (n place last : ℕ) : Type 0 where
   pub most : (i v : ℕ) → i < place → slice_get values i ≡ Some v → v ≤ last
   pub is_last : (last ≡ 0) ⊎ ((j : ℕ) × (j < place) × (slice_get values j ≡ Some last))
 
-pub rise_none : (values : List ℕ) (n : ℕ) → RiseTo values n 0 0
-rise_none values n = record {
-  bounded = λ i v lt e. absurd (omega arith);
-  rising = λ i j u v le lt a b. absurd (omega arith);
-  most = λ i v lt e. absurd (omega arith);
-  is_last = inl (omega arith);
-}
-
 module _ (values : List ℕ) (n place last : ℕ) (is : RiseTo values n place last) where
   pub rise_more : (value next : ℕ) → slice_get values place ≡ Some value → next ≡ suc place → place ≤ value → value ≤ n → last ≤ value → RiseTo values n next value
   rise_more value next here z low high least = record {
@@ -52,13 +44,3 @@ module _ (values : List ℕ) (n place last : ℕ) (is : RiseTo values n place la
     bounded = λ i v e. is.bounded i v (let a = slice_get_within values i v e in omega arith) e;
     rising = λ i j u v less a b. is.rising i j u v less (let x = slice_get_within values j v b in omega arith) a b;
   }
-
-  pub rise_not : (value : ℕ) → slice_get values place ≡ Some value → ((place ≤ value) × (value ≤ n) × (last ≤ value) → ⊥) → AreRisingValues values n → ⊥
-  rise_not value here not all = not (b.0, b.1, least is.is_last)
-    where
-      b : (place ≤ value) × (value ≤ n)
-      b = all.bounded place value here
-
-      least : (last ≡ 0) ⊎ ((j : ℕ) × (j < place) × (slice_get values j ≡ Some last)) → last ≤ value
-      least (inl e) = omega arith
-      least (inr (j, lt, e)) = all.rising j place last value (omega arith) e here

@@ -23,14 +23,6 @@ pub record AreTaken (g : PlainDtd) (tokens : ℕ) (rows : List Row) (n : ℕ) (i
   pub index : IsIndex rows n ix
   pub room : HasPlaceForEach g ix
 
-pub taken_none : (g : PlainDtd) (tokens : ℕ) (rows : List Row) (ix : Index) → ((s : PlainSite) → slot ix s ≡ 0) → HasPlaceForEach g ix → AreTaken g tokens rows 0 ix
-taken_none g tokens rows ix none room = record {
-  each = λ k r lt h. absurd (omega arith);
-  once = λ j k q r less lt a b. absurd (omega arith);
-  index = λ s. let P : ℕ → Type 0 = λ v. IsSlot rows 0 s v in subst P (sym (none s)) (λ k r lt h. absurd (omega arith));
-  room = room;
-}
-
 same_row : (rows : List Row) (k : ℕ) (q r : Row) → slice_get rows k ≡ Some q → slice_get rows k ≡ Some r → q ≡ r
 same_row rows k q r a b = cc
 

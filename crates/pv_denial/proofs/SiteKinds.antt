@@ -7,7 +7,7 @@ use Rattle.pv_rules.specs.Kinds.{OfContent, OfName, OfPart, OfRest, OfSite}
 use Rattle.pv_rules.specs.Numbering.{IsMemberAt, first_part, part_at, rest_at}
 use Rattle.pv_rules.specs.Rules.{Goal, over}
 use Rattle.pv_rules.specs.Sites.{PlainSite, content_site, name_site, part_site, rest_site}
-use Rattle.pv_rules.proofs.ByKind.{by_kind, from_kind}
+use Rattle.pv_rules.proofs.RulesByKind.{by_kind, from_kind}
 use Rattle.pv_denial.specs.RowForms.{HoldsAt, HoldsKept, HoldsNoSide, HoldsOneSide, HoldsOverTexts, HoldsTwoSides}
 use Rattle.pv_denial.specs.Rows.{EachRow, IsRow, row_value}
 use Rattle.pv_denial.specs.declared.denials.Row.{Row}

@@ -9,7 +9,7 @@ use Rattle.pv_rules.specs.Kinds.{OfContent, OfName, OfPart, OfRest}
 use Rattle.pv_rules.specs.Numbering.{part_at, rest_at}
 use Rattle.pv_rules.specs.Rules.{Goal, IsKnownWord, over}
 use Rattle.pv_rules.specs.Sites.{HasSite, PlainSite, content_site, name_site, part_site, rest_site}
-use Rattle.pv_rules.proofs.ByKind.{by_kind}
+use Rattle.pv_rules.proofs.RulesByKind.{by_kind}
 use Rattle.pv_rules.proofs.Facts.{parts_by_number}
 use Rattle.pv_rules.proofs.Members.{some_part}
 use Rattle.pv_denial.specs.RowForms.{HoldsAt}

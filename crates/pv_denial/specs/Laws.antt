@@ -5,10 +5,10 @@ use Rattle.pv_dtd.specs.Proper.{IsProperDtd}
 use Rattle.pv_tree.specs.Lists.{Listed}
 use Rattle.pv_tree.specs.Plain.{PlainDoc}
 use Rattle.pv_tree.specs.View.{view}
-use Rattle.pv_missing.specs.Completing.{IsPotentiallyValid}
+use Rattle.pv_missing.specs.Completions.{IsPotentiallyValid}
 use Rattle.pv_missing.specs.Proper.{IsProperDoc}
 use Rattle.pv_missing.specs.Verdicts.{IsLive}
-use Rattle.pv_denial.specs.Judging.{IsDenialJudged, IsTooWideFor, JudgesAt}
+use Rattle.pv_denial.specs.Judgements.{IsDenialJudged, IsTooWideFor, JudgesAt}
 use Rattle.pv_denial.specs.declared.denials.Denial.{Denial}
 use Rattle.pv_denial.specs.declared.denials.Judged.{Judged}
 use Rattle.pv_denial.specs.declared.denials.Judged.TheVariants as judged

@@ -1,6 +1,6 @@
 pub mod Causes
 pub mod Rows
-pub mod Judging
+pub mod Judgements
 pub mod Laws
 pub mod Places
 pub mod Indexes

@@ -56,7 +56,8 @@ pub record IsMost (g : PlainDtd) (rows : List Row) (i m : ℕ) : Type 0 where
   pub all : (y : ℕ) → IsDeclared g y → past_at rows (name_site y) i ≤ m
   pub attained : (m ≡ 0) ⊎ ((y : ℕ) × IsDeclared g y × (past_at rows (name_site y) i ≡ m))
 
--- the same at each place of a word of n tokens
+-- At each place of a word of n tokens, one past the greatest value of the declared names, or 0
+-- where none has any.
 pub record AreMost (g : PlainDtd) (rows : List Row) (n : ℕ) (ms : List ℕ) : Type 0 where
   pub long : length ms ≡ suc n
   pub each : (i m : ℕ) → slice_get ms i ≡ Some m → IsMost g rows i m

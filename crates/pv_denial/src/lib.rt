@@ -2,7 +2,7 @@
 //!
 //! A denial names a list, the cause why it is impossible (`specs/Causes.antt`) and, where the cause
 //! is its word, rows of places (`specs/Rows.antt`): for sites of the missing grammar, the furthest
-//! places that derivations lead to. `judge` tests a denial (`specs/Judging.antt`): the list is
+//! places that derivations lead to. `judge` tests a denial (`specs/Judgements.antt`): the list is
 //! there, the cause holds, the rows are a barrier that no derivation leads beyond, and the word
 //! isn't reached. What passes all tests is impossible, whoever made it, as `laws` says: that rests
 //! on definitions and laws alone. The crate stands on nothing that finds verdicts or furthest

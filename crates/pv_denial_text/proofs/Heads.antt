@@ -9,16 +9,16 @@ use Rattle.pv_words.proofs.Cuts.{one-line-of}
 use Rattle.pv_denial.specs.declared.denials.Cause.{Cause}
 use Rattle.pv_denial.specs.declared.denials.Denial.{Denial}
 use Rattle.pv_denial.specs.declared.denials.Row.{Row}
-use Rattle.pv_denial_text.specs.Fronts.{Begins, BeginsNone, BeginsNot}
+use Rattle.pv_denial_text.specs.Fronts.{Begins, BeginsNone}
 use Rattle.pv_denial_text.specs.Lines.{cause_line, cause_word, end_line, list_line, row_line, version_line}
 use Rattle.pv_denial_text.specs.Meaning.{Answers, DenialMeans, HasTooMany, IsFaulty, MAX_DENIAL_BYTES, Outcome, Refuses, Stand, is_denial, is_fault, is_past_limit}
-use Rattle.pv_denial_text.specs.Steps.{EndsWithRows, HasTooManyBehind, IsFaultyBehind, RefusesHead, RefusesRows, head_lines}
+use Rattle.pv_denial_text.specs.Steps.{EndsWithRows, HasTooManyBehind, IsFaultyBehind, RefusesRows, head_lines}
 use Rattle.pv_denial_text.specs.Texts.{lines_text}
 use Rattle.pv_denial_text.specs.declared.errors.TableError.{TableError}
 use Rattle.pv_denial_text.specs.declared.errors.TableError.TheVariants.{Limit, NoMemory, Syntax}
 use Rattle.pv_denial_text.proofs.OneLine.{cause-free}
 use Rattle.pv_denial_text.proofs.OneMeaning.{one-meaning}
-use Rattle.pv_denial_text.proofs.Stands.{no-cause, no-list, no-version, stand-append, stand-more, stand-none, stand-one}
+use Rattle.pv_denial_text.proofs.LineSequences.{no-cause, no-list, stand-append, stand-more, stand-one}
 
 -- the line of a path
 list-front : (bytes path rest : List ℕ) → Begins bytes (list_line path) rest → IsLineOf (codes "list ") bytes (path_text path) rest
@@ -43,15 +43,9 @@ begins-list bytes word after path line is =
 cause-front : (bytes : List ℕ) (c : Cause) (rest : List ℕ) → Begins bytes (cause_line c) rest → IsLineOf (codes "cause ") bytes (cause_word c) rest
 cause-front bytes c rest begins = record { no_feed = cause-free c; whole = begins.whole }
 
-pub no-cause-line : (bytes : List ℕ) → ((args rest : List ℕ) → IsLineOf (codes "cause ") bytes args rest → ⊥) → BeginsNone cause_line bytes
-no-cause-line bytes none c rest begins = none (cause_word c) rest (cause-front bytes c rest begins)
-
 pub other-cause : (bytes word after : List ℕ) → IsLineOf (codes "cause ") bytes word after → ((c : Cause) → word ≡ cause_word c → ⊥) → BeginsNone cause_line bytes
 other-cause bytes word after line none c rest begins =
     none c (one-line-of (codes "cause ") bytes word after (cause_word c) rest refl line (cause-front bytes c rest begins)).fronts
-
-pub begins-cause : (bytes word after : List ℕ) (c : Cause) → IsLineOf (codes "cause ") bytes word after → word ≡ cause_word c → Begins bytes (cause_line c) after
-begins-cause bytes word after c line is = record { in_range = tt; whole = line.whole ∙ ap (λ l. with_feed (codes "cause " ++ l) ++ after) is }
 
 -- the lines of the head, one by one
 version-stands : (bytes rest : List ℕ) → Begins bytes version_line rest → Stand None bytes (version_line ∷ []) rest
@@ -65,17 +59,6 @@ pub head-stands : (bytes rest path more : List ℕ) (c : Cause) (after : List �
     Begins more (cause_line c) after → Stand None bytes (head_lines path c) after
 head-stands bytes rest path more c after b l k =
     stand-more None bytes (version_line ∷ list_line path ∷ []) more (cause_line c) after (list-stands bytes rest path more b l) record { may_follow = tt; begins = k }
-
-pub fault-at-version : (bytes : List ℕ) → BeginsNot version_line bytes → IsFaulty bytes 0
-fault-at-version bytes none = record {
-  lines = [];
-  rest = bytes;
-  stand = stand-none None bytes;
-  number = refl;
-  within = omega arith;
-  none = no-version bytes none;
-  cut = λ w. let e = w.0 in cc;
-}
 
 pub fault-at-list : (bytes rest : List ℕ) → Begins bytes version_line rest → BeginsNone list_line rest → IsFaulty bytes 1
 fault-at-list bytes rest b none = record {
@@ -137,11 +120,6 @@ pub rows-refused : (bytes path : List ℕ) (c : Cause) (rest : List ℕ) (error 
 rows-refused bytes path c rest (Syntax k) few s r = (few, fault-behind bytes path c rest k s (r c))
 rows-refused bytes path c rest Limit few s r = inr (few, too-many-behind bytes path c rest s (r c))
 rows-refused bytes path c rest NoMemory few s r = tt
-
-pub head-refused : (bytes : List ℕ) (error : TableError) → length bytes ≤ MAX_DENIAL_BYTES → RefusesHead bytes error → Refuses bytes error
-head-refused bytes (Syntax k) few r = (few, r)
-head-refused bytes Limit few r = absurd r
-head-refused bytes NoMemory few r = tt
 
 -- one meaning, so the answer is it
 answers-ok : (bytes : List ℕ) (d : Denial) → DenialMeans bytes (is_denial d) → (o : Outcome) → DenialMeans bytes o → Answers o (Ok d)

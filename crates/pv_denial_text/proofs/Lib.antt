@@ -1,7 +1,7 @@
 -- of this crate:
 pub mod ValueWords
 pub mod RowWords
-pub mod Stands
+pub mod LineSequences
 pub mod RowLines
 pub mod OneLine
 pub mod OneMeaning

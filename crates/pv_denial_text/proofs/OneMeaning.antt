@@ -9,7 +9,7 @@ use Rattle.pv_denial_text.specs.Lines.{DenialLine, cause_line, end_line, line_te
 use Rattle.pv_denial_text.specs.Meaning.{HasTooMany, IsFaulty, Stand, StandsNone, is_denial, is_fault, is_past_limit, values_among}
 use Rattle.pv_denial_text.specs.Texts.{IsDenialText, last_line, lines_of_denial, lines_text}
 use Rattle.pv_denial_text.proofs.OneLine.{same-line}
-use Rattle.pv_denial_text.proofs.Stands.{last-append, values-append, values-of}
+use Rattle.pv_denial_text.proofs.LineSequences.{last-append, values-append, values-of}
 
 -- some lines are others, with more after them
 record Continues (xs ys : List DenialLine) : Type 0 where

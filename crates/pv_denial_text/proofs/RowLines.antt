@@ -5,22 +5,13 @@ use Rattle.pv_rules.specs.declared.sites.Site.{Site}
 use Rattle.pv_denial.specs.Rows.{most_values, values_in}
 use Rattle.pv_denial.specs.declared.denials.Cause.{Cause}
 use Rattle.pv_denial.specs.declared.denials.Row.{Row}
-use Rattle.pv_denial_text.specs.Fronts.{Begins, BeginsNone, BeginsNot}
+use Rattle.pv_denial_text.specs.Fronts.{Begins, BeginsNot}
 use Rattle.pv_denial_text.specs.Lines.{DenialLine, version_line, list_line, cause_line, row_line, end_line}
 use Rattle.pv_denial_text.specs.Meaning.{Stand, StandsNone}
 use Rattle.pv_denial_text.specs.Steps.{EndsWithRows, Follows, HasTooManyBehind, IsFaultyBehind, IsRowPlace, StandsNoRow, StandsNoRowBehind, StandsRow}
 use Rattle.pv_denial_text.specs.Texts.{MayFollow, last_line}
 use Rattle.pv_denial_text.proofs.RowWords.{same-row}
-use Rattle.pv_denial_text.proofs.Stands.{last-append, stand-more, stand-none, values-append, values-of}
-
--- a row may stand after the line before it
-pub may-follow : (before : Option DenialLine) (last : Option Site) (r : Row) → IsRowPlace before last → Follows last r.site → MayFollow before (row_line r)
-may-follow None last r p f = absurd p
-may-follow (Some version_line) last r p f = absurd p
-may-follow (Some (list_line path)) last r p f = absurd p
-may-follow (Some (cause_line c)) last r p f = tt
-may-follow (Some (row_line q)) last r p f = let P : Option Site → Type 0 = λ v. Follows v r.site in subst P p f
-may-follow (Some end_line) last r p f = absurd p
+use Rattle.pv_denial_text.proofs.LineSequences.{last-append, stand-more, values-append, values-of}
 
 pub follows-back : (before : Option DenialLine) (last : Option Site) (r : Row) → IsRowPlace before last → MayFollow before (row_line r) → Follows last r.site
 follows-back None last r p m = absurd p
@@ -29,12 +20,6 @@ follows-back (Some (list_line path)) last r p m = absurd p
 follows-back (Some (cause_line c)) last r p m = let P : Option Site → Type 0 = λ v. Follows v r.site in subst P (sym p) tt
 follows-back (Some (row_line q)) last r p m = let P : Option Site → Type 0 = λ v. Follows v r.site in subst P (sym p) m
 follows-back (Some end_line) last r p m = absurd p
-
-pub row-stands : (last : Option Site) (bytes : List ℕ) (r : Row) (rest : List ℕ) → Begins bytes (row_line r) rest → Follows last r.site → StandsRow last bytes r rest
-row-stands last bytes r rest b f = λ before place. record { may_follow = may-follow before last r place f; begins = b }
-
-pub no-row-stands : (last : Option Site) (bytes : List ℕ) → BeginsNone row_line bytes → StandsNoRowBehind last bytes
-no-row-stands last bytes none = λ before place r rest s. none r rest s.begins
 
 -- the row at the front doesn't ascend
 pub none-follows : (last : Option Site) (bytes : List ℕ) (next : Row) (rest : List ℕ) → Begins bytes (row_line next) rest → (Follows last next.site → ⊥) → StandsNoRowBehind last bytes
@@ -74,9 +59,6 @@ no-line (Some (row_line b)) last rest p r e end_line more s = e more s.begins
 pub record RowsRead (bytes : List ℕ) (rows : List Row) (last : Option Site) (rest : List ℕ) : Type 0 where
   pub stand : (c : Cause) → Stand (Some (cause_line c)) bytes (map row_line rows) rest
   pub place : (c : Cause) → IsRowPlace (last_line (Some (cause_line c)) (map row_line rows)) last
-
-pub no-rows-read : (bytes : List ℕ) → RowsRead bytes [] None bytes
-no-rows-read bytes = record { stand = λ c. stand-none (Some (cause_line c)) bytes; place = λ c. refl }
 
 more-stand : (bytes : List ℕ) (rows : List Row) (last : Option Site) (rest : List ℕ) (r : Row) (more : List ℕ) → RowsRead bytes rows last rest → StandsRow last rest r more →
     (c : Cause) → Stand (Some (cause_line c)) bytes (map row_line rows ++ row_line r ∷ []) more

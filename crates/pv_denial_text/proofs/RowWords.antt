@@ -1,21 +1,21 @@
 -- The words of a row are read as they are written.
 use Rattle.std.proofs.Common.{◌≡◌, ◌≢◌, ℕ, List, [], ◌∷◌, ◌++◌, map, refl, sym, ap, ◌∙◌, arith, decimal, subst}
-use Rattle.pv_chars.specs.Fronts.{ContainsBytes, EndsAt}
+use Rattle.pv_chars.specs.Fronts.{EndsAt}
 use Rattle.pv_rules.specs.PlainForms.{plain_site}
 use Rattle.pv_rules.specs.Sites.{PlainSite, content_site, name_site, part_site, rest_site}
 use Rattle.pv_rules.specs.declared.sites.Site.{Site}
-use Rattle.pv_words.specs.Words.{with_feed, words}
+use Rattle.pv_words.specs.Words.{words}
 use Rattle.pv_words.proofs.NumberWords.{decimal-free}
 use Rattle.pv_words.proofs.FirstWords.{Free, Free-append}
 use Rattle.pv_tables.specs.Tables.{site_number}
 use Rattle.pv_cert.specs.Fronts.{IsKind}
 use Rattle.pv_words.specs.Numbers.{IsNumberBefore}
 use Rattle.pv_cert.specs.Lines.{kind_word}
-use Rattle.pv_words.proofs.Cuts.{cut-once, ends-once, feed-behind, holds-none, one-number-before}
+use Rattle.pv_words.proofs.Cuts.{cut-once, ends-once, feed-behind, one-number-before}
 use Rattle.pv_cert.proofs.OneLine.{same-site}
 use Rattle.pv_cert.proofs.EntryWords.{letter-by}
 use Rattle.pv_denial.specs.declared.denials.Row.{Row}
-use Rattle.pv_denial_text.specs.Fronts.{AreValueWords, Begins, BeginsNone, IsRowText, IsSiteBehind}
+use Rattle.pv_denial_text.specs.Fronts.{AreValueWords, BeginsNone, IsRowText, IsSiteBehind}
 use Rattle.pv_denial_text.specs.Lines.{IsRowInRange, line_text, row_line, row_words}
 use Rattle.pv_denial_text.proofs.ValueWords.{one-values, values-free}
 
@@ -45,14 +45,6 @@ parts-of letter behind s rest b =
     let same : l.letter ≡ letter = cc (sym l.whole) in
     let more : behind ≡ behind_kind s rest = cc (l.whole) in
     record { is_kind = l.is_kind ∙ ap (λ b. b ∷ []) same; number = record { within = b.number; whole = more } }
-
-pub site-behind : (line : List ℕ) (letter : ℕ) (behind : List ℕ) (n : ℕ) (rest : List ℕ)
-    (s : Site) → line ≡ letter ∷ 32 ∷ behind → IsNumberBefore behind n rest → IsKind letter s →
-    site_number (plain_site s) ≡ n → IsSiteBehind line s rest
-site-behind line letter behind n rest s is b kind number = record {
-  number = omega (arith, number, b.within);
-  whole = is ∙ ap (λ l. letter ∷ 32 ∷ l) (b.whole ∙ ap (λ k. decimal k ++ (32 ∷ rest)) (sym number)) ∙ ap (λ k. k ++ (32 ∷ behind_kind s rest)) (sym kind);
-}
 
 pub no-letter : (line : List ℕ) → ((letter : ℕ) (rest : List ℕ) → line ≢ letter ∷ 32 ∷ rest) → (s : Site) (rest : List ℕ) → IsSiteBehind line s rest → ⊥
 no-letter line none s rest b = let l = has-letter line s rest b in none l.letter _ l.whole
@@ -107,16 +99,6 @@ row-site line r t = record { number = t.in_range.number; whole = t.whole ∙ wor
 row-values : (r : Row) → IsRowInRange r → AreValueWords (words (map decimal r.values)) r.values
 row-values r i = record { some = i.some; in_range = i.values; whole = refl }
 
-pub row-text : (line : List ℕ) (r : Row) (rest : List ℕ) → IsSiteBehind line r.site rest → AreValueWords rest r.values → IsRowText line r
-row-text line r rest b a = record {
-  in_range = record { number = b.number; some = a.some; values = a.in_range };
-  whole = b.whole ∙ ap (λ l. kind_word (plain_site r.site) ++ (32 ∷ (decimal (site_number (plain_site r.site)) ++ (32 ∷ l)))) a.whole
-      ∙ sym (words-behind (kind_word (plain_site r.site)) (site_number (plain_site r.site)) r.values a.some);
-}
-
-pub no-row-site : (line : List ℕ) → ((s : Site) (rest : List ℕ) → IsSiteBehind line s rest → ⊥) → (r : Row) → IsRowText line r → ⊥
-no-row-site line none r t = none r.site _ (row-site line r t)
-
 pub no-row-values : (line : List ℕ) (s : Site) (rest : List ℕ) → IsSiteBehind line s rest → ((values : List ℕ) → AreValueWords rest values → ⊥) → (r : Row) → IsRowText line r → ⊥
 no-row-values line s rest b none r t =
     let same = one-site line r.site s (words (map decimal r.values)) rest (row-site line r t) b in
@@ -147,16 +129,10 @@ row-free r i =
       Free-append 10 (decimal n) (32 ∷ words (map decimal r.values)) (decimal-free 10 n (omega arith) i.number) (λ same. absurd (omega arith), values-free 10 r.values (omega arith) i.values),
     ))
 
-pub no-row : (bytes : List ℕ) → (ContainsBytes bytes (10 ∷ []) → ⊥) → BeginsNone row_line bytes
-no-row bytes none r rest b = holds-none 10 bytes (words (row_words r)) rest none (b.whole ∙ feed-behind (words (row_words r)) rest)
-
 pub other-row : (bytes line after : List ℕ) → EndsAt (10 ∷ []) bytes line after → ((r : Row) → IsRowText line r → ⊥) → BeginsNone row_line bytes
 other-row bytes line after at none r rest b =
     let same = ends-once 10 bytes line after (words (row_words r)) rest at (row-free r b.in_range) (b.whole ∙ feed-behind (words (row_words r)) rest) in
     none r record { in_range = b.in_range; whole = same.fronts }
-
-pub begins-row : (bytes line after : List ℕ) (r : Row) → EndsAt (10 ∷ []) bytes line after → IsRowText line r → Begins bytes (row_line r) after
-begins-row bytes line after r at t = record { in_range = t.in_range; whole = at.whole ∙ sym (feed-behind line after) ∙ ap (λ l. with_feed l ++ after) t.whole }
 
 -- one row, and what stands after it
 pub record SameRow (r q : Row) (x y : List ℕ) : Type 0 where

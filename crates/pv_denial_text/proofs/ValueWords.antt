@@ -1,6 +1,6 @@
 -- The values of a row, read one by one.
-use Rattle.std.proofs.Common.{◌≡◌, ◌<◌, ◌≤◌, ℕ, List, [], ◌∷◌, ◌++◌, map, refl, sym, ap, ◌∙◌, append_assoc, arith, decimal, subst, None}
-use Rattle.pv_words.specs.Numbers.{AreNumbers, MAX_NUMBER, number_spelled, IsNumberBefore}
+use Rattle.std.proofs.Common.{◌≡◌, ◌<◌, ℕ, List, [], ◌∷◌, ◌++◌, map, refl, sym, ap, ◌∙◌, append_assoc, arith, decimal, subst, None}
+use Rattle.pv_words.specs.Numbers.{AreNumbers, number_spelled, IsNumberBefore}
 use Rattle.pv_words.specs.Words.{words}
 use Rattle.pv_words.proofs.NumberWords.{decimal-free, number_spelled-decimal}
 use Rattle.pv_words.proofs.FirstWords.{Free, Free-append}
@@ -13,10 +13,6 @@ not-among d [] [] x f is = cc
 not-among d [] (y ∷ ys) x f is = cc
 not-among d (z ∷ zs) [] x f is = let same : z ≡ d = cc in f.0 same
 not-among d (z ∷ zs) (y ∷ ys) x f is = let less : zs ≡ ys ++ (d ∷ x) = cc in not-among d zs ys x f.1 less
-
--- one value alone
-pub last-value : (rest : List ℕ) (v : ℕ) → v ≤ MAX_NUMBER → rest ≡ decimal v → AreValueWords rest (v ∷ [])
-last-value rest v small is = record { some = λ e. cc; in_range = (small, tt); whole = is }
 
 -- a value before others
 pub more-values : (rest after : List ℕ) (v : ℕ) (more : List ℕ) → IsNumberBefore rest v after → AreValueWords after more → AreValueWords rest (v ∷ more)
@@ -60,9 +56,6 @@ value-read bytes values rest v after h b = record {
       let x = h.back all a in let y = first-value rest after v x.0 b x.2 in
       (y.more, x.1 ∙ ap (λ l. values ++ l) y.is ∙ sym (append_assoc values (v ∷ []) y.more), y.are);
 }
-
-pub values-read : (bytes values rest : List ℕ) (v : ℕ) → HaveRead bytes values rest → v ≤ MAX_NUMBER → rest ≡ decimal v → AreValueWords bytes (values ++ v ∷ [])
-values-read bytes values rest v h small is = h.forth (v ∷ []) (last-value rest v small is)
 
 -- neither a number before a blank nor one alone is left
 no-last : (rest : List ℕ) (all : List ℕ) → ((n : ℕ) (behind : List ℕ) → IsNumberBefore rest n behind → ⊥) → number_spelled rest ≡ None → AreValueWords rest all → ⊥

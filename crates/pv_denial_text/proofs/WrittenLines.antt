@@ -16,7 +16,7 @@ use Rattle.pv_denial.specs.declared.denials.Row.{Row}
 use Rattle.pv_denial_text.specs.Lines.{IsRowInRange, cause_line, cause_word, end_line, line_text, row_line}
 use Rattle.pv_denial_text.specs.Steps.{head_lines}
 use Rattle.pv_denial_text.specs.Texts.{AreLines, IsRowBefore, lines_of_denial, lines_text}
-use Rattle.pv_denial_text.proofs.Stands.{text-append}
+use Rattle.pv_denial_text.proofs.LineSequences.{text-append}
 
 -- a word, and numbers after it
 words-text : (a : List ℕ) (vs : List ℕ) → words (a ∷ map decimal vs) ≡ a ++ numbers_text vs

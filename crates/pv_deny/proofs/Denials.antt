@@ -4,7 +4,7 @@ use Rattle.std.proofs.Common.{List, None, Option, Some, ap, inl, inr, length, re
 use Rattle.pv_model.specs.Plain.{PlainToken, empty}
 use Rattle.pv_dtd.specs.Plain.{PlainDtd, model_of, number_of}
 use Rattle.pv_dtd.specs.Proper.{IsProperDtd}
-use Rattle.pv_rules.specs.Deriving.{DerivesAt}
+use Rattle.pv_rules.specs.SiteDerivations.{DerivesAt}
 use Rattle.pv_rules.specs.Sites.{PlainSite, content_site, name_site}
 use Rattle.pv_tree.specs.Lists.{Listed, Owner, an_element, lists_of, the_document}
 use Rattle.pv_tree.specs.Plain.{Forest, no_trees, tree}
@@ -12,12 +12,12 @@ use Rattle.pv_tree.specs.Words.{word_of}
 use Rattle.pv_missing.specs.ListLaws.{KnownWord}
 use Rattle.pv_missing.specs.LiveWords.{IsLiveWord}
 use Rattle.pv_missing.specs.Verdicts.{IsLiveBy}
-use Rattle.pv_missing.specs.Weighing.{site_of}
+use Rattle.pv_missing.specs.ListWeights.{site_of}
 use Rattle.pv_missing.specs.Widths.{IsListForVerdict}
 use Rattle.pv_missing.specs.WordLaws.{LiveFollows, OneLiveWord, OwnerIsProductive, PossibleDerives}
 use Rattle.pv_missing.specs.declared.owners.Of.TheVariants as of
 use Rattle.pv_denial.specs.Causes.{HasKidsInEmpty, HoldsOfList, IsCause}
-use Rattle.pv_denial.specs.Judging.{IsReached, IsRightTable, JudgesAt}
+use Rattle.pv_denial.specs.Judgements.{IsReached, IsRightTable, JudgesAt}
 use Rattle.pv_denial.specs.Rows.{AreBarrierRows}
 use Rattle.pv_denial.specs.declared.denials.Cause.{Cause}
 use Rattle.pv_denial.specs.declared.denials.Cause.TheVariants as cause
@@ -26,9 +26,9 @@ use Rattle.pv_denial.specs.declared.denials.Judged.TheVariants as judged
 use Rattle.pv_rules.specs.Rules.{IsKnownWord}
 use Rattle.pv_denial.proofs.ListJudgements.{live_known}
 use Rattle.pv_reach.specs.Laws.{SpansWithin}
-use Rattle.pv_deny.specs.Denying.{AreFurthestRows}
+use Rattle.pv_deny.specs.DocumentDenials.{AreFurthestRows}
 use Rattle.pv_deny.specs.Laws.{DenialIsJudged, FurthestIsBarrier}
-use Rattle.pv_deny.proofs.Furthest.{found}
+use Rattle.pv_deny.proofs.FurthestPlaces.{found}
 use Rattle.pv_denial.proofs.Lists.{every}
 
 module _ (M : Type 0) (spans : SpansWithin) (barrier : FurthestIsBarrier) (words : KnownWord M) (follows : LiveFollows) (one : OneLiveWord) (owner : OwnerIsProductive) (possible : PossibleDerives)

@@ -3,6 +3,6 @@ pub mod ToldSites
 pub mod RowFacts
 pub mod WordRows
 pub mod Outcomes
-pub mod AtPaths
+pub mod DenialsAtPaths
 pub mod Denials
-pub mod Furthest
+pub mod FurthestPlaces

@@ -16,9 +16,9 @@ use Rattle.pv_tree.specs.Lists.{Listed, Owner, an_element, lists_of, the_documen
 use Rattle.pv_tree.specs.Plain.{Forest, PlainDoc}
 use Rattle.pv_tree.specs.View.{view}
 use Rattle.pv_tree.specs.Words.{word_of}
-use Rattle.pv_tree.proofs.Every.{all_right}
-use Rattle.pv_tree.proofs.Firsts.{one_first}
-use Rattle.pv_missing.specs.Completing.{IsPotentiallyValid}
+use Rattle.pv_tree.proofs.JoinedLists.{all_right}
+use Rattle.pv_tree.proofs.FirstLists.{one_first}
+use Rattle.pv_missing.specs.Completions.{IsPotentiallyValid}
 use Rattle.pv_missing.specs.DocumentLaws.{IsPotentiallyValidByLists}
 use Rattle.pv_missing.specs.LiveWords.{IsLiveWord}
 use Rattle.pv_missing.specs.Proper.{IsProperDoc}
@@ -26,14 +26,14 @@ use Rattle.pv_missing.specs.Verdicts.{IsLive}
 use Rattle.pv_missing.specs.Widths.{IsFirstTooWide, IsListForVerdict}
 use Rattle.pv_missing.specs.WordLaws.{OneLiveWord}
 use Rattle.pv_tables.specs.TableLaws.{OneListAtPath}
-use Rattle.pv_reach.specs.Ending.{IsGreatestEnd}
+use Rattle.pv_reach.specs.FurthestEnds.{IsGreatestEnd}
 use Rattle.pv_denial.specs.Causes.{HasKidsInEmpty, IsCause, owner_name}
 use Rattle.pv_denial.specs.Rows.{AreInOrder, IsSiteBefore, most_values, values_in}
 use Rattle.pv_denial.specs.declared.denials.Cause.{Cause}
 use Rattle.pv_denial.specs.declared.denials.Cause.TheVariants as cause
 use Rattle.pv_denial.specs.declared.denials.Denial.{Denial}
 use Rattle.pv_denial.specs.declared.denials.Row.{Row}
-use Rattle.pv_deny.specs.Denying.{AreDerivingSites, AreFurthestRows, HasOutcome, HasTooMany, IsDenialOf, IsFurthestRow, Outcome, is_denial, is_possible, is_too_many, is_too_wide}
+use Rattle.pv_deny.specs.DocumentDenials.{AreDerivingSites, AreFurthestRows, HasOutcome, HasTooMany, IsDenialOf, IsFurthestRow, Outcome, is_denial, is_possible, is_too_many, is_too_wide}
 use Rattle.pv_denial.proofs.Lists.{every, one_ascending, same_list}
 use Rattle.pv_deny.proofs.RowFacts.{values_in_rows}
 

@@ -6,19 +6,19 @@ use Rattle.std.proofs.lemmas.Option.{slice_get-map, slice_get_within}
 use Rattle.pv_model.specs.Plain.{PlainToken}
 use Rattle.pv_dtd.specs.Plain.{PlainDtd}
 use Rattle.pv_dtd.specs.Proper.{IsProperDtd}
-use Rattle.pv_rules.specs.Deriving.{DerivesAt}
+use Rattle.pv_rules.specs.SiteDerivations.{DerivesAt}
 use Rattle.pv_rules.specs.PlainForms.{plain_site}
 use Rattle.pv_rules.specs.Sites.{HasSite, PlainSite, content_site, name_site, part_site, rest_site}
 use Rattle.pv_rules.specs.declared.sites.Site.{Site}
 use Rattle.pv_missing.specs.LiveWords.{AreProductiveTokens}
 use Rattle.pv_tables.specs.Tables.{kind_rank}
-use Rattle.pv_reach.specs.Ending.{AreReaches, IsGreatestEnd, end_told}
+use Rattle.pv_reach.specs.FurthestEnds.{AreReaches, IsGreatestEnd, end_told}
 use Rattle.pv_reach.specs.Laws.{SpansWithin}
 use Rattle.pv_reach.specs.declared.reaches.Reaches.{Reaches}
 use Rattle.pv_denial.specs.Rows.{EachRow, IsSiteBefore, most_values, values_in}
 use Rattle.pv_denial.specs.declared.denials.Row.{Row}
-use Rattle.pv_deny.specs.Denying.{AreDerivingSites, AreFurthestRows, DerivesSome, IsFurthestRow}
-use Rattle.pv_deny.specs.Told.{AreToldRows, AreToldSites, IsBelow, IsToldRow, IsTold}
+use Rattle.pv_deny.specs.DocumentDenials.{AreDerivingSites, AreFurthestRows, DerivesSome, IsFurthestRow}
+use Rattle.pv_deny.specs.ToldRows.{AreToldRows, AreToldSites, IsBelow, IsToldRow, IsTold}
 use Rattle.pv_denial.proofs.Lists.{front_or_end}
 use Rattle.pv_denial.proofs.SiteRows.{slice_get_below}
 

@@ -1,29 +1,18 @@
 -- The sites that furthest places tell something of, found one by one.
-use Rattle.std.proofs.Common.{List, Some, [], arith, inl, inr, length, refl, slice_get, subst, suc, sym, ℕ, ◌+◌, ◌++◌, ◌<◌, ◌∙◌, ◌∷◌, ◌≡◌, ◌⊎◌}
+use Rattle.std.proofs.Common.{List, Some, [], arith, inl, inr, length, refl, slice_get, subst, sym, ℕ, ◌+◌, ◌++◌, ◌<◌, ◌∙◌, ◌∷◌, ◌≡◌, ◌⊎◌}
 use Rattle.std.proofs.lemmas.Option.{slice_get_within}
 use Rattle.pv_dtd.specs.Plain.{PlainDtd}
 use Rattle.pv_rules.specs.PlainForms.{plain_site}
-use Rattle.pv_rules.specs.Sites.{HasSite, PlainSite}
+use Rattle.pv_rules.specs.Sites.{PlainSite}
 use Rattle.pv_rules.specs.declared.sites.Site.{Site}
 use Rattle.pv_tables.specs.TableLaws.{SitesAreTold}
 use Rattle.pv_tables.specs.Tables.{kind_rank, site_number}
 use Rattle.pv_reach.specs.declared.reaches.Reaches.{Reaches}
 use Rattle.pv_denial.specs.Rows.{IsSiteBefore}
-use Rattle.pv_deny.specs.Told.{AreToldSites, IsBelow, IsTold, rank_of, site_by}
+use Rattle.pv_deny.specs.ToldRows.{AreToldSites, IsBelow, IsTold, rank_of, site_by}
 use Rattle.pv_deny.specs.declared.sites.Kind.{Kind}
 use Rattle.pv_deny.specs.declared.sites.Kind.TheVariants as kind
 use Rattle.pv_denial.proofs.Lists.{at_end, at_front, front_or_end, lt_or_eq}
-
-pub none_told : (g : PlainDtd) (r : Reaches) → AreToldSites g r 0 0 []
-none_told g r = record {
-  each = λ k s e. absurd cc;
-  ascend = λ j k a b lt e f. absurd cc;
-  all = λ s told below. absurd (no_site s below);
-}
-  where
-    no_site : (s : PlainSite) → IsBelow 0 0 s → ⊥
-    no_site s (inl lt) = omega arith
-    no_site s (inr (e, lt)) = omega arith
 
 below_more : (rank n : ℕ) (s : PlainSite) → IsBelow rank n s → IsBelow rank (n + 1) s
 below_more rank n s (inl lt) = inl lt
@@ -91,28 +80,6 @@ module _ (g : PlainDtd) (r : Reaches) (rank n : ℕ) (sites : List Site) (are : 
       ascend = are.ascend;
       all = λ s h below. skip_all s h (below_or_here rank n s below);
     }
-
--- all sites of a kind are passed
-pub next_kind : (g : PlainDtd) (r : Reaches) (rank count : ℕ) (sites : List Site) →
-    AreToldSites g r rank count sites → ((s : PlainSite) → HasSite g s → kind_rank s ≡ rank →
-    site_number s < count) → AreToldSites g r (suc rank) 0 sites
-next_kind g r rank count sites are within = record {
-  each = λ k s e. let o = are.each k s e in (o.0, before (plain_site s) o.1);
-  ascend = are.ascend;
-  all = λ s h below. are.all s h (back s h.0 below);
-}
-  where
-    before : (s : PlainSite) → IsBelow rank count s → IsBelow (suc rank) 0 s
-    before s (inl lt) = inl (omega arith)
-    before s (inr (e, lt)) = inl (omega arith)
-
-    by : (s : PlainSite) → HasSite g s → (kind_rank s < rank) ⊎ (kind_rank s ≡ rank) → IsBelow rank count s
-    by s h (inl lt) = inl lt
-    by s h (inr e) = inr (e, within s h e)
-
-    back : (s : PlainSite) → HasSite g s → IsBelow (suc rank) 0 s → IsBelow rank count s
-    back s h (inl lt) = by s h (lt_or_eq (kind_rank s) rank lt)
-    back s h (inr (e, lt)) = absurd (omega arith)
 
 -- the site of a kind and a number
 pub by_rank : (k : Kind) (n : ℕ) → kind_rank (site_by k n) ≡ rank_of k

@@ -7,12 +7,12 @@ use Rattle.pv_rules.specs.Rules.{IsKnownWord}
 use Rattle.pv_tree.specs.Plain.{PlainDoc}
 use Rattle.pv_missing.specs.LiveWords.{AreProductiveTokens}
 use Rattle.pv_missing.specs.Proper.{IsProperDoc}
-use Rattle.pv_denial.specs.Judging.{IsDenialJudged}
+use Rattle.pv_denial.specs.Judgements.{IsDenialJudged}
 use Rattle.pv_denial.specs.Rows.{AreBarrierRows, AreInOrder}
 use Rattle.pv_denial.specs.declared.denials.Denial.{Denial}
 use Rattle.pv_denial.specs.declared.denials.Judged.TheVariants as judged
 use Rattle.pv_denial.specs.declared.denials.Row.{Row}
-use Rattle.pv_deny.specs.Denying.{AreFurthestRows, HasOutcome, HasTooMany, IsDenialOf, Outcome}
+use Rattle.pv_deny.specs.DocumentDenials.{AreFurthestRows, HasOutcome, HasTooMany, IsDenialOf, Outcome}
 
 -- rows of furthest places over a word of productive names are a barrier for it
 abbrev pub FurthestIsBarrier : Type 0

@@ -1,3 +1,3 @@
-pub mod Denying
+pub mod DocumentDenials
 pub mod Laws
-pub mod Told
+pub mod ToldRows

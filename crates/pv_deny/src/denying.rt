@@ -10,8 +10,8 @@ ghost use Rattle.pv_tree.specs.Words.{word_of};
 ghost use Rattle.pv_missing.specs.Verdicts.{IsFirstImpossible};
 ghost use Rattle.pv_missing.specs.Widths.{FitsVerdict, IsListForVerdict};
 ghost use Rattle.pv_denial.specs.declared.denials.Cause.TheVariants.{Word as by_word};
-ghost use Rattle.pv_deny.specs.Denying.{HasOutcomeBy, IsDenialOf};
-ghost use Rattle.pv_deny.specs.Told.{HasManyValues, HasRowsBy};
+ghost use Rattle.pv_deny.specs.DocumentDenials.{HasOutcomeBy, IsDenialOf};
+ghost use Rattle.pv_deny.specs.ToldRows.{HasManyValues, HasRowsBy};
 
 use crate::errors::DenyError;
 use crate::words::word_rows;

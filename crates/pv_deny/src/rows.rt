@@ -4,9 +4,9 @@ ghost use Rattle.std.specs.Prelude.{◌≡◌, ◌≤◌, ◌<◌, ◌*◌, ◌�
 ghost use Rattle.std.specs.Prelude.{length, slice_get, suc};
 ghost use Rattle.pv_rules.specs.PlainForms.{plain_site};
 ghost use Rattle.pv_rules.specs.declared.sites.Site.{Site as PlainSiteOf};
-ghost use Rattle.pv_reach.specs.Ending.{end_told};
+ghost use Rattle.pv_reach.specs.FurthestEnds.{end_told};
 ghost use Rattle.pv_denial.specs.Rows.{most_values};
-ghost use Rattle.pv_deny.specs.Told.{AreToldRows, IsToldRow};
+ghost use Rattle.pv_deny.specs.ToldRows.{AreToldRows, IsToldRow};
 
 use pv_chars::List;
 use pv_denial::{MAX_VALUES, Row};

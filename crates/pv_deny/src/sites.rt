@@ -5,7 +5,7 @@ ghost use Rattle.pv_rules.specs.PlainForms.{plain_site};
 ghost use Rattle.pv_rules.specs.Sites.{HasSite, PlainSite};
 ghost use Rattle.pv_productive.specs.PlainForms.{dtd_of};
 ghost use Rattle.pv_tables.specs.Tables.{kind_rank, site_number};
-ghost use Rattle.pv_deny.specs.Told.{AreToldSites, IsTold, rank_of, site_by};
+ghost use Rattle.pv_deny.specs.ToldRows.{AreToldSites, IsTold, rank_of, site_by};
 
 use pv_model::NameId;
 use pv_productive::Grammar;

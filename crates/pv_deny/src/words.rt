@@ -1,14 +1,15 @@
 //! The rows of a list's word.
 
-ghost use Rattle.std.specs.Prelude.{◌≡◌, IfOk, MatchOption, length, map};
+ghost use Rattle.std.specs.Prelude.{◌≡◌, IfOk, List, MatchOption, length, map};
+ghost use Rattle.pv_model.specs.Plain.{PlainToken};
 ghost use Rattle.pv_model.specs.PlainForms.{plain_token};
 ghost use Rattle.pv_productive.specs.PlainForms.{dtd_of};
 ghost use Rattle.pv_tree.specs.PlainForms.{forest};
 ghost use Rattle.pv_tree.specs.Words.{word_of};
-ghost use Rattle.pv_missing.specs.LiveWords.{AreProductiveTokens};
+ghost use Rattle.pv_missing.specs.LiveWords.{AreProductiveTokens, IsLiveWord};
 ghost use Rattle.pv_missing.specs.Widths.{FitsVerdict};
-ghost use Rattle.pv_reach.specs.Ending.{AreReaches};
-ghost use Rattle.pv_deny.specs.Told.{HasManyValues, HasRows};
+ghost use Rattle.pv_reach.specs.FurthestEnds.{AreReaches};
+ghost use Rattle.pv_deny.specs.ToldRows.{HasManyValues, HasRows};
 
 use crate::rows::{are_few, rows_of};
 use crate::sites::told_sites;
@@ -39,6 +40,30 @@ fn reaches_over(grammar: &Grammar, judge: &Judge<'_>, word: &[Token]) -> Result<
     }
 }
 
+/// The rows of furthest places over a word; none where they would have too many values.
+fn rows_by(
+    alloc: Global,
+    grammar: &Grammar,
+    reaches: &Reaches,
+    word: &[Token],
+) -> Result<Option<Rows>, NoMemory>
+    requires productive { AreProductiveTokens (dtd_of grammar.now) (map plain_token word.now) }
+    requires reaches { AreReaches (dtd_of grammar.now) (map plain_token word.now) reaches.now }
+    ensures { IfOk result (λ found. (w : List PlainToken) →
+        IsLiveWord (dtd_of grammar.now) w (map plain_token word.now) →
+        MatchOption found (HasManyValues (dtd_of grammar.now) w)
+        (HasRows (dtd_of grammar.now) w)) }
+{
+    proper_dtd_law(grammar.dtd());
+    spans_within_law();
+    let sites = told_sites(alloc, grammar, reaches)?;
+    if !are_few(sites.len() as u64, word.len() as u64) {
+        return Ok(None);
+    }
+    let rows = rows_of(alloc, reaches, &sites, word.len())?;
+    Ok(Some(List::of(rows)))
+}
+
 /// The rows of furthest places over the live word of some kids, which isn't too wide, by a judge of
 /// this grammar; none where they would have too many values.
 pub fn word_rows(
@@ -54,16 +79,9 @@ pub fn word_rows(
         (HasManyValues (dtd_of grammar.now) (word_of (dtd_of grammar.now) (forest kids.now)))
         (HasRows (dtd_of grammar.now) (word_of (dtd_of grammar.now) (forest kids.now)))) }
 {
-    proper_dtd_law(grammar.dtd());
     live_follows_law();
-    spans_within_law();
     let live = live_word(alloc, grammar, kids)?;
     let word = live.as_slice();
     let reaches = reaches_over(grammar, judge, word)?;
-    let sites = told_sites(alloc, grammar, &reaches)?;
-    if !are_few(sites.len() as u64, word.len() as u64) {
-        return Ok(None);
-    }
-    let rows = rows_of(alloc, &reaches, &sites, word.len())?;
-    Ok(Some(List::of(rows)))
+    rows_by(alloc, grammar, &reaches, word)
 }

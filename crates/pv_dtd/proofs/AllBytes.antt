@@ -6,7 +6,7 @@ use Rattle.pv_chars.specs.Spaces.{IsOptionalSpace}
 use Rattle.pv_chars.specs.Names.{IsName}
 use Rattle.pv_dtd.specs.Items.{NamedPart, name, seq, choice, opt, star, plus, NamedParts, no_parts, part, NamedModel, empty, any, mixed, children}
 use Rattle.pv_dtd.specs.Spelling.{SpellsPart, SpellsGroup, SpellsOthers, SpellsListed, SpellsMixed, SpellsModel, SpellsElement}
-use Rattle.pv_dtd.proofs.Shallow.{group_regrouped, others_regrouped}
+use Rattle.pv_dtd.proofs.GroupDepths.{group_regrouped, others_regrouped}
 
 pub all-append : (p : ℕ → Bool) (a b : List ℕ) → list_all p a ≡ true → list_all p b ≡ true → list_all p (a ++ b) ≡ true
 all-append p a b e f = list_all-append p a b ∙ rw (e, f) refl

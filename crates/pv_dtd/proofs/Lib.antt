@@ -1,20 +1,20 @@
 -- for other crates:
 pub mod NameSequences
-pub mod Proper
+pub mod ProperDtds
 -- of this crate:
 pub mod Places
 pub mod Members
-pub mod Distinct
-pub mod Once
-pub mod Apart
+pub mod DistinctLists
+pub mod NamesOnce
+pub mod DistinctNumbers
 pub mod PartsRead
 pub mod PartsSpelled
 pub mod ModelsRead
 pub mod ModelsSpelled
 pub mod QuotedText
 pub mod ItemsRead
-pub mod Deep
-pub mod Shallow
+pub mod TooManyParentheses
+pub mod GroupDepths
 pub mod AllBytes
 pub mod OpenParentheses
 pub mod Parameters
@@ -23,15 +23,15 @@ pub mod OneMeaning
 pub mod ListedNames
 pub mod BrokenRules
 pub mod GrowingNames
-pub mod SoFar
-pub mod Unbroken
+pub mod ItemsSoFar
+pub mod FaultlessItems
 pub mod SubsetMeaning
 pub mod TextMeaning
 pub mod ReaderAnswers
 pub mod NumbersForNames
-pub mod Among
+pub mod NamesAmongOthers
 pub mod NamesKept
-pub mod Kept
+pub mod DtdFacts
 pub mod TextLimits
 pub mod DtdTextLaw
 pub mod ProductiveNames

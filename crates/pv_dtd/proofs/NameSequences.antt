@@ -1,12 +1,11 @@
 -- Names that grow, one after the other.
 use Rattle.std.proofs.Common.{◌≡◌, ℕ, zero, suc, List, [], ◌∷◌, ◌++◌, length, map, Bool, true, false, cond, is_some, Option, Some, None, refl, sym, ap, ◌∙◌, append_assoc, append-nil}
-use Rattle.std.proofs.lemmas.List.{map-append}
 use Rattle.std.proofs.lemmas.Slice.Eq.{bytes_eq-Decides}
 use Rattle.std.specs.List.{slice_get}
 use Rattle.std.specs.Option.{option_map}
 use Rattle.std.specs.Str.{bytes_eq}
 use Rattle.pv_dtd.specs.Plain.{place_of}
-use Rattle.pv_dtd.specs.Naming.{names_with, number_in, AreFirstIn, with_names}
+use Rattle.pv_dtd.specs.NameOrder.{names_with, number_in, AreFirstIn, with_names}
 
 pub goes_on_self : (names : List (List ℕ)) → AreFirstIn names names
 goes_on_self names = record { added = []; whole = sym (append-nil names) }
@@ -29,29 +28,9 @@ pub with_names-append : (names xs ys : List (List ℕ)) → with_names names (xs
 with_names-append names [] ys = refl
 with_names-append names (x ∷ xs) ys = with_names-append (names_with names x) xs ys
 
-get_front : (names added : List (List ℕ)) (y : ℕ) (x : List ℕ) → slice_get names y ≡ Some x → slice_get (names ++ added) y ≡ Some x
-get_front [] added y x e = cc
-get_front (n ∷ ns) added zero x e = e
-get_front (n ∷ ns) added (suc y) x e = get_front ns added y x e
-
-pub get_goes_on : (names more : List (List ℕ)) → AreFirstIn names more → (y : ℕ) (x : List ℕ) → slice_get names y ≡ Some x → slice_get more y ≡ Some x
-get_goes_on names more g y x e = rw g.whole (get_front names g.added y x e)
-
 -- these numbers have these names
 abbrev pub AreNamed : List (List ℕ) → List ℕ → List (List ℕ) → Type 0
 AreNamed names ys xs = map (slice_get names) ys ≡ map Some xs
-
-pub named_goes_on : (names more : List (List ℕ)) → AreFirstIn names more → (ys : List ℕ) (xs : List (List ℕ)) → AreNamed names ys xs → AreNamed more ys xs
-named_goes_on names more g [] [] e = refl
-named_goes_on names more g [] (x ∷ xs) e = cc
-named_goes_on names more g (y ∷ ys) [] e = cc
-named_goes_on names more g (y ∷ ys) (x ∷ xs) e =
-    let first : slice_get more y ≡ Some x = get_goes_on names more g y x cc in
-    let others : AreNamed more ys xs = named_goes_on names more g ys xs cc in
-    cc
-
-pub named-append : (names : List (List ℕ)) (ys zs : List ℕ) (xs ws : List (List ℕ)) → AreNamed names ys xs → AreNamed names zs ws → AreNamed names (ys ++ zs) (xs ++ ws)
-named-append names ys zs xs ws e f = map-append (slice_get names) ys zs ∙ ap (λ a. a ++ map (slice_get names) zs) e ∙ ap (λ b. map Some xs ++ b) f ∙ sym (map-append Some xs ws)
 
 -- a name's place has that name
 place_at : (n : List ℕ) (ns : List (List ℕ)) (x : List ℕ) (y : ℕ) (same : Bool) →
@@ -103,6 +82,3 @@ place_with_by names x (Some y) e = rw e e
 
 pub place-names_with : (names : List (List ℕ)) (x : List ℕ) → place_of (names_with names x) x ≡ Some (number_in names x)
 place-names_with names x = place_with_by names x (place_of names x) refl
-
-pub get-names_with : (names : List (List ℕ)) (x : List ℕ) → slice_get (names_with names x) (number_in names x) ≡ Some x
-get-names_with names x = get-place (names_with names x) x (number_in names x) (place-names_with names x)

@@ -12,8 +12,8 @@ use Rattle.pv_dtd.specs.Meaning.{is_place, HasPlace, is_front, Outcome, is_dtd, 
 use Rattle.pv_dtd.specs.ItemReading.{item_at, parameter_at, is_too_deep, early_kind, broken_rule}
 use Rattle.pv_chars.proofs.ReaderSteps.{same_some}
 use Rattle.pv_dtd.proofs.Parameters.{parameter_read, parameter_is_read}
-use Rattle.pv_dtd.proofs.Deep.{too_deep_read, too_deep_is_read}
-use Rattle.pv_dtd.proofs.Shallow.{begins_shallow}
+use Rattle.pv_dtd.proofs.TooManyParentheses.{too_deep_read, too_deep_is_read}
+use Rattle.pv_dtd.proofs.GroupDepths.{begins_shallow}
 use Rattle.pv_dtd.proofs.ItemsRead.{item_read, item_is_read}
 use Rattle.pv_chars.proofs.CharFacts.{comment_opens, instruction_opens}
 

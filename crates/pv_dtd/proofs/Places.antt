@@ -7,7 +7,7 @@ use Rattle.std.specs.List.{prefix_len, list_any}
 use Rattle.std.specs.Option.{option_map}
 use Rattle.std.specs.Str.{bytes_eq}
 use Rattle.pv_dtd.specs.Plain.{place_of}
-use Rattle.pv_dtd.specs.Naming.{names_with, number_in}
+use Rattle.pv_dtd.specs.NameOrder.{names_with, number_in}
 
 prefix-map : {A B : Type 0} (f : A → B) (p : B → Bool) (xs : List A) → prefix_len p (map f xs) ≡ prefix_len (λ x. p (f x)) xs
 prefix-map f p [] = refl

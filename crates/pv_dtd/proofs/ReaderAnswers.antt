@@ -8,7 +8,7 @@ use Rattle.pv_dtd.specs.Facts.{MAX_DTD_BYTES}
 use Rattle.pv_dtd.specs.Items.{NamedModel, DtdItem, declared_in, models_in, mentioned_in}
 use Rattle.pv_dtd.specs.Meaning.{Outcome, is_dtd, faulty, DtdRestMeans, DtdTextMeans, items}
 use Rattle.pv_dtd.specs.Numbering.{dtd_of_items, names_of, number_among, model_with_numbers}
-use Rattle.pv_dtd.specs.Naming.{with_names, NumbersModels}
+use Rattle.pv_dtd.specs.NameOrder.{with_names, NumbersModels}
 use Rattle.pv_dtd.specs.PlainForms.{plain_dtd, refusal, Refuses, Answers}
 use Rattle.pv_dtd.specs.RuleKinds.{kind_of_rule}
 use Rattle.pv_dtd.specs.SoFar.{Tells, TellsFault, Declares}
@@ -18,7 +18,7 @@ use Rattle.pv_dtd.specs.declared.errors.DtdError.TheVariants.{Syntax, Twice, Mix
 use Rattle.pv_dtd.specs.declared.rules.Rule.{Rule}
 use Rattle.pv_dtd.specs.declared.rules.Rule.TheVariants.{Twice as TwiceRule, MixedTwice as MixedTwiceRule, Limit as LimitRule}
 use Rattle.pv_dtd.proofs.NameSequences.{goes_on_self}
-use Rattle.pv_dtd.proofs.Once.{once-distinct}
+use Rattle.pv_dtd.proofs.NamesOnce.{once-distinct}
 use Rattle.pv_dtd.proofs.TextMeaning.{same_text_meaning}
 
 pub tells_rule : (rest : List ℕ) (rule : Rule) (k : ℕ) (e : DtdError) → e ≡ refusal (kind_of_rule rule) k → DtdRestMeans [] rest (faulty (kind_of_rule rule) k) → TellsFault rest e

@@ -12,9 +12,9 @@ use Rattle.pv_dtd.specs.Meaning.{is_place, HasPlace, is_front, Outcome, is_dtd, 
 use Rattle.pv_dtd.specs.DtdTexts.{SpellsDeclarations, SpellsSubset, plain, behind_declaration}
 use Rattle.pv_dtd.specs.SoFar.{AreRuled}
 use Rattle.pv_chars.proofs.CharFacts.{comment_opens, instruction_opens}
-use Rattle.pv_dtd.proofs.Shallow.{begins_shallow}
-use Rattle.pv_dtd.proofs.SoFar.{ruled_more}
-use Rattle.pv_dtd.proofs.Unbroken.{keeps, ruled-left, no_fault}
+use Rattle.pv_dtd.proofs.GroupDepths.{begins_shallow}
+use Rattle.pv_dtd.proofs.ItemsSoFar.{ruled_more}
+use Rattle.pv_dtd.proofs.FaultlessItems.{keeps, ruled-left, no_fault}
 
 -- items spell the rest, of which the place is the front of the text or not
 abbrev pub SpellsRest : Bool → List DtdItem → List ℕ → Type 0

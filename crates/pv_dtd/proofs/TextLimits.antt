@@ -15,8 +15,8 @@ use Rattle.pv_dtd.specs.DtdTexts.{SpellsDeclarations, SpellsSubset, plain, behin
 use Rattle.pv_dtd.specs.SoFar.{IsShallow, IsShallowItem, AreSoundItems, AreRuled}
 use Rattle.pv_dtd.proofs.NumbersForNames.{nesting_numbered, parts_numbered}
 use Rattle.pv_dtd.proofs.NamesKept.{mentioned_more}
-use Rattle.pv_dtd.proofs.Kept.{as_many, short_kept, types_kept}
-use Rattle.pv_dtd.proofs.Once.{all_once}
+use Rattle.pv_dtd.proofs.DtdFacts.{as_many, short_kept, types_kept}
+use Rattle.pv_dtd.proofs.NamesOnce.{all_once}
 
 -- each of the items is spelled somewhere
 abbrev IsSpelled : DtdItem → Type 0

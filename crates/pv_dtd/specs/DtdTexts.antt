@@ -5,7 +5,7 @@ use Rattle.std.specs.List.{AllByRecursion, list_all}
 use Rattle.pv_chars.specs.Spaces.{IsOptionalSpace}
 use Rattle.pv_chars.specs.Declarations.{IsTextDecl}
 use Rattle.pv_chars.specs.ByteOrderMark.{IsBehindByteOrderMark}
-use Rattle.pv_model.specs.Plain.{PlainModel, empty, any, mixed, children}
+use Rattle.pv_model.specs.Plain.{PlainModel, children}
 use Rattle.pv_dtd.specs.Plain.{PlainDtd, declared, parts_in_models}
 use Rattle.pv_dtd.specs.Facts.{are_distinct, is_short_name, nesting, MAX_DTD_BYTES, MAX_TYPES}
 use Rattle.pv_dtd.specs.Facts.{MAX_PARTS, MAX_NESTING}
@@ -47,10 +47,8 @@ pub record IsDtdText (bytes : List ℕ) (g : PlainDtd) : Type 0 where
 
 -- how many sequences and choices stand one inside another in a model
 abbrev pub nesting_in : PlainModel → ℕ
-nesting_in empty = 0
-nesting_in any = 0
-nesting_in (mixed ys) = 0
 nesting_in (children p) = nesting p
+nesting_in _ = 0
 
 -- the limits on a text and the DTD that it is
 pub record KeepsLimits (bytes : List ℕ) (g : PlainDtd) : Type 0 where

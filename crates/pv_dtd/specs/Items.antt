@@ -48,49 +48,34 @@ abbrev mutual
   spelled_in_all (part p ps) = spelled_in p ++ spelled_in_all ps
 
 abbrev pub spelled_in_model : NamedModel → List (List ℕ)
-spelled_in_model empty = []
-spelled_in_model any = []
 spelled_in_model (mixed names) = names
 spelled_in_model (children p) = spelled_in p
+spelled_in_model _ = []
 
 -- the names that a mixed model lists
 abbrev pub listed_in_model : NamedModel → List (List ℕ)
-listed_in_model empty = []
-listed_in_model any = []
 listed_in_model (mixed names) = names
-listed_in_model (children p) = []
+listed_in_model _ = []
 
 -- the name that an item declares
 abbrev pub declared_by : DtdItem → List (List ℕ)
-declared_by text_declaration = []
 declared_by (element n model) = n ∷ []
-declared_by skipped = []
-declared_by comment = []
-declared_by instruction = []
+declared_by _ = []
 
 -- the model that it declares
 abbrev pub model_in : DtdItem → List NamedModel
-model_in text_declaration = []
 model_in (element n model) = model ∷ []
-model_in skipped = []
-model_in comment = []
-model_in instruction = []
+model_in _ = []
 
 -- the names that an item mentions
 abbrev pub mentioned_by : DtdItem → List (List ℕ)
-mentioned_by text_declaration = []
 mentioned_by (element n model) = spelled_in_model model
-mentioned_by skipped = []
-mentioned_by comment = []
-mentioned_by instruction = []
+mentioned_by _ = []
 
 -- the names that it lists in a mixed model
 abbrev pub listed_by : DtdItem → List (List ℕ)
-listed_by text_declaration = []
 listed_by (element n model) = listed_in_model model
-listed_by skipped = []
-listed_by comment = []
-listed_by instruction = []
+listed_by _ = []
 
 -- the names that items declare, in order
 abbrev pub declared_in : List DtdItem → List (List ℕ)
@@ -120,10 +105,9 @@ abbrev mutual
 
 -- the parts of a model: the nodes of a content particle, or the names listed in a mixed model
 abbrev pub parts_of_model : NamedModel → ℕ
-parts_of_model empty = 0
-parts_of_model any = 0
 parts_of_model (mixed names) = length names
 parts_of_model (children p) = particles_in p
+parts_of_model _ = 0
 
 -- the parts of all models
 abbrev pub parts_of_models : List NamedModel → ℕ
@@ -132,8 +116,5 @@ parts_of_models (m ∷ ms) = parts_of_model m + parts_of_models ms
 
 -- the parts of the model that an item declares
 abbrev pub parts_by : DtdItem → ℕ
-parts_by text_declaration = 0
 parts_by (element n model) = parts_of_model model
-parts_by skipped = 0
-parts_by comment = 0
-parts_by instruction = 0
+parts_by _ = 0

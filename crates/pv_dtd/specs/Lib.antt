@@ -6,7 +6,7 @@ pub mod Productive
 pub mod Items
 pub mod NamedForms
 pub mod Numbering
-pub mod Naming
+pub mod NameOrder
 pub mod Spelling
 pub mod Kinds
 pub mod Meaning

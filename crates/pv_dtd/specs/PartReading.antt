@@ -89,6 +89,6 @@ unfoldable pub bare_at : ℕ → Reader NamedPart
 bare_at zero = bare_from too_deep
 bare_at (suc depth) = bare_from (group_at (particle_from (bare_at depth)))
 
--- the same with its operator
+-- a particle with its operator, with at most so many groups one inside another
 abbrev pub particle_at : ℕ → Reader NamedPart
 particle_at depth = particle_from (bare_at depth)

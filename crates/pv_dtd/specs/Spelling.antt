@@ -17,9 +17,7 @@ abbrev pub IsUnrepeated : NamedPart → Type 0
 IsUnrepeated (name n) = Unit {0}
 IsUnrepeated (seq ps) = Unit {0}
 IsUnrepeated (choice ps) = Unit {0}
-IsUnrepeated (opt p) = ⊥
-IsUnrepeated (star p) = ⊥
-IsUnrepeated (plus p) = ⊥
+IsUnrepeated _ = ⊥
 
 abbrev pub member_count : NamedParts → ℕ
 member_count no_parts = 0
@@ -73,11 +71,10 @@ abbrev mutual
 -- a choice or a sequence, with or without an operator
 abbrev pub IsGroup : NamedPart → Type 0
 IsGroup (name n) = ⊥
-IsGroup (seq ps) = Unit {0}
-IsGroup (choice ps) = Unit {0}
 IsGroup (opt p) = IsGroup p
 IsGroup (star p) = IsGroup p
 IsGroup (plus p) = IsGroup p
+IsGroup _ = Unit {0}
 
 -- (S? '|' S? Name)* (XML 1.0, 3.2.2)
 abbrev pub SpellsListed : List (List ℕ) → List ℕ → Type 0
@@ -165,10 +162,7 @@ Spells instruction text = IsInstruction text
 -- a text declaration stands at the front of a text alone
 abbrev pub MayStand : Bool → DtdItem → Type 0
 MayStand front text_declaration = IsTrue front
-MayStand front (element n model) = Unit {0}
-MayStand front skipped = Unit {0}
-MayStand front comment = Unit {0}
-MayStand front instruction = Unit {0}
+MayStand front _ = Unit {0}
 
 -- an item stands at a place, which is the front of the text or not, and this after it
 pub record StandsAt (front : Bool) (place : List ℕ) (i : DtdItem) (rest : List ℕ) : Type 0 where

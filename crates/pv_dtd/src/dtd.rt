@@ -111,7 +111,8 @@ impl Dtd {
         self.parts + self.names.len() as u32
     }
 
-    /// The number of a name.
+    /// The number of a name, counted from 0, or `None` where the DTD neither declares nor mentions
+    /// it.
     ///
     /// ```rust
     /// let dtd = read_dtd(alloc, b"<!ELEMENT a (b, c?)><!ELEMENT b (#PCDATA)>")?;
@@ -127,7 +128,7 @@ impl Dtd {
         }
     }
 
-    /// The name of a number.
+    /// The name that has this number.
     ///
     /// ```rust
     /// let dtd = read_dtd(alloc, b"<!ELEMENT a (b, c?)><!ELEMENT b (#PCDATA)>")?;
@@ -163,6 +164,13 @@ impl Dtd {
     }
 
     /// The content model of a name, laid out for words that are matched against it.
+    ///
+    /// ```rust
+    /// let dtd = read_dtd(alloc, b"<!ELEMENT a (b, c?)><!ELEMENT b (#PCDATA)>")?;
+    /// assert!(rt; dtd.names() == 3);
+    /// let model = dtd.laid_model_of(NameId(0));
+    /// assert!(rt; model.is_some_and(|laid| matches!(laid.model(), ContentModel::Children(_))));
+    /// ```
     pub fn laid_model_of(&self, id: NameId) -> Option<&LaidModel>
         requires { id.0 < length (plain_dtd self.now).names }
         ensures { option_map plain_model (option_copied result) ≡

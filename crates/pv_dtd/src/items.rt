@@ -1,6 +1,6 @@
 //! Items as parts of the text, with names as they are spelled.
 
-/// A content particle.
+/// A content particle with its names as they are spelled (XML 1.0, section 3.2.1, cp).
 #[derive(Drop)]
 pub enum SpelledPart<'a> {
     Name(&'a [u8]),
@@ -11,7 +11,7 @@ pub enum SpelledPart<'a> {
     Plus(Box<SpelledPart<'a>>),
 }
 
-/// A content model.
+/// A content model with its names as they are spelled (XML 1.0, section 3.2, contentspec).
 #[derive(Drop)]
 pub enum SpelledModel<'a> {
     Empty,
@@ -20,7 +20,8 @@ pub enum SpelledModel<'a> {
     Children(Box<SpelledPart<'a>>),
 }
 
-/// An item.
+/// An item of a DTD's text: an element declaration with what it declares (XML 1.0, section 3.2), or
+/// one that declares no element and is skipped.
 #[derive(Drop)]
 pub enum SpelledItem<'a> {
     TextDeclaration,

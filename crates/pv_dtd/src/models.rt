@@ -112,7 +112,8 @@ fn group_model_at<'a>(
     }
 }
 
-/// A content model.
+/// The content model at the front (XML 1.0, section 3.2, contentspec), and what stands after it, or
+/// `None` where none stands there.
 #[tactic(auto, unfolding(crate::specs::ItemReading::model_at))]
 pub fn model_at<'a>(
     alloc: Global,

@@ -2,7 +2,7 @@
 
 ghost use Rattle.std.specs.Prelude.{◌≡◌, [], ◌<◌, length, map, is_some, IfOk, OnOk};
 ghost use Rattle.pv_dtd.specs.Plain.{place_of};
-ghost use Rattle.pv_dtd.specs.Naming.{names_with, number_in};
+ghost use Rattle.pv_dtd.specs.NameOrder.{names_with, number_in};
 
 use indexmap::IndexSet;
 use pv_chars::NoMemory;
@@ -27,7 +27,7 @@ impl Model for NameTable {
 }
 
 impl NameTable {
-    /// No names.
+    /// A table without names.
     pub fn new(alloc: Global) -> NameTable
         ensures { result ≡ [] }
     {
@@ -43,6 +43,7 @@ impl NameTable {
         self.set
     }
 
+    /// How many names it has.
     pub fn len(&self) -> usize
         ensures { result ≡ length self.now }
     {

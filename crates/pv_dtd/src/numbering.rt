@@ -4,8 +4,8 @@ ghost use Rattle.std.specs.Prelude.{◌≡◌, map, IfOk, OnOk};
 ghost use Rattle.pv_model.specs.PlainForms.{numbers_of, plain_part, plain_parts, plain_model};
 ghost use Rattle.pv_dtd.specs.Items.{spelled_in, spelled_in_all, spelled_in_model, mentioned_in};
 ghost use Rattle.pv_dtd.specs.NamedForms.{named_part, named_parts, named_model};
-ghost use Rattle.pv_dtd.specs.Naming.{with_names, NumbersNames, NumbersPart, NumbersParts};
-ghost use Rattle.pv_dtd.specs.Naming.{NumbersModel, NumbersModels};
+ghost use Rattle.pv_dtd.specs.NameOrder.{with_names, NumbersNames, NumbersPart, NumbersParts};
+ghost use Rattle.pv_dtd.specs.NameOrder.{NumbersModel, NumbersModels};
 
 use crate::items::{SpelledModel, SpelledPart};
 use crate::names::NameTable;

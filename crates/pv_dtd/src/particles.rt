@@ -59,8 +59,8 @@ fn group_of<'a>(separator: u8, members: Vec<SpelledPart<'a>>) -> SpelledPart<'a>
     }
 }
 
-/// A name, a choice or a sequence, with its operator. Groups stand one inside another at most
-/// `depth` deep.
+/// The content particle at the front (XML 1.0, section 3.2.1): a name, a choice or a sequence, with
+/// its operator. Groups stand one inside another at most `depth` deep.
 #[cycle(particles)]
 #[tactic(auto, unfolding(crate::specs::PartReading::particle_from))]
 pub fn particle_at<'a>(

@@ -6,7 +6,7 @@ ghost use Rattle.pv_dtd.specs.Facts.{MAX_DTD_BYTES, MAX_PARTS};
 ghost use Rattle.pv_dtd.specs.Items.{declared_by, model_in, parts_by};
 ghost use Rattle.pv_dtd.specs.Meaning.{Outcome, is_dtd, DtdTextMeans, is_place};
 ghost use Rattle.pv_dtd.specs.NamedForms.{named_model, named_item};
-ghost use Rattle.pv_dtd.specs.Naming.{with_names};
+ghost use Rattle.pv_dtd.specs.NameOrder.{with_names};
 ghost use Rattle.pv_dtd.specs.PlainForms.{plain_dtd, Refuses, Answers, refusal};
 ghost use Rattle.pv_dtd.specs.RuleKinds.{kind_of_rule};
 ghost use Rattle.pv_dtd.specs.SoFar.{Tells, Declares};
@@ -25,7 +25,11 @@ use pv_chars::NoMemory;
 use pv_chars::scan::{after_byte_order_mark, after_space, is_space};
 use std::alloc::Global;
 
-/// The most bytes of a DTD.
+/// The most bytes of a DTD that is read. More are refused as `DtdError::Limit(0)`.
+///
+/// ```rust
+/// assert!(rt; MAX_DTD_BYTES == 4 * 1024 * 1024);
+/// ```
 pub const MAX_DTD_BYTES: usize = 4_194_304;
 
 // Whether nothing stands before the place of this rest, no item and no white space.

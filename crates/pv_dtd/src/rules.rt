@@ -27,7 +27,8 @@ const MAX_PARTS: u64 = 65_536;
 /// The most bytes of a name that a DTD keeps.
 const MAX_NAME_BYTES: usize = 256;
 
-/// A rule that an item breaks.
+/// A rule that an item breaks after earlier ones, named like the variant of `DtdError` that says
+/// so.
 #[derive(Clone, Copy, Debug, PartialEq, Eq)]
 pub enum Rule {
     Twice,

@@ -69,10 +69,6 @@ found_alone : (o : Option Brackets) → found o [] ≡ is_none o
 found_alone None = refl
 found_alone (Some b) = brackets_alone b
 
--- in one text
-pub text_searched : (us : List (List ℕ)) → is_none (search_units Zero us) ≡ holds_close_mark us
-text_searched us = sym (found_alone (search_units Zero us)) ∙ sym (searched Zero us []) ∙ ap holds_close_mark (append-nil us)
-
 or_part : (a b c : Bool) → (b ≡ true → a ≡ true) → (a || (b || c)) ≡ (a || c)
 or_part true b c h = refl
 or_part false true c h = absurd (let e = h refl in cc)

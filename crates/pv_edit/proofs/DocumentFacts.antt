@@ -11,23 +11,23 @@ use Rattle.pv_tree.specs.Legal.{fits_kids, is_formed, has_names, IsLegalEnding, 
 use Rattle.pv_tree.specs.Units.{HasUnits}
 use Rattle.pv_edit.specs.Changes.{Change, in_place_of, list_after, ending_after, owner_after, first_tree, root_after}
 use Rattle.pv_edit.specs.Effects.{change_of, parent_of, kid_place}
-use Rattle.pv_edit.specs.Fitting.{CanChange}
+use Rattle.pv_edit.specs.FittingChanges.{CanChange}
 use Rattle.pv_edit.specs.Inverses.{IsKept}
 use Rattle.pv_edit.specs.Reasons.{is_top, is_one_element, kids_at, spells_close_mark, reason_of}
 use Rattle.pv_edit.specs.declared.edits.Edit.{Edit}
 use Rattle.pv_edit.specs.declared.edits.Edit.TheVariants.{Wrap, Insert, Unwrap, Rename, Split, Join, SetText, AddText, DelText}
 use Rattle.pv_edit.proofs.Levels.{forest-trees}
 use Rattle.pv_edit.proofs.NodePlaces.{at_node, node_at}
-use Rattle.pv_edit.proofs.Whole.{whole, Made, top-kids, can-change}
+use Rattle.pv_edit.proofs.DocumentAsElement.{whole, Made, top-kids, can-change}
 use Rattle.pv_edit.proofs.CutParts.{between-kid}
 use Rattle.pv_edit.proofs.EachNode.{EachNode, each-node, elements-below, each-old, each-of-list, each-after}
-use Rattle.pv_edit.proofs.Kept.{Named, Formed, United, Lawful, names-each, each-names, formed-each, each-formed, units-each, each-units, legal-each}
-use Rattle.pv_edit.proofs.Kept.{each-legal, names-stay, formed-stay, units-stay, legal-stay, no-attributes, owner-formed, owner-legal}
-use Rattle.pv_edit.proofs.Unbroken.{Unbroken, unbroken-stay, close-each, each-close, front-element}
+use Rattle.pv_edit.proofs.NodeFacts.{Named, Formed, United, Lawful, names-each, each-names, formed-each, each-formed, units-each, each-units, legal-each}
+use Rattle.pv_edit.proofs.NodeFacts.{each-legal, names-stay, formed-stay, units-stay, legal-stay, no-attributes, owner-formed, owner-legal}
+use Rattle.pv_edit.proofs.ListsWithoutCloseMark.{Unbroken, unbroken-stay, close-each, each-close, front-element}
 use Rattle.pv_edit.proofs.Sizes.{nodes-after, depth-after}
 use Rattle.pv_edit.proofs.PassedEdits.{element-at, wrap-passes, insert-passes, unwrap-passes, rename-passes}
 use Rattle.pv_edit.proofs.MadeChanges.{wrap-made, insert-made, unwrap-made, rename-made, split-made, join-made, set-made, add-made, del-made}
-use Rattle.pv_edit.proofs.Fresh.{Fresh, wrap-fresh, insert-fresh, unwrap-fresh, kids-depth, rename-fresh, named-depth, split-fresh, join-fresh, set-fresh, add-fresh, del-fresh}
+use Rattle.pv_edit.proofs.FillingFacts.{Fresh, wrap-fresh, insert-fresh, unwrap-fresh, kids-depth, rename-fresh, named-depth, split-fresh, join-fresh, set-fresh, add-fresh, del-fresh}
 
 document-named : is_name (100 ∷ []) ≡ true
 unfolding is_utf8 chars encode

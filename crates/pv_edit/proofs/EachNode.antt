@@ -6,7 +6,7 @@ use Rattle.pv_tree.specs.Plain.{Ending, Tree, element, text_node, cdata_node, mi
 use Rattle.pv_edit.specs.Changes.{Change, in_place_of, list_after, ending_after, owner_after, change_kid, change_below, root_after}
 use Rattle.pv_edit.proofs.Levels.{forest-trees}
 use Rattle.pv_edit.proofs.NodePlaces.{KidAt, first, later, NodeAt, here, down}
-use Rattle.pv_edit.proofs.Whole.{whole, Owner, Made, after-whole}
+use Rattle.pv_edit.proofs.DocumentAsElement.{whole, Owner, Made, after-whole}
 
 abbrev mutual
   -- a property of this node and of each below it

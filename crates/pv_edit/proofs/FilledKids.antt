@@ -14,7 +14,7 @@ use Rattle.pv_tree.specs.declared.nodes.Node.{Node, Elem}
 use Rattle.pv_tree.proofs.Levels.{trees-forest, kids_of-Elem}
 use Rattle.pv_tree.specs.Places.{kids_of}
 use Rattle.pv_edit.specs.Changes.{all_kids, in_place_of, with_name}
-use Rattle.pv_edit.specs.Fitting.{plain_filling, with_kids}
+use Rattle.pv_edit.specs.FittingChanges.{plain_filling, with_kids}
 use Rattle.pv_edit.specs.Reasons.{is_one_element}
 use Rattle.pv_edit.specs.declared.filling.Filling.{Filling}
 use Rattle.pv_edit.specs.declared.filling.Filling.TheVariants.{Inner}

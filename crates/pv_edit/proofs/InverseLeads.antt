@@ -8,8 +8,8 @@ use Rattle.pv_edit.specs.Inverses.{LeadsBack, change_back, inverse_of, doc_back}
 use Rattle.pv_edit.specs.Reasons.{gives, outcome, reason_of}
 use Rattle.pv_edit.specs.declared.reasons.Reason.{Reason}
 use Rattle.pv_edit.specs.declared.inverses.Inverse.{Inverse}
-use Rattle.pv_edit.proofs.Undone.{inverse-returns}
-use Rattle.pv_edit.proofs.Undone.{edited as edited_root}
+use Rattle.pv_edit.proofs.UndoneEdits.{inverse-returns}
+use Rattle.pv_edit.proofs.UndoneEdits.{edited as edited_root}
 
 pub given-reason : {M : Type 0} (o : Option Reason) (doc made : PlainDoc M) → outcome o doc ≡ gives made → o ≡ None
 given-reason None doc made h = refl

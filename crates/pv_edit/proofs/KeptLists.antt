@@ -5,7 +5,7 @@ use Rattle.pv_tree.specs.Places.{list_at}
 use Rattle.pv_edit.specs.ChangedLists.{changed_lists, makes}
 use Rattle.pv_edit.specs.Changes.{with_name, root_after, doc_after}
 use Rattle.pv_edit.specs.Effects.{change_of, parent_of, kid_place, next_of, units_at}
-use Rattle.pv_edit.specs.Given.{new_units}
+use Rattle.pv_edit.specs.GivenNames.{new_units}
 use Rattle.pv_edit.specs.Origins.{IsKeptList, IsNone}
 use Rattle.pv_edit.specs.Reasons.{is_top, kids_at, lacks_element, reason_of, edit_outcome, gives}
 use Rattle.pv_edit.specs.declared.edits.Edit.{Edit}

@@ -16,7 +16,7 @@ use Rattle.pv_edit.proofs.Levels.{forest-trees}
 use Rattle.pv_edit.proofs.MadeChanges.{wrap-made, insert-made, unwrap-made, rename-made}
 use Rattle.pv_edit.proofs.PassedEdits.{element-at, unwrap-passes, rename-passes}
 use Rattle.pv_edit.proofs.NodePlaces.{KidAt, first, later, NodeAt, here, down}
-use Rattle.pv_edit.proofs.Whole.{whole, Made, after-whole}
+use Rattle.pv_edit.proofs.DocumentAsElement.{whole, Made, after-whole}
 
 kid-leaves : {M : Type 0} {i : ℕ} {kids : Forest M} {k : Tree M} (f : Tree M → Tree M) → KidAt i kids k → leaves_in (f k) ≡ leaves_in k → leaves_in_all (change_kid f i kids) ≡ leaves_in_all kids
 kid-leaves f (first {rest = rest}) h = ap (λ l. l ++ leaves_in_all rest) h

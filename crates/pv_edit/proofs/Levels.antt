@@ -1,19 +1,19 @@
 -- One level of a change in a tree.
 use Rattle.std.proofs.Common.{◌≡◌, ℕ, zero, suc, ◌+◌, ◌-◌, ◌<◌, ◌≤◌, List, [], ◌∷◌, ◌++◌, length, take, drop, get_or, Option, Some, None, slice_get}
-use Rattle.std.proofs.Common.{slice_set, sym, ap, ◌∙◌, arith, refl, subst, IsTrue}
+use Rattle.std.proofs.Common.{slice_set, sym, ap, ◌∙◌, arith, refl, subst}
 use Rattle.std.specs.Prelude.{IsSomeAnd, Result, Ok, Err, OnErr}
 use Rattle.std.specs.Option.{option_map, option_and_then}
 use Rattle.std.proofs.Math.ListN.{get_or-map}
 use Rattle.std.proofs.lemmas.Option.{slice_get-map, slice_get_within, get_or_from_slice_get}
 use Rattle.std.proofs.lemmas.Grind.{common_steps}
 use Rattle.std.proofs.lemmas.List.{map-set, length-map, length-append}
-use Rattle.pv_tree.specs.Plain.{Tree, element, text_node, cdata_node, misc_node, Forest, no_trees, tree, forest_of, trees_of, is_element}
+use Rattle.pv_tree.specs.Plain.{Tree, element, text_node, cdata_node, misc_node, Forest, no_trees, tree, forest_of, trees_of}
 use Rattle.pv_tree.specs.Places.{kids_of, node_below}
 use Rattle.pv_tree.specs.PlainForms.{plain, plain_all}
 use Rattle.pv_tree.specs.declared.nodes.Mark.{Mark}
 use Rattle.pv_tree.specs.declared.nodes.Node.{Node}
 use Rattle.pv_edit.specs.Changes.{change_kid, change_below, first_tree}
-use Rattle.pv_edit.specs.Fitting.{if_made, with_kids}
+use Rattle.pv_edit.specs.FittingChanges.{if_made, with_kids}
 
 pub forest-trees : {M : Type 0} (f : Forest M) → forest_of (trees_of f) ≡ f
 forest-trees no_trees = refl
@@ -115,13 +115,6 @@ pub first_spot : (path : List ℕ) (P : Tree Mark → Type 0) (t : Tree Mark) (k
     → (get_or path 0 0 < length ks) × IsSomeAnd (node_below (take (length path - 1) (drop 1 path)) (plain (get_or ks (get_or path 0 0) d))) P
 first_spot path P t ks d n e h =
     spot_below _ P (get_or path 0 0) t ks d e (subst (λ (q : List ℕ). IsSomeAnd (node_below q t) P) (path-split path n) h)
-
-pub spot_elem : (path : List ℕ) (P : Tree Mark → Type 0) (t : Tree Mark) → 1 ≤ length path → IsSomeAnd (node_below path t) P → IsTrue (is_element t)
-spot_elem [] P t n h = absurd (omega arith)
-spot_elem (i ∷ path) P (element x attrs e k m) n h = refl
-spot_elem (i ∷ path) P (text_node u) n h = absurd h
-spot_elem (i ∷ path) P (cdata_node u) n h = absurd h
-spot_elem (i ∷ path) P (misc_node u) n h = absurd h
 
 too_many : (b : Node) (bs : List Node) (first : Node) (ts : List (Tree Mark)) → plain_all ((b ∷ bs) ++ first ∷ []) ≡ ts → length ts ≡ 1 → ⊥
 too_many b bs first ts e n = let m : length (plain_all (bs ++ first ∷ [])) ≡ length bs + 1 = simp (length-map, length-append) (omega arith) in omega (arith, m, ap length e)

@@ -3,7 +3,7 @@ pub mod FilledKids
 pub mod Levels
 pub mod NodePlaces
 pub mod ListPlaces
-pub mod Whole
+pub mod DocumentAsElement
 pub mod CutParts
 pub mod InverseLeads
 pub mod Sizes
@@ -12,7 +12,7 @@ pub mod RemarkedFacts
 pub mod RemarkedReasons
 pub mod StayingLists
 pub mod KeptLists
-pub mod KeptBack
+pub mod ListsKeptByUndo
 pub mod PreparedChanges
 pub mod ListsChanged
 -- of this crate:
@@ -20,19 +20,19 @@ pub mod ExchangedItems
 pub mod Paths
 pub mod CloseMarkSearch
 pub mod Depths
-pub mod Deep
+pub mod TooDeepChanges
 pub mod ThreeParts
 pub mod FirstReasons
 pub mod PassedEdits
 pub mod MadeChanges
 pub mod UndoneChanges
-pub mod Undone
+pub mod UndoneEdits
 pub mod EachNode
-pub mod Kept
+pub mod NodeFacts
 pub mod Texts
 pub mod SearchBytes
-pub mod Unbroken
-pub mod Fresh
+pub mod ListsWithoutCloseMark
+pub mod FillingFacts
 pub mod DocumentFacts
 pub mod RevertedDocuments
 pub mod LeavesAfterTags

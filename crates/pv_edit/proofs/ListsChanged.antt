@@ -1,7 +1,7 @@
 -- The lists that an edit and its inverse change are those that their changes change.
 use Rattle.std.proofs.Common.{◌≡◌, ◌∙◌, ap, sym, refl, false, List, [], ◌∷◌, ◌++◌, None, ℕ}
 use Rattle.pv_tree.specs.Plain.{Tree, PlainDoc}
-use Rattle.pv_edit.specs.Brought.{lists_changed}
+use Rattle.pv_edit.specs.BroughtElements.{lists_changed}
 use Rattle.pv_edit.specs.ChangedLists.{changed_lists, makes, undoes}
 use Rattle.pv_edit.specs.Effects.{change_of, parent_of, kid_place}
 use Rattle.pv_edit.specs.Inverses.{change_back, inverse_of, put_back}

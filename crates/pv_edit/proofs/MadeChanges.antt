@@ -10,8 +10,8 @@ use Rattle.pv_edit.specs.Effects.{change_of, parent_of, kid_place}
 use Rattle.pv_edit.specs.Reasons.{is_top, is_one_element, kids_at, reason_of, lacks_element}
 use Rattle.pv_edit.specs.declared.edits.Edit.TheVariants.{Wrap, Insert, Unwrap, Rename, Split, Join, SetText, AddText, DelText}
 use Rattle.pv_edit.proofs.ListPlaces.{listed}
-use Rattle.pv_edit.proofs.Deep.{whole_range}
-use Rattle.pv_edit.proofs.Whole.{owner-of, Made}
+use Rattle.pv_edit.proofs.TooDeepChanges.{whole_range}
+use Rattle.pv_edit.proofs.DocumentAsElement.{owner-of, Made}
 use Rattle.pv_edit.proofs.CutParts.{between-kid}
 use Rattle.pv_edit.proofs.PassedEdits.{text-at, element-at, next-kid, text-inside, WrapPasses, wrap-passes, insert-passes, UnwrapPasses}
 use Rattle.pv_edit.proofs.PassedEdits.{unwrap-passes, rename-passes, split-passes, join-passes, set-passes, add-passes, del-passes}

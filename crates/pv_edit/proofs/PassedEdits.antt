@@ -6,7 +6,7 @@ use Rattle.pv_tree.specs.Plain.{Ending, Tree, element, text_node, cdata_node, mi
 use Rattle.pv_tree.specs.Places.{spot_at}
 use Rattle.pv_tree.specs.Places.{at_node as at_spot}
 use Rattle.pv_edit.specs.Effects.{change_of, parent_of, kid_place, next_of, units_on, units_at}
-use Rattle.pv_edit.specs.Given.{is_new_name, is_new_text}
+use Rattle.pv_edit.specs.GivenNames.{is_new_name, is_new_text}
 use Rattle.pv_edit.specs.Reasons.{is_spot, is_text, is_top, is_root, is_one_element, kids_at, lacks_list, lacks_text, lacks_element, goes_too_deep, makes_close_mark, unless, reason_of}
 use Rattle.pv_edit.specs.declared.reasons.Reason.{Reason}
 use Rattle.pv_edit.specs.declared.edits.Edit.{Edit}

@@ -7,10 +7,10 @@ use Rattle.pv_tree.specs.PlainDocs.{plain_doc}
 use Rattle.pv_tree.specs.PlainForms.{plain}
 use Rattle.pv_tree.specs.declared.document.Doc.{Doc}
 use Rattle.pv_tree.specs.declared.nodes.Mark.{Mark}
-use Rattle.pv_edit.specs.Brought.{BringsBare}
+use Rattle.pv_edit.specs.BroughtElements.{BringsBare}
 use Rattle.pv_edit.specs.Changes.{Change, doc_after, root_after}
 use Rattle.pv_edit.specs.Effects.{change_of}
-use Rattle.pv_edit.specs.Fitting.{CanChange, plain_change, plain_filling}
+use Rattle.pv_edit.specs.FittingChanges.{CanChange, plain_change, plain_filling}
 use Rattle.pv_edit.specs.Inverses.{IsKept, LeadsBack, change_back, inverse_of}
 use Rattle.pv_edit.specs.Preparations.{IsPreparation, IsTask}
 use Rattle.pv_edit.specs.Reasons.{edit_outcome, gives, is_top, outcome, reason_of}

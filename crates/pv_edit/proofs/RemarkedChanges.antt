@@ -11,7 +11,7 @@ use Rattle.pv_tree.specs.Places.{at_node as at_spot}
 use Rattle.pv_edit.specs.Changes.{Change, Filling, others, around, inner, named, with_name, all_kids, in_place_of, list_after, ending_after}
 use Rattle.pv_edit.specs.Changes.{with_list, owner_after, change_kid, change_below, first_tree, root_after}
 use Rattle.pv_edit.specs.Effects.{next_of, units_on, units_at}
-use Rattle.pv_edit.specs.Fitting.{CanFill, SuitsChange, TakesChange, CanChange}
+use Rattle.pv_edit.specs.FittingChanges.{CanFill, SuitsChange, TakesChange, CanChange}
 use Rattle.pv_edit.specs.Inverses.{change_back}
 use Rattle.pv_edit.specs.Reasons.{is_one_element, is_spot, is_text, lacks_text}
 use Rattle.pv_edit.specs.declared.inverses.Inverse.{Inverse}

@@ -10,7 +10,7 @@ use Rattle.pv_tree.specs.Legal.{MAX_DEPTH}
 use Rattle.pv_tree.specs.Marks.{unmarked_doc}
 use Rattle.pv_edit.specs.Changes.{Change, list_after, root_after, doc_after}
 use Rattle.pv_edit.specs.Effects.{change_of, next_of, parent_of, kid_place}
-use Rattle.pv_edit.specs.Given.{is_new_name}
+use Rattle.pv_edit.specs.GivenNames.{is_new_name}
 use Rattle.pv_edit.specs.Laws.{MarksDontCount, unmarked_outcome}
 use Rattle.pv_edit.specs.Inverses.{IsKept, LeadsBack, ends_short, name_on, end_of, put_back, inverse_of}
 use Rattle.pv_edit.specs.Reasons.{is_given, is_spot, is_root, is_one_element, items_of, kids_at, lacks_node, lacks_list, lacks_element, lacks_text}

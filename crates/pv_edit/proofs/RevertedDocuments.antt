@@ -4,7 +4,7 @@ use Rattle.pv_tree.specs.Plain.{Tree, PlainDoc, map_marks, without_marks}
 use Rattle.pv_tree.specs.Marks.{unmarked_doc}
 use Rattle.pv_edit.specs.Changes.{Change, doc_after, root_after}
 use Rattle.pv_edit.specs.Effects.{change_of, next_of}
-use Rattle.pv_edit.specs.Fitting.{CanChange}
+use Rattle.pv_edit.specs.FittingChanges.{CanChange}
 use Rattle.pv_edit.specs.Inverses.{IsKept, LeadsBack, change_back, doc_back}
 use Rattle.pv_edit.specs.Preparations.{HasTexts}
 use Rattle.pv_edit.specs.Reasons.{is_top, reason_of}
@@ -13,8 +13,8 @@ use Rattle.pv_edit.specs.declared.inverses.Inverse.TheVariants.{TakeOut, PutBack
 use Rattle.pv_edit.proofs.InverseLeads.{given-reason, given-doc}
 use Rattle.pv_edit.proofs.RemarkedChanges.{units-as, text-as, root-as, can-as, back-as}
 use Rattle.pv_edit.proofs.RemarkedFacts.{kept-from}
-use Rattle.pv_edit.proofs.Undone.{Returns, edited, inverse-returns}
-use Rattle.pv_edit.proofs.Whole.{can-change}
+use Rattle.pv_edit.proofs.UndoneEdits.{Returns, edited, inverse-returns}
+use Rattle.pv_edit.proofs.DocumentAsElement.{can-change}
 
 -- The inverse can be made on this root, and leads to that one.
 pub record Backs {M : Type 0} (blank : M) (root : Tree M) (inverse : Inverse) (before : Tree Unit) : Type 0 where

@@ -14,7 +14,7 @@ use Rattle.pv_edit.specs.Changes.{Change, in_place_of, list_after, owner_after, 
 use Rattle.pv_edit.proofs.Depths.{deeper, node-depth, splice-deeper, middle-depth}
 use Rattle.pv_edit.proofs.Levels.{forest-trees}
 use Rattle.pv_edit.proofs.NodePlaces.{KidAt, first, later, kid_at, NodeAt, here, down}
-use Rattle.pv_edit.proofs.Whole.{whole, Owner, owner-of, Made, after-whole}
+use Rattle.pv_edit.proofs.DocumentAsElement.{whole, Owner, owner-of, Made, after-whole}
 
 kid-nodes : {M : Type 0} {i : ℕ} {kids : Forest M} {k : Tree M} (f : Tree M → Tree M) → KidAt i kids k → nodes_in_all (change_kid f i kids) + nodes_in k ≡ nodes_in_all kids + nodes_in (f k)
 kid-nodes f (first {t = t} {rest = rest}) = omega arith

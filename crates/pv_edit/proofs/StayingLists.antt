@@ -11,7 +11,7 @@ use Rattle.pv_tree.specs.Places.{kids_of}
 use Rattle.pv_tree.specs.Heads.{head_of, heads_of}
 use Rattle.pv_tree.proofs.Levels.{trees-forest}
 use Rattle.pv_edit.specs.Changes.{Change, Filling, others, around, inner, named, with_name, all_kids, in_place_of, list_after, owner_after, change_kid, change_below}
-use Rattle.pv_edit.specs.Fitting.{CanFill}
+use Rattle.pv_edit.specs.FittingChanges.{CanFill}
 use Rattle.pv_edit.specs.Origins.{origin_inside, origin_below, origin_at}
 use Rattle.pv_edit.specs.Reasons.{is_one_element, is_top}
 use Rattle.pv_edit.proofs.CutParts.{front-length}
@@ -83,11 +83,6 @@ get-right : {X : Type 0} (xs ys : List X) (i : ℕ) → slice_get (xs ++ ys) (le
 get-right {X} [] ys i = let e : length {A = X} [] + i ≡ i = omega arith in ap (slice_get ys) e
 get-right (x ∷ xs) ys i = let e : length (x ∷ xs) + i ≡ suc (length xs + i) = omega arith in ap (slice_get (x ∷ xs ++ ys)) e ∙ get-right xs ys i
 
-nodes-in : {M : Type 0} (i : ℕ) (x attrs : List ℕ) (e : Ending) (kids : Forest M) (m : M)
-    (k v : Tree M) (path : List ℕ) → slice_get (trees_of kids) i ≡ Some k → NodeAt path k v →
-    NodeAt (i ∷ path) (element x attrs e kids m) v
-nodes-in i x attrs e kids m k v path q n = down (kid_at i kids k q) n
-
 -- kid number i of the list after the change
 data Place {M : Type 0} (c : Change M) (ts new : List (Tree M)) (i : ℕ) (k : Tree M) : Type 0 where
   in-front : i < c.from → slice_get ts i ≡ Some k → Place c ts new i k
@@ -147,9 +142,6 @@ kid-node : {M : Type 0} {i : ℕ} {x attrs : List ℕ} {e : Ending} {kids : Fore
     M} {m : M} {path : List ℕ} {v : Tree M} → NodeAt (i ∷ path) (element x attrs e kids m) v →
     (k : Tree M) × (slice_get (trees_of kids) i ≡ Some k) × NodeAt path k v
 kid-node (down {k = k} q n) = (k, at_kid q, n)
-
-no-node : {M : Type 0} {i : ℕ} {path : List ℕ} {t v : Tree M} → (is_element t ≡ false) → NodeAt (i ∷ path) t v → ⊥
-no-node h (down q n) = cc
 
 -- new trees have no kids
 abbrev pub HasNoKids : {M : Type 0} → Tree M → Type 0

@@ -38,9 +38,6 @@ pub parted-between : {M : Type 0} {ts : List (Tree M)} {place : ℕ} {front : Li
     between place (place + 1) ts ≡ node ∷ []
 parted-between {front = front} {node = node} {back = back} p = rw (← p.count, p.whole) (between-front front back node)
 
-pub parted-get : {M : Type 0} {ts : List (Tree M)} {place : ℕ} {front : List (Tree M)} {node : Tree M} {back : List (Tree M)} → IsParted ts place front node back → slice_get ts place ≡ Some node
-parted-get {front = front} {node = node} {back = back} p = rw (← p.count, p.whole) (get-front front back node)
-
 pub parted-next : {M : Type 0} {ts : List (Tree M)} {place : ℕ} {front : List (Tree M)} {node : Tree
     M} {back : List (Tree M)} → IsParted ts place front node back → slice_get ts (place + 1)
     ≡ slice_get back 0

@@ -7,14 +7,14 @@ use Rattle.pv_tree.specs.Places.{node_below, list_of, list_at, spot_at}
 use Rattle.pv_tree.specs.Places.{at_node as at_spot}
 use Rattle.pv_tree.specs.Heads.{heads_of}
 use Rattle.pv_edit.specs.Changes.{Change, in_place_of, root_after, doc_after}
-use Rattle.pv_edit.specs.Fitting.{CanFill}
+use Rattle.pv_edit.specs.FittingChanges.{CanFill}
 use Rattle.pv_edit.specs.Inverses.{name_on}
 use Rattle.pv_edit.specs.Origins.{origin_at, origin_below, number_of_new, mark_on, IsSameList, IsKeptList}
 use Rattle.pv_edit.specs.Reasons.{is_top}
 use Rattle.pv_edit.proofs.Levels.{forest-trees}
 use Rattle.pv_edit.proofs.NodePlaces.{NodeAt, at_node, node_at}
 use Rattle.pv_edit.proofs.StayingLists.{HaveNoKids, Brings, LooksSame, Came, stood, came, all-came}
-use Rattle.pv_edit.proofs.Whole.{whole, Made, owner-kids, after-whole, list-whole}
+use Rattle.pv_edit.proofs.DocumentAsElement.{whole, Made, owner-kids, after-whole, list-whole}
 
 -- the owner of a list, the document node as an element
 list-owner : {M : Type 0} (path : List ℕ) (t : Tree M) (o : Option (Tree M))

@@ -9,12 +9,12 @@ use Rattle.pv_tree.specs.Places.{at_node as at_spot}
 use Rattle.pv_tree.specs.Legal.{is_formed, are_formed, fits_kids}
 use Rattle.pv_tree.proofs.Levels.{trees-forest}
 use Rattle.pv_edit.specs.Changes.{Change, in_place_of, list_after, ending_after, owner_after, change_kid, change_below, root_after}
-use Rattle.pv_edit.specs.Fitting.{CanFill}
+use Rattle.pv_edit.specs.FittingChanges.{CanFill}
 use Rattle.pv_edit.specs.Inverses.{is_short, ends_short}
 use Rattle.pv_edit.specs.Reasons.{is_top}
 use Rattle.pv_edit.proofs.Levels.{forest-trees}
 use Rattle.pv_edit.proofs.NodePlaces.{KidAt, first, later, NodeAt, here, down, at_node}
-use Rattle.pv_edit.proofs.Whole.{whole, Owner, Made, top-kids, after-whole}
+use Rattle.pv_edit.proofs.DocumentAsElement.{whole, Owner, Made, top-kids, after-whole}
 use Rattle.pv_edit.proofs.CutParts.{new-part, list-back, list-length}
 
 -- The second change puts back what gave way in the first.

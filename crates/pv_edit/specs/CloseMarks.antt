@@ -50,7 +50,7 @@ search_parts front middle back =
     option_and_then (λ b. option_and_then (λ c. search_trees c back) (search_trees b middle))
     (search_trees Zero front)
 
--- the same up to the first node that is no text
+-- some nodes, searched up to the first one that is no text
 abbrev pub search_run : {M : Type 0} → Brackets → List (Tree M) → Option Brackets
 search_run b [] = Some b
 search_run b (element x attrs ending kids mark ∷ ts) = Some Zero
@@ -78,7 +78,7 @@ pub record IsNear {M : Type 0} (front middle back : List (Tree M)) (result : Opt
   pub ends : EndsBy front run
   pub is : result ≡ search_near run middle back
 
--- the same by the bytes of a text
+-- the bytes of a text, searched
 abbrev pub search_bytes : Brackets → List ℕ → Option Brackets
 search_bytes b [] = Some b
 search_bytes b (byte ∷ bytes) = option_and_then (λ c. search_bytes c bytes) (after_byte b byte)

@@ -3,7 +3,7 @@ use Rattle.std.specs.Prelude.{ℕ, ◌+◌, false, List, [], ◌∷◌, ◌++◌
 use Rattle.pv_tree.specs.Plain.{Tree, element, text_node, cdata_node, misc_node, no_trees, short}
 use Rattle.pv_tree.specs.Plain.{tagged}
 use Rattle.pv_tree.specs.Places.{Spot, at_document, at_node, spot_at}
-use Rattle.pv_edit.specs.Given.{new_units}
+use Rattle.pv_edit.specs.GivenNames.{new_units}
 use Rattle.pv_edit.specs.Changes.{Change, Filling, others, around, inner, named}
 use Rattle.pv_edit.specs.declared.edits.Edit.{Edit}
 use Rattle.pv_edit.specs.declared.edits.Edit.TheVariants.{Wrap, Insert, Unwrap, Rename, Split, Join}

@@ -4,16 +4,16 @@ use Rattle.std.specs.List.{list_any}
 use Rattle.pv_chars.specs.Units.{TextMeans}
 use Rattle.pv_tree.specs.Plain.{Tree, PlainDoc, is_element, nodes_in}
 use Rattle.pv_tree.specs.Places.{list_at}
-use Rattle.pv_edit.specs.Brought.{BringsBare, lists_changed}
+use Rattle.pv_edit.specs.BroughtElements.{BringsBare, lists_changed}
 use Rattle.pv_edit.specs.ChangedLists.{changed_lists, makes, undoes}
 use Rattle.pv_edit.specs.Changes.{Change, doc_after}
 use Rattle.pv_edit.specs.Counts.{nodes_made, nodes_taken}
 use Rattle.pv_edit.specs.Effects.{change_of}
-use Rattle.pv_edit.specs.Fitting.{CanChange}
+use Rattle.pv_edit.specs.FittingChanges.{CanChange}
 use Rattle.pv_edit.specs.Origins.{IsKeptList, IsNone}
 use Rattle.pv_tree.specs.Legal.{MAX_NODES}
 use Rattle.pv_tree.specs.Marks.{unmarked_doc}
-use Rattle.pv_edit.specs.Given.{is_line_end, is_new_text, new_units}
+use Rattle.pv_edit.specs.GivenNames.{is_line_end, is_new_text, new_units}
 use Rattle.pv_edit.specs.Inverses.{IsKept, LeadsBack, change_back, inverse_of, doc_back}
 use Rattle.pv_edit.specs.Leaves.{IsOfTags, leaves_in}
 use Rattle.pv_edit.specs.Reasons.{Outcome, edit_outcome, gives, refuses}

@@ -1,7 +1,7 @@
 pub mod Edits
-pub mod Given
+pub mod GivenNames
 pub mod Changes
-pub mod Brought
+pub mod BroughtElements
 pub mod Effects
 pub mod Reasons
 pub mod Inverses
@@ -10,7 +10,7 @@ pub mod Counts
 pub mod Places
 pub mod CloseMarks
 pub mod Refusals
-pub mod Fitting
+pub mod FittingChanges
 pub mod Laws
 pub mod Preparations
 pub mod Leaves

@@ -6,7 +6,7 @@ use Rattle.pv_tree.specs.Marks.{blank_mark}
 use Rattle.pv_edit.specs.Effects.{change_of, next_of, units_at}
 use Rattle.pv_edit.specs.Inverses.{inverse_of, change_back}
 use Rattle.pv_edit.specs.Reasons.{lacks_text}
-use Rattle.pv_edit.specs.Fitting.{plain_task}
+use Rattle.pv_edit.specs.FittingChanges.{plain_task}
 use Rattle.pv_edit.specs.declared.edits.Edit.{Edit}
 use Rattle.pv_edit.specs.declared.inverses.Inverse.{Inverse}
 use Rattle.pv_edit.specs.declared.inverses.Inverse.TheVariants.{TakeOut, PutBack, Name, Merge}

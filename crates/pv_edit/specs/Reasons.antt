@@ -6,7 +6,7 @@ use Rattle.pv_tree.specs.Plain.{Tree, element, text_node, cdata_node, misc_node,
 use Rattle.pv_tree.specs.Plain.{tree, forest_of, depth_of, is_element, PlainDoc}
 use Rattle.pv_tree.specs.Places.{Spot, at_document, at_node, spot_at, list_at}
 use Rattle.pv_tree.specs.Legal.{front_units, MAX_DEPTH}
-use Rattle.pv_edit.specs.Given.{is_new_name, is_new_text}
+use Rattle.pv_edit.specs.GivenNames.{is_new_name, is_new_text}
 use Rattle.pv_edit.specs.Changes.{Change, list_after, root_after, doc_after}
 use Rattle.pv_edit.specs.Effects.{change_of, next_of, units_at}
 use Rattle.pv_edit.specs.declared.edits.Edit.{Edit}

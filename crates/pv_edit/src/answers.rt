@@ -24,6 +24,11 @@ pub struct Done {
 /// Why an edit isn't accepted.
 ///
 /// A session prints the first three as `no shape not-element`, `no impossible 0.3` and `no limit`.
+///
+/// ```rust
+/// let answer = EditAnswer::from(EditError::Shape(Reason::Range));
+/// assert!(rt; matches!(answer, EditAnswer::Shape(Reason::Range)));
+/// ```
 #[derive(Debug, Drop)]
 pub enum EditAnswer {
     /// It can't be made; this is the first reason.
@@ -56,7 +61,7 @@ impl From<EditError> for EditAnswer {
     }
 }
 
-/// What is known of one list.
+/// What is known of one list: its path, its verdict, and when it was last changed.
 ///
 /// A session prints one as `0.3 valid 6`.
 #[derive(Debug, Drop)]
@@ -67,5 +72,7 @@ pub struct VerdictRow {
     pub stamp: u64,
 }
 
-/// Rows in order.
+/// A row for each list of a document, in document order.
+///
+/// See `Session::verdict_rows` of pv_session.
 pub type VerdictRows = List<VerdictRow>;

@@ -6,6 +6,11 @@ use pv_tree::Path;
 /// kids, counted from 0.
 ///
 /// The lines `offer 0 0 1` and `offer 0.1` of a script ask them.
+///
+/// ```rust
+/// let ask = Ask::Wrap { path: Path::new(alloc, &[0])?, from: 0, to: 1 };
+/// assert!(rt; matches!(&ask, Ask::Wrap { from: 0, to: 1, .. }));
+/// ```
 #[derive(Debug, Drop)]
 pub enum Ask {
     /// Which names a new element may have that holds the kids from `from` up to but not including

@@ -6,8 +6,8 @@ ghost use Rattle.pv_tree.specs.Places.{kids_of, node_below};
 ghost use Rattle.pv_tree.specs.PlainForms.{plain, plain_all, plain_end};
 ghost use Rattle.pv_edit.specs.Changes.{change_below, ending_after, owner_after, root_after};
 ghost use Rattle.pv_edit.specs.Changes.{with_list};
-ghost use Rattle.pv_edit.specs.Fitting.{CanChange, TakesChange, TakesTop, if_made, plain_change};
-ghost use Rattle.pv_edit.specs.Fitting.{with_kids};
+ghost use Rattle.pv_edit.specs.FittingChanges.{CanChange, TakesChange, TakesTop, if_made, plain_change};
+ghost use Rattle.pv_edit.specs.FittingChanges.{with_kids};
 
 use crate::filling::fill;
 use crate::tasks::Change;
@@ -104,7 +104,7 @@ fn placeholder(alloc: Global) -> Node {
     Node::Misc(List::of(Vec::new(alloc)))
 }
 
-/// Takes an element's kids out.
+/// Takes the kids out of an element, which has none then.
 ///
 /// ```rust
 /// let mut doc = read_doc(alloc, b"<a> <b/>x</a>", b"a")?;

@@ -1,4 +1,4 @@
-//! Edits.
+//! Edits: the changes that a user can make.
 
 ghost use Rattle.std.specs.Prelude.{◌≡◌, IfOk};
 ghost use Rattle.pv_edit.specs.Edits.{path_named};
@@ -11,6 +11,12 @@ use std::alloc::Global;
 ///
 /// The examples are lines of scripts, as the tests of test_layers read them. They are on
 /// `<doc>Hello</doc>` but where another document is named.
+///
+/// ```rust
+/// let doc = read_doc(alloc, b"<doc>Hello</doc>", b"doc")?;
+/// let edit = Edit::Rename { path: Path::new(alloc, &[0])?, name: bytes_of(alloc, b"root")? };
+/// assert!(rt; shape(alloc, &doc, &edit).is_ok());
+/// ```
 #[derive(Debug, Drop)]
 pub enum Edit {
     /// Puts the kids from `from` up to but not including `to` into a new element.
@@ -139,5 +145,11 @@ pub(crate) fn path_of(alloc: Global, path: &Path) -> Result<Path, NoMemory>
     Path::new(alloc, path.places())
 }
 
-/// Edits in order.
+/// Edits in the order in which they were made.
+///
+/// ```rust
+/// let edit = Edit::Unwrap { path: Path::new(alloc, &[0, 1])? };
+/// let edits = Edits::of(vec![in alloc; edit]?);
+/// assert!(rt; edits.as_slice().len() == 1);
+/// ```
 pub type Edits = List<Edit>;

@@ -8,7 +8,7 @@ ghost use Rattle.pv_tree.specs.Places.{kids_of};
 ghost use Rattle.pv_tree.specs.PlainForms.{plain, plain_all};
 ghost use Rattle.pv_edit.specs.Changes.{all_kids, with_name};
 ghost use Rattle.pv_edit.specs.Reasons.{is_one_element};
-ghost use Rattle.pv_edit.specs.Fitting.{CanFill, plain_filling, with_filling, with_kids};
+ghost use Rattle.pv_edit.specs.FittingChanges.{CanFill, plain_filling, with_filling, with_kids};
 
 use crate::descent::{put_kids, take_kids};
 use pv_chars::{Bytes, NoMemory};
@@ -18,6 +18,13 @@ use std::alloc::Global;
 /// What comes in place of some kids.
 ///
 /// An insertion has `Others`, a wrap `Around`, an unwrap `Inner` and a renaming `Named`.
+///
+/// ```rust
+/// let doc = read_doc(alloc, b"<a> <b/>x</a>", b"a")?;
+/// let edit = Edit::Unwrap { path: Path::new(alloc, &[0, 1])? };
+/// let ready = prepare(alloc, &doc, &edit)?;
+/// assert!(rt; matches!(&ready.task.change.filling, Filling::Inner));
+/// ```
 #[derive(Debug, Drop)]
 pub enum Filling {
     /// These nodes.

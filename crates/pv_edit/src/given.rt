@@ -3,7 +3,7 @@
 ghost use Rattle.std.specs.Prelude.{◌≡◌, ◌↔◌, is_some, IsTrue, IfOk, IfSome};
 ghost use Rattle.std.specs.List.{list_any};
 ghost use Rattle.pv_chars.specs.declared.errors.TextError.TheVariants as text_error;
-ghost use Rattle.pv_edit.specs.Given.{is_line_end, is_new_name, is_new_text, new_units};
+ghost use Rattle.pv_edit.specs.GivenNames.{is_line_end, is_new_name, is_new_text, new_units};
 
 use pv_chars::{NoMemory, TextError, Units, is_name, text_units};
 use std::alloc::Global;

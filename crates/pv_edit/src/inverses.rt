@@ -8,6 +8,14 @@ use pv_tree::{End, Path};
 ///
 /// That of `wrap 0 0 1 p` is `TakeOut` at `[0, 0]`, and that of `split 0.0 2` is `Merge` at
 /// `[0, 0]`.
+///
+/// ```rust
+/// let doc = read_doc(alloc, b"<doc>Hello</doc>", b"doc")?;
+/// let edit = Edit::Split { path: Path::new(alloc, &[0, 0])?, at: 2 };
+/// let ready = prepare(alloc, &doc, &edit)?;
+/// assert!(rt; matches!(&ready.inverse, Inverse::Merge { path }
+///     if path.places() == [0, 0].as_slice()));
+/// ```
 #[derive(Debug, Drop)]
 pub enum Inverse {
     /// Puts an element's kids in its place.

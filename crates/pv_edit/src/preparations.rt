@@ -8,7 +8,7 @@ ghost use Rattle.pv_tree.specs.PlainForms.{plain};
 ghost use Rattle.pv_tree.specs.Marks.{blank_mark};
 ghost use Rattle.pv_edit.specs.Changes.{around, named, others};
 ghost use Rattle.pv_edit.specs.Effects.{fill, fill_node, parent_of, kid_place};
-ghost use Rattle.pv_edit.specs.Fitting.{plain_task};
+ghost use Rattle.pv_edit.specs.FittingChanges.{plain_task};
 ghost use Rattle.pv_edit.specs.Inverses.{put_back};
 ghost use Rattle.pv_edit.specs.Reasons.{lacks_element, reason_of};
 ghost use Rattle.pv_edit.specs.Preparations.{IsPreparation};

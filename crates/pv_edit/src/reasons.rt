@@ -12,6 +12,13 @@ use thiserror::Error;
 /// The examples are lines of scripts on `<doc><head/><sec><p><em>]]</em>></p></sec></doc>` but
 /// where another document is named; `reasons_at_elements` and `reasons_at_texts` of test_layers
 /// have them.
+///
+/// ```rust
+/// let doc = read_doc(alloc, b"<doc>Hello</doc>", b"doc")?;
+/// let edit = Edit::Unwrap { path: Path::new(alloc, &[9])? };
+/// let found = shape(alloc, &doc, &edit);
+/// assert!(rt; matches!(found, Err(EditError::Shape(Reason::NoNode))));
+/// ```
 #[derive(Clone, Copy, Debug, PartialEq, Eq)]
 pub enum Reason {
     /// Nothing stands at the path.
@@ -43,9 +50,17 @@ pub enum Reason {
     CloseMark,
 }
 
-/// Why an edit isn't made.
+/// Why an edit isn't made. The document is as it was.
 ///
 /// A session prints the first as `no shape range`.
+///
+/// ```rust
+/// let doc = read_doc(alloc, b"<doc>Hello</doc>", b"doc")?;
+/// let path = Path::new(alloc, &[0])?;
+/// let edit = Edit::Wrap { path, from: 2, to: 1, name: bytes_of(alloc, b"p")? };
+/// let found = shape(alloc, &doc, &edit);
+/// assert!(rt; matches!(found, Err(EditError::Shape(Reason::Range))));
+/// ```
 #[derive(Debug, Drop, Error)]
 pub enum EditError {
     /// It can't be made; this is the first reason.

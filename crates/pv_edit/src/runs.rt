@@ -4,7 +4,7 @@ ghost use Rattle.std.specs.Prelude.{◌≡◌, ◌≤◌, ℕ, List, length};
 ghost use Rattle.pv_tree.specs.PlainDocs.{plain_doc};
 ghost use Rattle.pv_tree.specs.Marks.{blank_mark};
 ghost use Rattle.pv_edit.specs.Effects.{change_of, parent_of};
-ghost use Rattle.pv_edit.specs.Given.{new_units};
+ghost use Rattle.pv_edit.specs.GivenNames.{new_units};
 ghost use Rattle.pv_edit.specs.Reasons.{kids_at, makes_close_mark};
 ghost use Rattle.pv_edit.specs.Places.{IsInner};
 ghost use Rattle.pv_edit.specs.declared.edits.Edit.TheVariants as edit;

@@ -6,7 +6,7 @@ ghost use Rattle.pv_tree.specs.PlainDocs.{plain_doc};
 ghost use Rattle.pv_tree.specs.PlainForms.{plain, plain_end};
 ghost use Rattle.pv_edit.specs.Changes.{others};
 ghost use Rattle.pv_edit.specs.Effects.{fill, parent_of, kid_place};
-ghost use Rattle.pv_edit.specs.Fitting.{plain_task, plain_filling};
+ghost use Rattle.pv_edit.specs.FittingChanges.{plain_task, plain_filling};
 ghost use Rattle.pv_edit.specs.Inverses.{ends_short, is_short};
 
 use crate::filling::Filling;
@@ -19,6 +19,14 @@ use std::alloc::Global;
 /// A change of one list: others come in place of the kids from one place up to another.
 ///
 /// By `insert 0 0 head` no kid gives way: `from` and `to` are 0, and the filling is a new `head`.
+///
+/// ```rust
+/// let doc = read_doc(alloc, b"<doc>Hello</doc>", b"doc")?;
+/// let path = Path::new(alloc, &[0])?;
+/// let edit = Edit::Insert { path, at: 0, name: bytes_of(alloc, b"head")? };
+/// let ready = prepare(alloc, &doc, &edit)?;
+/// assert!(rt; ready.task.change.from == 0 && ready.task.change.to == 0);
+/// ```
 #[derive(Debug, Drop)]
 pub struct Change {
     pub from: usize,
@@ -31,6 +39,14 @@ pub struct Change {
 /// A change of the list at a path.
 ///
 /// By `rename 0.2 p` the list is that of the root, at `[0]`, and the change is of its third kid.
+///
+/// ```rust
+/// let doc = read_doc(alloc, b"<doc><a/><b/><c/></doc>", b"doc")?;
+/// let path = Path::new(alloc, &[0, 2])?;
+/// let edit = Edit::Rename { path, name: bytes_of(alloc, b"p")? };
+/// let ready = prepare(alloc, &doc, &edit)?;
+/// assert!(rt; ready.task.list.places() == [0].as_slice() && ready.task.change.from == 2);
+/// ```
 #[derive(Debug, Drop)]
 pub struct Task {
     pub list: Path,
@@ -41,6 +57,15 @@ pub struct Task {
 ///
 /// That of `wrap 0 0 1 p` puts a `p` around the first kid, and its inverse takes out the node at
 /// `[0, 0]`.
+///
+/// ```rust
+/// let doc = read_doc(alloc, b"<doc>Hello</doc>", b"doc")?;
+/// let path = Path::new(alloc, &[0])?;
+/// let edit = Edit::Wrap { path, from: 0, to: 1, name: bytes_of(alloc, b"p")? };
+/// let ready = prepare(alloc, &doc, &edit)?;
+/// assert!(rt; matches!(&ready.inverse, Inverse::TakeOut { path, .. }
+///     if path.places() == [0, 0].as_slice()));
+/// ```
 #[derive(Debug, Drop)]
 pub struct Preparation {
     pub task: Task,
@@ -95,7 +120,7 @@ pub(crate) fn last_place(path: &[u32]) -> u32
     }
 }
 
-/// The path of a kid.
+/// The path of the kid of this number, counted from 0, in the list at a path.
 ///
 /// ```rust
 /// let path = kid_path(alloc, &Path::new(alloc, &[0])?, 2)?;

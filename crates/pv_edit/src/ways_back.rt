@@ -6,7 +6,7 @@ ghost use Rattle.pv_tree.specs.PlainForms.{plain_end};
 ghost use Rattle.pv_tree.specs.Marks.{blank_mark};
 ghost use Rattle.pv_edit.specs.Changes.{around, others};
 ghost use Rattle.pv_edit.specs.Effects.{fill, fill_node, one_text, parent_of, kid_place};
-ghost use Rattle.pv_edit.specs.Fitting.{plain_task, plain_filling};
+ghost use Rattle.pv_edit.specs.FittingChanges.{plain_task, plain_filling};
 ghost use Rattle.pv_edit.specs.Preparations.{HasTexts, IsTask};
 
 use crate::edits::path_of;

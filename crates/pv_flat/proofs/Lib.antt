@@ -1,5 +1,5 @@
 -- of this crate:
-pub mod Given
+pub mod EventsSoFar
 pub mod StateMoves
 pub mod Openings
 pub mod RootRefusals

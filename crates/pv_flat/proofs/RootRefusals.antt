@@ -15,7 +15,7 @@ use Rattle.pv_read.specs.declared.errors.DocError.{DocError}
 use Rattle.pv_read.specs.declared.errors.DocError.TheVariants.{Deep, DoctypeName, Entity, Limit, Mismatch, NoMemory, Subset, Syntax}
 use Rattle.pv_read.proofs.Prologs.{by_test, same_some}
 use Rattle.pv_flat.specs.Plain.{events_of}
-use Rattle.pv_flat.specs.Coming.{IsIn, RestComes, ends_with}
+use Rattle.pv_flat.specs.ComingEvents.{IsIn, RestComes, ends_with}
 
 -- the prolog is left behind
 abbrev pub IsPastProlog : Left Mark → Type 0

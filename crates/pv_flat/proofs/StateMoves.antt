@@ -8,9 +8,9 @@ use Rattle.pv_read.specs.Meaning.{is_document}
 use Rattle.pv_read.specs.Steps.{TakesItem}
 use Rattle.pv_read.proofs.Prologs.{same_some, takes_leads}
 use Rattle.pv_flat.specs.Plain.{PlainEvent, events_so_far}
-use Rattle.pv_flat.specs.Coming.{TextEnd, IsIn, RestComes, ends_with, refused_as}
+use Rattle.pv_flat.specs.ComingEvents.{TextEnd, IsIn, RestComes, ends_with, refused_as}
 use Rattle.pv_flat.specs.Steps.{open_names_behind}
-use Rattle.pv_flat.proofs.Given.{given_by, known-taken, one-more}
+use Rattle.pv_flat.proofs.EventsSoFar.{given_by, known-taken, one-more}
 
 -- an item more, and its events
 pub rest-step : (root : List ℕ) (k : ℕ) (left : Left Mark) (rest : List ℕ) (i : Item)

@@ -16,11 +16,11 @@ use Rattle.pv_read.specs.declared.errors.DocError.{DocError}
 use Rattle.pv_read.specs.declared.errors.DocError.TheVariants.{Deep, DoctypeName, Entity, Limit, Mismatch, NoMemory, Subset, Syntax}
 use Rattle.pv_read.specs.declared.forms.items.Item.{Item as SpannedItem}
 use Rattle.pv_flat.specs.Plain.{PlainEvent}
-use Rattle.pv_flat.specs.Coming.{AdvancesBy, EventsCome, ComesAt, ComesInside, TextEnd, IsIn, IsInnermost, RestComes, SameState, TakesInside, open_names, refused_as}
+use Rattle.pv_flat.specs.ComingEvents.{AdvancesBy, EventsCome, ComesAt, ComesInside, TextEnd, IsIn, IsInnermost, RestComes, SameState, TakesInside, open_names, refused_as}
 use Rattle.pv_flat.specs.declared.state.Events.{Events}
 use Rattle.pv_flat.specs.declared.state.Stage.{Stage}
 use Rattle.pv_flat.specs.declared.state.Stage.TheVariants as stage
-use Rattle.pv_flat.proofs.Given.{given_by, names-push}
+use Rattle.pv_flat.proofs.EventsSoFar.{given_by, names-push}
 use Rattle.pv_flat.specs.Steps.{open_names_behind}
 use Rattle.pv_flat.proofs.StateMoves.{inside}
 use Rattle.pv_flat.proofs.RootRefusals.{place-is, refused-inside}

@@ -1,3 +1,3 @@
 pub mod Plain
-pub mod Coming
+pub mod ComingEvents
 pub mod Steps

@@ -8,7 +8,7 @@ use Rattle.pv_read.specs.declared.errors.DocError.{DocError}
 use Rattle.pv_read.specs.declared.errors.DocError.TheVariants.{NoMemory}
 use Rattle.pv_flat.specs.Plain.{PlainEvent, begin_element, cdata_here, end_element, misc_here}
 use Rattle.pv_flat.specs.Plain.{plain_event, text_here}
-use Rattle.pv_flat.specs.Coming.{IsOpening, TakesInside, open_names}
+use Rattle.pv_flat.specs.ComingEvents.{IsOpening, TakesInside, open_names}
 use Rattle.pv_flat.specs.declared.event.Event.{Event}
 use Rattle.pv_flat.specs.declared.state.Events.{Events}
 use Rattle.pv_flat.specs.declared.state.Stage.{Stage}

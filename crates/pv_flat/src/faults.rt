@@ -1,7 +1,7 @@
 //! Faults that are kept, to be told again.
 
 ghost use Rattle.std.specs.Prelude.{◌≡◌};
-ghost use Rattle.pv_flat.specs.Coming.{error_of};
+ghost use Rattle.pv_flat.specs.ComingEvents.{error_of};
 
 use pv_read::DocError;
 

@@ -3,7 +3,7 @@
 //! The events of a document are what begins, ends or stands in its root, in the order of its bytes
 //! (`specs/Plain.antt`). `Events` gives them one by one, with a stack of its own, and reads items
 //! by the functions by which documents are read. What comes from a state on (`Comes`,
-//! `specs/Coming.antt`) is told by what the rest of the text means.
+//! `specs/ComingEvents.antt`) is told by what the rest of the text means.
 #![tactic(auto)]
 
 mod event;

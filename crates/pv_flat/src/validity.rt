@@ -10,7 +10,7 @@ ghost use Rattle.pv_tree.specs.declared.nodes.Mark.{Mark};
 ghost use Rattle.pv_read.specs.Errors.{Refuses};
 ghost use Rattle.pv_read.specs.Meaning.{DocumentMeansWithin, Outcome, is_document};
 ghost use Rattle.pv_read.specs.PlainForms.{Answers};
-ghost use Rattle.pv_flat.specs.Coming.{flat_limits};
+ghost use Rattle.pv_flat.specs.ComingEvents.{flat_limits};
 
 use crate::events::MAX_FLAT_BYTES;
 use pv_dtd::Dtd;

@@ -1,4 +1,4 @@
 -- for other crates:
 pub mod ListWalks
 pub mod Lists
-pub mod Narrow
+pub mod NarrowLists

@@ -4,12 +4,12 @@ use Rattle.std.specs.List.{AllByRecursion}
 use Rattle.pv_tree.specs.Lists.{Listed, lists_at, lists_from, lists_of}
 use Rattle.pv_tree.specs.MarkedLists.{list_alone}
 use Rattle.pv_tree.specs.Plain.{Forest, PlainDoc, Tree, cdata_node, element, misc_node, no_trees, text_node, tree}
-use Rattle.pv_tree.specs.Walking.{ComesToNext, lists_left, path_come_to}
+use Rattle.pv_tree.specs.ListWalks.{ComesToNext, lists_left, path_come_to}
 use Rattle.pv_tree.specs.Walks.{list_given}
 use Rattle.pv_tree.specs.declared.nodes.Mark.{Mark}
 use Rattle.pv_tree.specs.declared.walk.DocList.{DocList}
 use Rattle.pv_tree.specs.declared.walk.Lists.{Lists}
-use Rattle.pv_tree.proofs.Every.{all_joined}
+use Rattle.pv_tree.proofs.JoinedLists.{all_joined}
 use Rattle.pv_missing.specs.WordVerdicts.{HoldsOne}
 
 -- the lists that a walk hasn't come to

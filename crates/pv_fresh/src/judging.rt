@@ -32,7 +32,7 @@ pub fn owner_under(grammar: &Grammar, root: &[u8], owner: OwnerName<'_>) -> Opti
     }
 }
 
-/// Whose list it is, as the grammar knows it.
+/// Whose list it is, as the grammar of a judge knows it.
 pub fn owner_in(judge: &Judge<'_>, root: &[u8], owner: OwnerName<'_>) -> Option<Of>
     ensures { (list : Listed Mark) → list.owner ≡ owner_named owner.entry →
         IsOwner (dtd_of judge.now) root.now list result }

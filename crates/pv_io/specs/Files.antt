@@ -28,16 +28,14 @@ HoldsMore (Some bytes) most = most < length bytes
 
 -- what a fetch of at most so many bytes may answer for a file, or for a name without one
 abbrev pub FetchGives : Option (List ℕ) → ℕ → Result (Vec ℕ Global) FetchError → Type 0
-FetchGives None most (Ok v) = ⊥
-FetchGives None most (Err Failed) = Unit {0}
-FetchGives None most (Err TooLong) = ⊥
-FetchGives None most (Err NoMemory) = Unit {0}
 FetchGives (Some bytes) most (Ok v) = (v.items ≡ bytes) × (length bytes ≤ most)
 FetchGives (Some bytes) most (Err Failed) = length bytes ≤ most
 FetchGives (Some bytes) most (Err TooLong) = most < length bytes
-FetchGives (Some bytes) most (Err NoMemory) = Unit {0}
+FetchGives None most (Err Failed) = Unit {0}
+FetchGives _ most (Err NoMemory) = Unit {0}
+FetchGives None most _ = ⊥
 
--- the same, where the shelf tells its files
+-- what a fetch of at most so many bytes may answer for a name, where the shelf tells its files
 abbrev pub FetchTells : Option (List (List ℕ × List ℕ)) → List ℕ → ℕ →
     Result (Vec ℕ Global) FetchError → Type 0
 FetchTells None name most result = Unit {0}
@@ -45,10 +43,8 @@ FetchTells (Some files) name most result = FetchGives (file_named name files) mo
 
 -- a fetch that answers `Failed` counted a fault, and every other fetch counted none
 abbrev pub FetchCountsFault : ℕ → ℕ → Result (Vec ℕ Global) FetchError → Type 0
-FetchCountsFault before now (Ok v) = CountStays before now
 FetchCountsFault before now (Err Failed) = Rose before now
-FetchCountsFault before now (Err TooLong) = CountStays before now
-FetchCountsFault before now (Err NoMemory) = CountStays before now
+FetchCountsFault before now _ = CountStays before now
 
 -- whether a fetch was a fault of the shelf
 abbrev pub is_fault : Result (Vec ℕ Global) FetchError → Bool

@@ -17,7 +17,7 @@ use std::marker::Model;
 use std::rt::Files;
 use std::{fs, io};
 
-/// Any reader of the standard library.
+/// A source over any reader of the standard library, as standard input.
 #[derive(Drop)]
 pub struct ReadSource<R: Read> {
     reader: R,
@@ -77,7 +77,7 @@ impl<R: Read> Source for ReadSource<R> {
     }
 }
 
-/// Any writer of the standard library.
+/// A sink over any writer of the standard library, as standard output.
 #[derive(Drop)]
 pub struct WriteSink<W: Write> {
     writer: W,
@@ -123,7 +123,7 @@ impl<W: Write> Sink for WriteSink<W> {
     }
 }
 
-/// The machine's files, by their paths.
+/// The machine's files, by their paths. Those may be fetched that the words of a command line name.
 #[derive(Drop)]
 pub struct FolderShelf<'a, R: Files> {
     files: &'a R,
@@ -160,7 +160,7 @@ fn bytes_up_to(files: &impl Files, alloc: Global, name: &str, most: usize) -> io
 }
 
 impl<'a, R: Files> FolderShelf<'a, R> {
-    /// The words of the command line name the files.
+    /// A shelf that hasn't been asked yet, of the files that these words of a command line name.
     pub fn new(files: &'a R, words: &'a [String]) -> FolderShelf<'a, R>
         ensures { result ≡ record { names = fetch_names words.now; calls = 0; faults = 0 } }
     {

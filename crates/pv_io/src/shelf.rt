@@ -1,4 +1,4 @@
-//! Files by their names.
+//! Shelves: where files come from.
 
 ghost use Rattle.std.specs.Prelude.{◌≡◌, ◌≤◌, List, ℕ, IfOk, Contains, vec_len};
 ghost use Rattle.pv_io.specs.Causes.{MadeCalls};
@@ -7,7 +7,7 @@ ghost use Rattle.pv_io.specs.Files.{FetchTells, FetchCountsFault, ShelfNow};
 use std::alloc::Global;
 use thiserror::Error;
 
-/// Why a file was not fetched.
+/// Why a file was not fetched. Only `Failed` counts a fault of the shelf.
 #[derive(Clone, Copy, Debug, PartialEq, Eq, Error)]
 pub enum FetchError {
     /// The file couldn't be opened or read.
@@ -21,7 +21,8 @@ pub enum FetchError {
     NoMemory,
 }
 
-/// Files by their names.
+/// Where files come from: whole files, each by its name, with a count of the calls and of those
+/// that failed.
 pub trait Shelf {
     /// The names that may be fetched.
     ghost names: { Self → List (List ℕ) };
@@ -29,7 +30,8 @@ pub trait Shelf {
     /// What it tells of its files, how often it was asked, and how often it failed.
     ghost moment: { Self → ShelfNow };
 
-    /// The bytes of a file of at most so many.
+    /// The bytes of the file of this name, which are at most `most`. It is `TooLong` where there
+    /// are more.
     fn fetch(&mut self, alloc: Global, name: &str, most: usize) -> Result<Vec<u8>, FetchError>
         requires { Contains (names self.old) name.now }
         ensures bound { IfOk result (λ v. vec_len v ≤ most) }

@@ -1,4 +1,4 @@
-//! Where output goes.
+//! Sinks: where output goes.
 
 ghost use Rattle.std.specs.Prelude.{◌≡◌, ◌≤◌, ◌<◌, List, ℕ, length, Option, IfOk, OnOk, OnErr};
 ghost use Rattle.std.specs.Prelude.{Bool, Some, true};
@@ -7,7 +7,8 @@ ghost use Rattle.pv_io.specs.Causes.{CountsFault, TakesSome, AppendsFront};
 
 use crate::source::Failed;
 
-/// Where output goes.
+/// Where output goes, piece by piece, with a count of the calls that failed. After a failure a sink
+/// may refuse to be asked again.
 pub trait Sink {
     /// The bytes that were written, where they are known.
     ghost written: { Self → Option (List ℕ) };
@@ -29,7 +30,8 @@ pub trait Sink {
         ensures ready { OnOk result (ready self.new ≡ true) };
 }
 
-/// Writes all of the bytes, or a front of them up to a call that failed.
+/// Writes all of the bytes, in as many calls as the sink wants, or a front of them up to a call
+/// that failed.
 pub fn write_all<K: Sink>(sink: &mut K, bytes: &[u8]) -> Result<(), Failed>
     requires { K.ready sink.old ≡ true }
     ensures ok { OnOk result (Appends (K.written sink.old) (K.written sink.new) bytes.now) }

@@ -1,4 +1,4 @@
-//! Where input comes from.
+//! Sources: where input comes from.
 
 ghost use Rattle.std.specs.Prelude.{◌≡◌, List, ℕ, Option, length};
 ghost use Rattle.std.specs.Io.{ReadsAtMost};
@@ -7,12 +7,13 @@ ghost use Rattle.pv_io.specs.Causes.{Asked, CountsFault, FILL_BYTES, WasAsked, e
 
 use thiserror::Error;
 
-/// The outside failed.
+/// A device failed to read or to write. Nothing more is known of it.
 #[derive(Clone, Copy, Debug, PartialEq, Eq, Error)]
 #[error("the outside failed")]
 pub struct Failed;
 
-/// Where input comes from.
+/// Where input comes from, piece by piece, with a count of the calls, of those that gave no byte,
+/// and of those that failed.
 pub trait Source {
     /// The bytes that are left, where they are known.
     ghost left: { Self → Option (List ℕ) };

@@ -8,6 +8,6 @@ pub mod SharedSites
 pub mod ColumnsAsSites
 -- of this crate:
 pub mod RuleDerivations
-pub mod Laid
+pub mod LaidColumns
 pub mod SitesWithin
-pub mod Taken
+pub mod MemberColumns

@@ -9,7 +9,7 @@ use Rattle.pv_rules.specs.Kinds.{OfContent, OfName, OfPart, OfRest, ToOne, ToTwo
 use Rattle.pv_rules.specs.Numbering.{first_part, part_at, rest_at}
 use Rattle.pv_rules.specs.Rules.{Goal, Rule, over}
 use Rattle.pv_rules.specs.Sites.{HasSite, PlainSite, content_site, name_site, part_site, rest_site}
-use Rattle.pv_rules.proofs.ByKind.{by_kind}
+use Rattle.pv_rules.proofs.RulesByKind.{by_kind}
 use Rattle.pv_rules.proofs.DerivationLaws.{HaveAll, passed}
 use Rattle.pv_rules.proofs.Facts.{parts_by_number}
 use Rattle.pv_rules.proofs.SitesKept.{name_below}

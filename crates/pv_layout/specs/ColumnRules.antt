@@ -38,7 +38,7 @@ module _ (w : List PlainToken) (c i j n : ℕ) (xs : List Cell) where
   abbrev pub ToTwo : ℕ → ℕ → ℕ → Type 0
   ToTwo d e k = (i ≤ k) × (k ≤ j) × (j ≤ length w) × (n ≡ 0) × (xs ≡ cell d i k ∷ cell e k j ∷ [])
 
-  -- the same column after a text
+  -- a text, and then the column itself
   abbrev pub ToText : Type 0
   ToText = (i < j) × (j ≤ length w) × (slice_get w i ≡ Some text) × (n ≡ 0) ×
       (xs ≡ cell c (suc i) j ∷ [])

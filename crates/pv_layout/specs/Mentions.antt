@@ -26,11 +26,11 @@ abbrev pub IsMentionTold : Mentions → ℕ → ℕ → Type 0
 IsMentionTold m d c = (p : ℕ) × (start_of m d ≤ p) × (p < start_of m (suc d)) ×
     (slice_get m.above.items p ≡ Some c)
 
--- each column that mentions one of the first n is told to
+-- of each column that mentions one of the first n, this is told
 abbrev pub AreToldAll : List PlainForm → ℕ → Mentions → Type 0
 AreToldAll f n m = (c d : ℕ) → IsOneOf d (columns_mentioned (form_at f c)) → d < n →
     IsMentionTold m d c
 
--- the same of all columns, where anything is told
+-- where anything is told, it is told of each column that mentions another
 abbrev pub AreTold : List PlainForm → Mentions → Type 0
 AreTold f m = 0 < length m.above.items → AreToldAll f (length f) m

@@ -13,7 +13,7 @@ plain_sites s = record {
   rests = s.rests.items;
 }
 
--- the same, whoever owns them
+-- the plain form of the columns of all sites, owned or lent
 abbrev pub plain_columns : SiteColumns → PlainSites
 plain_columns (Own s) = plain_sites s
 plain_columns (Lent s) = plain_sites s.now

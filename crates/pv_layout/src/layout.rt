@@ -132,6 +132,24 @@ fn lay_contents(
     Ok(())
 }
 
+/// Gives all sites their columns, where those of names have theirs.
+fn lay_sites(
+    alloc: Global,
+    grammar: &Grammar,
+    sites: &mut Sites,
+    making: &mut Making,
+) -> Result<(), NoMemory>
+    requires { AreLaid (dtd_of grammar.now) (plain_sites sites.old) making.old.names
+        (plain_all making.old.forms.items) (parts_in_models (dtd_of grammar.now).models) 0 }
+    ensures { OnOk result (AreLaid (dtd_of grammar.now) (plain_sites sites.new)
+        making.new.names (plain_all making.new.forms.items) 0
+        (length (dtd_of grammar.now).models)) }
+{
+    lay_parts(alloc, grammar, sites, making)?;
+    lay_contents(alloc, grammar, sites, making)?;
+    Ok(())
+}
+
 /// What stands in all columns: in those of names, and in those that were made.
 fn all_forms(
     alloc: Global,
@@ -152,16 +170,35 @@ fn all_forms(
     Ok(forms)
 }
 
+/// The columns of all sites, among those that are made.
+fn laid_sites(alloc: Global, grammar: &Grammar, making: &mut Making) -> Result<Sites, NoMemory>
+    requires { making.old.names ≡ length (dtd_of grammar.now).names }
+    ensures { IfOk result (λ sites. AreLaid (dtd_of grammar.now) (plain_sites sites)
+        making.new.names (plain_all making.new.forms.items) 0
+        (length (dtd_of grammar.now).models)) }
+{
+    let mut sites = blank_sites(alloc, making.names, grammar.dtd().parts())?;
+    lay_sites(alloc, grammar, &mut sites, making)?;
+    Ok(sites)
+}
+
+/// The column of each site, and what stands in each column.
+fn sites_and_forms(alloc: Global, grammar: &Grammar) -> Result<(Sites, Vec<Form>), NoMemory>
+    ensures fit { IfOk result (λ columns. AreFit (dtd_of grammar.now) (plain_sites columns.0)
+        (plain_all columns.1.items)) }
+    ensures few { IfOk result (λ columns. length columns.1.items ≤ no_column) }
+{
+    let mut making = Making::new(alloc, grammar.dtd().names())?;
+    let sites = laid_sites(alloc, grammar, &mut making)?;
+    let forms = all_forms(alloc, making.names, &sites.contents, making.forms)?;
+    Ok((sites, forms))
+}
+
 /// A grammar with its columns. Sites that stand for the same words get one.
 pub fn lay_out(alloc: Global, grammar: &Grammar) -> Result<ColumnLayout<'_>, NoMemory>
     ensures { IfOk result (λ layout. layout.grammar.now ≡ grammar.now) }
 {
-    let (names, parts) = (grammar.dtd().names(), grammar.dtd().parts());
-    let mut making = Making::new(alloc, names)?;
-    let mut sites = blank_sites(alloc, names, parts)?;
-    lay_parts(alloc, grammar, &mut sites, &mut making)?;
-    lay_contents(alloc, grammar, &mut sites, &mut making)?;
-    let forms = all_forms(alloc, names, &sites.contents, making.forms)?;
+    let (sites, forms) = sites_and_forms(alloc, grammar)?;
     let mentions = Mentions::of(alloc, &forms)?;
     Ok(ColumnLayout {
         grammar,

@@ -180,31 +180,53 @@ impl Mentions {
         }
     }
 
+    /// So many mentions, put down before the ends of those of each column.
+    fn put_before(
+        alloc: Global,
+        forms: &[Form],
+        ends: Vec<u32>,
+        all: usize,
+    ) -> Result<Mentions, NoMemory> {
+        let mut starts = ends;
+        let mut above = vec![in alloc; 0u32; all]?;
+        let mut places = vec![in alloc; 0u32; all]?;
+        put_all(forms, &mut starts, &mut above, &mut places);
+        Ok(Mentions {
+            starts,
+            above,
+            places,
+        })
+    }
+
+    /// Whether all mentions of all columns are told, those of each column before its end.
+    fn are_all(&self, forms: &[Form], ends: Vec<u32>) -> bool
+        requires few { length forms.now < 2 ^ 32 }
+        ensures { IsTrue result →
+            AreToldAll (plain_all forms.now) (length (plain_all forms.now)) self.now }
+    {
+        let mut ends = ends;
+        if ends.len() != forms.len() {
+            return false;
+        }
+        tells_all(self, forms, &mut ends)
+    }
+
     /// The mentions of all columns, in two passes over what stands in them, which a third one
     /// looks up.
     pub fn of(alloc: Global, forms: &[Form]) -> Result<Mentions, NoMemory>
         requires few { length forms.now < 2 ^ 32 }
         ensures { IfOk result (λ mentions. AreTold (plain_all forms.now) mentions) }
     {
-        let mut starts = vec![in alloc; 0u32; forms.len()]?;
-        count_all(forms, &mut starts);
-        let all = add_up(&mut starts);
-        let mut ends = starts.clone()?;
-        let mut above = vec![in alloc; 0u32; all as usize]?;
-        let mut places = vec![in alloc; 0u32; all as usize]?;
-        put_all(forms, &mut starts, &mut above, &mut places);
-        let mentions = Mentions {
-            starts,
-            above,
-            places,
-        };
-        if ends.len() != forms.len() {
-            return Ok(Mentions::none(alloc));
+        let mut counts = vec![in alloc; 0u32; forms.len()]?;
+        count_all(forms, &mut counts);
+        let all = add_up(&mut counts);
+        let ends = counts.clone()?;
+        let mentions = Mentions::put_before(alloc, forms, counts, all as usize)?;
+        if mentions.are_all(forms, ends) {
+            Ok(mentions)
+        } else {
+            Ok(Mentions::none(alloc))
         }
-        if !tells_all(&mentions, forms, &mut ends) {
-            return Ok(Mentions::none(alloc));
-        }
-        Ok(mentions)
     }
 
     /// Whether no column is mentioned, as far as is told.

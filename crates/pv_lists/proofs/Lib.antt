@@ -4,8 +4,8 @@ pub mod SimpleRuns
 pub mod KnownTags
 pub mod Stack
 pub mod TypesFound
-pub mod Behind
-pub mod Taken
+pub mod FactsAfterItems
+pub mod RootItems
 pub mod Refusals
-pub mod Whole
-pub mod FirstJudged
+pub mod WholeDocuments
+pub mod FirstOfLists

@@ -16,7 +16,7 @@ use Rattle.pv_tree.specs.Lists.{Listed, an_element, lists_at, lists_from}
 use Rattle.pv_tree.specs.Words.{node_before, word_of}
 use Rattle.pv_tree.specs.declared.nodes.Mark.{Mark}
 use Rattle.pv_read.specs.Left.{Open, just_opened, with_kid}
-use Rattle.pv_lists.specs.Judging.{IsEnded, Judgement, MAX_KIDS, ended_list, path_in}
+use Rattle.pv_lists.specs.Judgements.{IsEnded, Judgement, MAX_KIDS, ended_list, path_in}
 use Rattle.pv_lists.specs.OpenLists.{IsOpen, AreOpen, HasReadTo, HasEnded, HasRoom, MayGrow, ended_element}
 use Rattle.pv_lists.specs.WholeLists.{next_path, whole_lists, kids_in}
 use Rattle.pv_lists.specs.declared.open.OpenList.{OpenList}

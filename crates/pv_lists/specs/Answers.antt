@@ -7,7 +7,7 @@ use Rattle.pv_read.specs.Errors.{Refuses}
 use Rattle.pv_read.specs.Limits.{TextLimits}
 use Rattle.pv_read.specs.Meaning.{Outcome}
 use Rattle.pv_read.specs.PlainForms.{Answers}
-use Rattle.pv_lists.specs.Judging.{Judgement, MAX_KIDS}
+use Rattle.pv_lists.specs.Judgements.{Judgement, MAX_KIDS}
 use Rattle.pv_lists.specs.OpenLists.{HasRoot}
 use Rattle.pv_lists.specs.declared.errors.ReadError.{ReadError}
 use Rattle.pv_lists.specs.declared.errors.ReadError.TheVariants.{Document, Judge}

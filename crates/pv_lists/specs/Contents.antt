@@ -9,7 +9,7 @@ use Rattle.pv_read.specs.Items.{Item}
 use Rattle.pv_read.specs.Left.{Open, in_content, in_epilog, just_opened, left_by}
 use Rattle.pv_read.specs.Prologs.{behind_tag}
 use Rattle.pv_read.specs.Steps.{LeadsBehind, TakesItem}
-use Rattle.pv_lists.specs.Judging.{Judgement}
+use Rattle.pv_lists.specs.Judgements.{Judgement}
 use Rattle.pv_lists.specs.WholeLists.{kids_in, whole_lists}
 use Rattle.pv_lists.specs.OpenLists.{HasReadTo, HasRoot}
 use Rattle.pv_lists.specs.declared.open.OpenLists.{OpenLists}

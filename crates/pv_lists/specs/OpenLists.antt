@@ -12,7 +12,7 @@ use Rattle.pv_tree.specs.Lists.{IsRootElement, lists_at}
 use Rattle.pv_tree.specs.Words.{word_of}
 use Rattle.pv_tree.specs.declared.nodes.Mark.{Mark}
 use Rattle.pv_read.specs.Left.{Open, with_kid}
-use Rattle.pv_lists.specs.Judging.{Judgement, MAX_KIDS}
+use Rattle.pv_lists.specs.Judgements.{Judgement, MAX_KIDS}
 use Rattle.pv_lists.specs.WholeLists.{whole_lists}
 use Rattle.pv_lists.specs.declared.open.OpenList.{OpenList}
 use Rattle.pv_lists.specs.declared.open.OpenLists.{OpenLists}
@@ -30,7 +30,7 @@ pub record IsOpen {B F : Type 0} (m : Judgement B F) (root : List ℕ) (list : O
   pub is_word : tokens ≡ below ++ word_of m.dtd (forest_of o.kids)
   pub notes : m.notes root (whole_lists outer) list.before
 
--- the same of all open elements, innermost first, with all tokens
+-- This is known of all open elements, innermost first, and all tokens are those of their words.
 abbrev pub AreOpen : {B F : Type 0} → Judgement B F → List ℕ → List (OpenList B) →
     List (Open Mark) → List PlainToken → Type 0
 AreOpen m root [] [] tokens = tokens ≡ []

@@ -8,7 +8,7 @@ ghost use Rattle.pv_read.specs.Meaning.{DocumentRestMeans};
 ghost use Rattle.pv_read.specs.Prologs.{behind_tag};
 ghost use Rattle.pv_lists.specs.Answers.{RefusesLists};
 ghost use Rattle.pv_lists.specs.Contents.{TakesInto, ReadsRoot};
-ghost use Rattle.pv_lists.specs.Judging.{MAX_KIDS};
+ghost use Rattle.pv_lists.specs.Judgements.{MAX_KIDS};
 ghost use Rattle.pv_lists.specs.OpenLists.{HasReadTo, HasRoom, MayGrow};
 ghost use Rattle.pv_lists.specs.Types.{AreTypes};
 

@@ -4,7 +4,7 @@ ghost use Rattle.std.specs.Prelude.{◌≡◌, [], ℕ, List, OnOk};
 ghost use Rattle.pv_dtd.specs.PlainForms.{plain_dtd};
 ghost use Rattle.pv_tree.specs.Lists.{Listed};
 ghost use Rattle.pv_tree.specs.declared.nodes.Mark.{Mark};
-ghost use Rattle.pv_lists.specs.Judging.{FindsEnded, Judgement, MayBeJudged};
+ghost use Rattle.pv_lists.specs.Judgements.{FindsEnded, Judgement, MayBeJudged};
 
 use crate::open::OpenList;
 use pv_chars::NoMemory;

@@ -5,8 +5,8 @@
 //! refuses, with its numbers. Of each open element the word of its list so far is kept (`IsOpen`,
 //! specs/OpenLists.antt); where the element ends, a judge is asked of its list (`ListJudge`): by
 //! its element's token, by its word, and by where it stands. What the judge finds of the lists that
-//! are whole is said by a relation of its own (`Judgement`, specs/Judging.antt), which holds in the
-//! end of all lists below the document node.
+//! are whole is said by a relation of its own (`Judgement`, specs/Judgements.antt), which holds in
+//! the end of all lists below the document node.
 #![tactic(auto)]
 
 mod content;

@@ -5,7 +5,7 @@ ghost use Rattle.std.specs.Prelude.{length};
 ghost use Rattle.std.specs.Option.{option_to_list};
 ghost use Rattle.pv_tree.specs.declared.nodes.Mark.{Mark};
 ghost use Rattle.pv_read.specs.Left.{Open, just_opened};
-ghost use Rattle.pv_lists.specs.Judging.{MAX_KIDS, path_in};
+ghost use Rattle.pv_lists.specs.Judgements.{MAX_KIDS, path_in};
 ghost use Rattle.pv_lists.specs.OpenLists.{HasReadTo, MayGrow};
 ghost use Rattle.pv_lists.specs.Types.{AreTypes, IsTypeOf};
 ghost use Rattle.pv_lists.specs.WholeLists.{whole_lists};

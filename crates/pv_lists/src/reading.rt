@@ -6,7 +6,7 @@ ghost use Rattle.pv_tree.specs.Plain.{PlainDoc};
 ghost use Rattle.pv_tree.specs.declared.nodes.Mark.{Mark};
 ghost use Rattle.pv_read.specs.Meaning.{DocumentMeansWithin, Outcome, is_document};
 ghost use Rattle.pv_lists.specs.Answers.{AnswersLists, ReadsLists, RefusesLists, limits_of};
-ghost use Rattle.pv_lists.specs.Judging.{MAX_KIDS};
+ghost use Rattle.pv_lists.specs.Judgements.{MAX_KIDS};
 
 use crate::content::read_root;
 use crate::errors::ReadError;

@@ -1,5 +1,5 @@
 -- Bounds of lists that are added up.
-use Rattle.std.proofs.Common.{List, Some, [], ap, arith, length, refl, subst, sym, ℕ, ◌+◌, ◌++◌, ◌∙◌, ◌∷◌, ◌≡◌, ◌≤◌}
+use Rattle.std.proofs.Common.{List, Some, [], ap, arith, length, refl, subst, sym, ℕ, ◌+◌, ◌++◌, ◌∙◌, ◌∷◌, ◌≡◌}
 use Rattle.pv_model.specs.Plain.{PlainToken}
 use Rattle.pv_dtd.specs.Plain.{PlainDtd}
 use Rattle.pv_dtd.specs.Proper.{IsProperDtd}
@@ -7,24 +7,14 @@ use Rattle.pv_rules.specs.Rules.{Goal, over}
 use Rattle.pv_rules.specs.Sites.{PlainSite}
 use Rattle.pv_tree.specs.Lists.{Listed}
 use Rattle.pv_tree.specs.Words.{word_of}
-use Rattle.pv_missing.specs.Weighing.{BoundInAll, IsBound, site_of}
+use Rattle.pv_missing.specs.ListWeights.{BoundInAll, IsBound, site_of}
 use Rattle.pv_bounds.specs.Bounds.{IsBelowSites}
 use Rattle.pv_bounds.specs.Laws.{BelowSitesIsBound}
-use Rattle.pv_long.specs.Bounding.{AreBounded}
+use Rattle.pv_long.specs.AddedBounds.{AreBounded}
 
 module _ {M : Type 0} (g : PlainDtd) (root : List ℕ) where
-  -- a bound of each list is 0
-  bound_zero : (list : Listed M) → IsBound g root list 0
-  bound_zero list n m = omega arith
-
   pub none_bounded : (k : ℕ) → AreBounded g root (let none : List (Listed M) = [] in none) k k
   none_bounded k = record { sum = 0; bounds = refl; added = omega arith }
-
-  pub one_bounded : (list : Listed M) (old new k : ℕ) → IsBound g root list k → new ≤ old + k → AreBounded g root (list ∷ []) old new
-  one_bounded list old new k b h = record { sum = k + 0; bounds = (k, 0, refl, b, refl); added = omega arith }
-
-  pub other_bounded : (list : Listed M) (k : ℕ) → AreBounded g root (list ∷ []) k k
-  other_bounded list k = one_bounded list k k 0 (bound_zero list) (omega arith)
 
   all_bounded : (xs ys : List (Listed M)) (a b : ℕ) → BoundInAll g root xs a → BoundInAll g root ys b → BoundInAll g root (xs ++ ys) (a + b)
   all_bounded [] ys a b e more = subst (BoundInAll g root ys) (omega (arith, e)) more

@@ -1,4 +1,4 @@
 -- of this crate:
 pub mod BoundSums
-pub mod Exact
-pub mod WrittenTags
+pub mod ExactAnswers
+pub mod TaggedDocs

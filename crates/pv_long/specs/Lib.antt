@@ -1,3 +1,3 @@
-pub mod Told
-pub mod Bounding
+pub mod BoundAnswers
+pub mod AddedBounds
 pub mod NewTags

@@ -1,15 +1,11 @@
 -- The text of a completion is that of the document, with tags of new elements in it.
-use Rattle.std.specs.Prelude.{List, Some, [], codes, slice_get, ℕ, ◌++◌, ◌≡◌, ◌≢◌}
+use Rattle.std.specs.Prelude.{List, Some, [], codes, length, slice_get, ℕ, ◌++◌, ◌<◌, ◌≡◌, ◌≢◌}
+use Rattle.std.specs.List.{AllByRecursion}
 use Rattle.pv_dtd.specs.Plain.{PlainDtd}
-use Rattle.pv_tree.specs.Plain.{Ending, Forest, PlainDoc, Tree, element, no_trees, short, tagged}
-use Rattle.pv_tree.specs.Plain.{tree}
-use Rattle.pv_tree.specs.declared.nodes.Mark.{Mark}
+use Rattle.pv_tree.specs.Plain.{Ending, Forest, PlainDoc, Tree, element, no_trees, short, tree}
+use Rattle.pv_write.specs.Pieces.{PlainPiece, finish, kept, start}
+use Rattle.pv_write.specs.TaggedTexts.{gap_of}
 use Rattle.pv_write.specs.Text.{tree_text}
-
--- the bytes between the name of an element's end tag and its `>`; a new one has none
-abbrev pub end_gap : Ending → List ℕ
-end_gap short = []
-end_gap (tagged gap) = gap
 
 -- The bytes are the text of trees side by side, as it was, with tags of new elements in it,
 -- `<NAME>` and `</NAME>`, whose names the DTD has. An empty-element tag that gets content becomes a
@@ -25,7 +21,7 @@ pub data HasNewTags {M : Type 0} (g : PlainDtd) : Forest M → List ℕ → Type
   same_tags : (x attrs : List ℕ) (e : Ending) (kids k : Forest M) (m : M)
       (content more bytes : List ℕ) → (e ≡ short → content ≢ []) →
       bytes ≡ codes "<" ++ x ++ attrs ++ codes ">" ++ content
-      ++ (codes "</" ++ x ++ end_gap e ++ codes ">") ++ more →
+      ++ (codes "</" ++ x ++ gap_of e ++ codes ">") ++ more →
       HasNewTags g kids content → HasNewTags g k more →
       HasNewTags g (tree (element x attrs e kids m) k) bytes
 
@@ -36,8 +32,12 @@ pub record IsWrittenWithTags {M : Type 0} (g : PlainDtd) (doc : PlainDoc M) (bod
   pub has_tags : HasNewTags g (tree doc.root no_trees) text
   pub is_body : body ≡ doc.before ++ text ++ doc.after
 
--- Trees were written, with tags of new elements, up to others that follow them.
-pub record WritesUpTo (g : PlainDtd) (from to : Forest Mark) (old new : List ℕ) : Type 0 where
-  pub text : List ℕ
-  pub added : new ≡ old ++ text
-  pub has_tags : (more : List ℕ) → HasNewTags g to more → HasNewTags g from (text ++ more)
+-- the DTD has the name of a tag
+abbrev pub HasNameOf : PlainDtd → PlainPiece → Type 0
+HasNameOf g kept = Unit {0}
+HasNameOf g (start y) = y < length g.names
+HasNameOf g (finish y) = y < length g.names
+
+-- it has those of all tags
+abbrev pub HasNamesOf : PlainDtd → List PlainPiece → Type 0
+HasNamesOf g ps = AllByRecursion (HasNameOf g) ps

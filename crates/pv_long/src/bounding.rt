@@ -11,14 +11,14 @@ ghost use Rattle.pv_tree.specs.Words.{word_of};
 ghost use Rattle.pv_tree.specs.declared.nodes.Mark.{Mark};
 ghost use Rattle.pv_missing.specs.Owners.{IsOwner};
 ghost use Rattle.pv_missing.specs.PlainForms.{plain_of};
-ghost use Rattle.pv_missing.specs.Weighing.{IsBound, site_of};
-ghost use Rattle.pv_long.specs.Bounding.{AreBounded};
+ghost use Rattle.pv_missing.specs.ListWeights.{IsBound, site_of};
+ghost use Rattle.pv_long.specs.AddedBounds.{AreBounded};
 
 use crate::errors::MakeError;
 use crate::making::building::build;
-use crate::making::filling::{Filled, fill};
-use crate::making::plan::Plan;
-use crate::pieces::Piece;
+use crate::making::filling::{Filled, fill, fill_few, fill_short};
+use crate::making::known_columns::KnownColumns;
+use crate::making::windows::windowed;
 use pv_bounds::laws::below_sites_law;
 use pv_bounds::{Fronts, are_closed, bound};
 use pv_chars::NoMemory;
@@ -28,10 +28,11 @@ use pv_missing::{Of, Verdicts};
 use pv_model::Token;
 use pv_rules::Site;
 use pv_tree::{Doc, Lists, Mark, Node, Verdict, word};
+use pv_write::Piece;
 use std::alloc::Global;
 
 /// What is found of the lists so far: how many there were, a number that their bounds add up to at
-/// least, and the pieces of the Possible ones.
+/// least, and the pieces of each, none where it isn't Possible.
 #[derive(Drop)]
 pub struct Found {
     used: u64,
@@ -96,84 +97,187 @@ fn word_bound(
     }
 }
 
+// Fronts that tell nothing.
+fn no_fronts(alloc: Global) -> Fronts {
+    Fronts {
+        empty: Vec::new(alloc),
+        classes: Vec::new(alloc),
+        rows: Vec::new(alloc),
+        ends: Vec::new(alloc),
+    }
+}
+
 // The pieces of a list's completion, by what is made of it.
 fn pieces_by(
     alloc: Global,
-    plan: &Plan<'_>,
+    known: &KnownColumns<'_>,
     of: Of,
     word: &[Token],
     filled: &Filled,
 ) -> Result<Vec<Piece>, MakeError> {
-    let column = plan.layout.column(site_at(of));
+    let column = known.layout.column(site_at(of));
     let Ok(tokens) = u32::try_from(word.len()) else {
         return Err(MakeError::TooMany);
     };
-    build(alloc, plan.layout.forms(), filled, column, tokens)
+    build(alloc, known.layout.forms(), filled, column, tokens)
+}
+
+// How many elements are new in pieces.
+fn new_in(pieces: &[Piece]) -> usize {
+    pieces
+        .iter()
+        .filter(|piece| matches!(**piece, Piece::Start(_)))
+        .count()
+}
+
+// The pieces of a completion of a list with many reaches: of few of these, and of more as long as
+// more elements are new than are missing at least.
+fn few_pieces(
+    alloc: Global,
+    known: &KnownColumns<'_>,
+    of: Of,
+    word: &[Token],
+    least: u32,
+) -> Result<Vec<Piece>, MakeError> {
+    let column = known.layout.column(site_at(of));
+    let filled = fill_few(alloc, known, column, word, 1)?;
+    let mut best = pieces_by(alloc, known, of, word, &filled)?;
+    for near in [8, 64] {
+        if new_in(best.as_slice()) <= least as usize {
+            break;
+        }
+        let filled = fill_few(alloc, known, column, word, near)?;
+        let pieces = pieces_by(alloc, known, of, word, &filled)?;
+        if new_in(pieces.as_slice()) < new_in(best.as_slice()) {
+            best = pieces;
+        }
+    }
+    Ok(best)
+}
+
+// How many elements are missing in a list of this word at least, and the pieces of a completion, by
+// what is made of it.
+fn bound_filled(
+    alloc: Global,
+    known: &KnownColumns<'_>,
+    of: Of,
+    word: &[Token],
+    filled: &Filled,
+) -> Result<(u32, Vec<Piece>), MakeError>
+    ensures { IfOk result (λ found. (root : List ℕ) (list : Listed Mark) →
+        map plain_token word.now ≡ word_of (dtd_of known.now.layout.now.grammar.now) list.kids →
+        site_of (dtd_of known.now.layout.now.grammar.now) root list.owner ≡ Some (plain_of of) →
+        IsBound (dtd_of known.now.layout.now.grammar.now) root list found.0) }
+{
+    let least = word_bound(alloc, known.layout, of, word, &filled.fronts)?;
+    let pieces = pieces_by(alloc, known, of, word, filled)?;
+    Ok((least, pieces))
+}
+
+// A lower bound of a word by fronts that are made within windows: 0 where these aren't closed.
+fn bound_within(
+    alloc: Global,
+    known: &KnownColumns<'_>,
+    of: Of,
+    word: &[Token],
+) -> Result<u32, MakeError>
+    ensures { IfOk result (λ k. (root : List ℕ) (list : Listed Mark) →
+        map plain_token word.now ≡ word_of (dtd_of known.now.layout.now.grammar.now) list.kids →
+        site_of (dtd_of known.now.layout.now.grammar.now) root list.owner ≡ Some (plain_of of) →
+        IsBound (dtd_of known.now.layout.now.grammar.now) root list k) }
+{
+    match windowed(alloc, known, word)? {
+        Some(fronts) => Ok(word_bound(alloc, known.layout, of, word, &fronts)?),
+        None => Ok(word_bound(alloc, known.layout, of, word, &no_fronts(alloc))?),
+    }
+}
+
+// A lower bound of a word, and pieces, by whatever is made of it: of a short one all, of a longer
+// one what is seen within windows, and else as much as there is room for.
+fn bound_word(
+    alloc: Global,
+    known: &KnownColumns<'_>,
+    of: Of,
+    word: &[Token],
+) -> Result<(u32, Vec<Piece>), MakeError>
+    ensures { IfOk result (λ found. (root : List ℕ) (list : Listed Mark) →
+        map plain_token word.now ≡ word_of (dtd_of known.now.layout.now.grammar.now) list.kids →
+        site_of (dtd_of known.now.layout.now.grammar.now) root list.owner ≡ Some (plain_of of) →
+        IsBound (dtd_of known.now.layout.now.grammar.now) root list found.0) }
+{
+    if let Some(filled) = fill_short(alloc, known, word)? {
+        return bound_filled(alloc, known, of, word, &filled);
+    }
+    let least = bound_within(alloc, known, of, word)?;
+    if least > 0 {
+        let pieces = few_pieces(alloc, known, of, word, least)?;
+        return Ok((least, pieces));
+    }
+    let filled = fill(alloc, known, known.layout.column(site_at(of)), word)?;
+    bound_filled(alloc, known, of, word, &filled)
 }
 
 // How many elements are missing in a list of these kids at least, and the pieces of a completion.
 fn bound_kids(
     alloc: Global,
-    plan: &Plan<'_>,
+    known: &KnownColumns<'_>,
     of: Of,
     kids: &[Node],
 ) -> Result<(u32, Vec<Piece>), MakeError>
     ensures { IfOk result (λ found. (root : List ℕ) (list : Listed Mark) →
         list.kids ≡ forest kids.now →
-        site_of (dtd_of plan.now.layout.now.grammar.now) root list.owner ≡ Some (plain_of of) →
-        IsBound (dtd_of plan.now.layout.now.grammar.now) root list found.0) }
+        site_of (dtd_of known.now.layout.now.grammar.now) root list.owner ≡ Some (plain_of of) →
+        IsBound (dtd_of known.now.layout.now.grammar.now) root list found.0) }
 {
-    let word = word(alloc, plan.layout.grammar.dtd(), kids)?;
-    let column = plan.layout.column(site_at(of));
-    let filled = fill(alloc, plan, column, word.as_slice())?;
-    let least = word_bound(alloc, plan.layout, of, word.as_slice(), &filled.fronts)?;
-    let pieces = pieces_by(alloc, plan, of, word.as_slice(), &filled)?;
-    Ok((least, pieces))
+    let word = word(alloc, known.layout.grammar.dtd(), kids)?;
+    let found = bound_word(alloc, known, of, word.as_slice())?;
+    Ok(found)
 }
 
 // Bounds the list of these kids where it is Possible.
 fn bound_list(
     alloc: Global,
-    plan: &Plan<'_>,
+    known: &KnownColumns<'_>,
     owner: Option<Of>,
     kids: &[Node],
     verdicts: &Verdicts,
     found: &mut Found,
 ) -> Result<(), MakeError>
     ensures { OnOk result ((root : List ℕ) (list : Listed Mark) → list.kids ≡ forest kids.now →
-        IsOwner (dtd_of plan.now.layout.now.grammar.now) root list owner →
-        AreBounded (dtd_of plan.now.layout.now.grammar.now) root (list ∷ []) found.old.least
+        IsOwner (dtd_of known.now.layout.now.grammar.now) root list owner →
+        AreBounded (dtd_of known.now.layout.now.grammar.now) root (list ∷ []) found.old.least
         found.new.least) }
 {
     if !found.takes_possible(verdicts) {
+        found.pieces.push(Vec::new(alloc))?;
         return Ok(());
     }
     let Some(of) = owner else {
         return Err(MakeError::Unproved);
     };
-    let (least, pieces) = bound_kids(alloc, plan, of, kids)?;
+    let (least, pieces) = bound_kids(alloc, known, of, kids)?;
     found.pieces.push(pieces)?;
     found.least = u32::saturating_add(found.least, least);
     Ok(())
 }
 
-/// Bounds the lists of a document: a number that their bounds add up to at least, and pieces of the
-/// Possible ones, by the verdicts.
+/// Bounds the lists of a document: a number that their bounds add up to at least, and the pieces of
+/// each, by the verdicts.
 pub fn bound_doc(
     alloc: Global,
-    plan: &Plan<'_>,
+    known: &KnownColumns<'_>,
     root: &[u8],
     doc: &Doc,
     verdicts: &Verdicts,
 ) -> Result<Found, MakeError>
-    ensures { IfOk result (λ found. AreBounded (dtd_of plan.now.layout.now.grammar.now) root.now
+    ensures { IfOk result (λ found. AreBounded (dtd_of known.now.layout.now.grammar.now) root.now
         (lists_of (plain_doc doc.now)) 0 found.least) }
 {
     let mut found = Found::none(alloc);
     let mut lists = Lists::of(alloc, doc);
     while let Some(list) = lists.next()? {
-        let owner = owner_under(plan.layout.grammar, root, list.owner);
-        bound_list(alloc, plan, owner, list.kids, verdicts, &mut found)?;
+        let owner = owner_under(known.layout.grammar, root, list.owner);
+        bound_list(alloc, known, owner, list.kids, verdicts, &mut found)?;
     }
     Ok(found)
 }

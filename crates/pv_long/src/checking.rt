@@ -7,7 +7,7 @@ ghost use Rattle.pv_tree.specs.Plain.{PlainDoc};
 ghost use Rattle.pv_tree.specs.declared.nodes.Mark.{Mark};
 ghost use Rattle.pv_read.specs.Meaning.{DocumentMeans, is_document};
 ghost use Rattle.pv_long.specs.NewTags.{IsWrittenWithTags};
-ghost use Rattle.pv_long.specs.Told.{IsCompletionText};
+ghost use Rattle.pv_long.specs.BoundAnswers.{IsCompletionText};
 
 use crate::errors::MakeError;
 use pv_chars::NoMemory;

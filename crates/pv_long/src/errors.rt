@@ -1,7 +1,7 @@
 //! Why nothing is told of the elements that are missing in a document.
 
 ghost use Rattle.std.specs.Prelude.{◌≡◌};
-ghost use Rattle.pv_long.specs.Told.{SaysNothing};
+ghost use Rattle.pv_long.specs.BoundAnswers.{SaysNothing};
 ghost use Rattle.pv_long.specs.declared.errors.MakeError.TheVariants.{NoMemory as no_memory};
 
 use pv_tree::Path;

@@ -8,7 +8,7 @@
 //! valid document that is the given one with elements inserted (pv_compare, pv_flat). Where the sum is
 //! as large as the number of these, it is the least one.
 //!
-//! `specs/Told.antt` says what is told, and when the refusals come.
+//! `specs/BoundAnswers.antt` says what is told, and when the refusals come.
 #![tactic(auto)]
 
 mod answers;
@@ -17,7 +17,7 @@ mod checking;
 mod errors;
 pub mod laws;
 mod making;
-mod pieces;
+mod tags;
 mod telling;
 
 pub use answers::{Completion, Missing};

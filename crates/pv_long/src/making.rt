@@ -1,5 +1,4 @@
-//! What is made of a list: fronts, the pieces that they lead to, and the text of a document. Nothing
-//! is promised of it.
+//! What is made of a list: fronts, and the pieces that they lead to. Nothing is promised of it.
 
 pub mod building;
 pub mod classes;
@@ -10,6 +9,11 @@ pub mod fronts;
 pub mod goals;
 pub mod grain;
 pub mod here;
-pub mod plan;
+pub mod known_columns;
+pub mod next;
+pub mod places;
+pub mod shared;
 pub mod spreading;
-pub mod writing;
+pub mod tails;
+pub mod whole;
+pub mod windows;

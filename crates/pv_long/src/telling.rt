@@ -11,14 +11,14 @@ ghost use Rattle.pv_read.specs.Meaning.{DocumentMeans, is_document};
 ghost use Rattle.pv_missing.specs.Verdicts.{possible_in};
 ghost use Rattle.pv_fresh.specs.Answers.{HasPossibility};
 ghost use Rattle.pv_long.specs.NewTags.{IsWrittenWithTags};
-ghost use Rattle.pv_long.specs.Told.{AreMissing, IsCompletion, IsMissing, IsOwnText, TellsNone};
+ghost use Rattle.pv_long.specs.BoundAnswers.{AreMissing, IsCompletion, IsMissing, IsOwnText, TellsNone};
 
 use crate::answers::{Completion, Missing};
 use crate::bounding::bound_doc;
 use crate::checking::is_completion;
 use crate::errors::{LongError, MakeError};
-use crate::making::plan::plan_of;
-use crate::making::writing::{Plenty, Text, write_doc};
+use crate::making::known_columns::known_columns;
+use crate::tags::check_tags;
 use pv_dtd::Dtd;
 use pv_fresh::{PossibleError, possible_verdicts};
 use pv_layout::lay_out;
@@ -32,6 +32,7 @@ use pv_productive::Grammar;
 use pv_read::laws::{agreement_law, wider_limits_law};
 use pv_tree::{Doc, Mark};
 use pv_write::laws::spelled_is_written_law;
+use pv_write::{TaggedText, doc_with_tags};
 use std::alloc::Global;
 
 // The verdicts of the lists of a document that isn't impossible.
@@ -53,20 +54,33 @@ fn verdicts_of(
     }
 }
 
+// The numbers of elements, where each is below 2^32.
+fn numbers_of(alloc: Global, marks: &[u64]) -> Result<Vec<u32>, MakeError> {
+    let mut numbers = Vec::with_capacity(alloc, marks.len())?;
+    for mark in marks {
+        let Ok(number) = u32::try_from(*mark) else {
+            return Err(MakeError::TooMany);
+        };
+        numbers.push(number)?;
+    }
+    Ok(numbers)
+}
+
 // What was written, where it is a completion.
 fn completion_of(
     alloc: Global,
     dtd: &Dtd,
     root: &[u8],
     bytes: &[u8],
-    text: Text,
+    text: TaggedText,
 ) -> Result<Completion, MakeError>
     ensures { IfOk result (λ c. (doc : PlainDoc Mark) →
         DocumentMeans blank_mark root.now bytes.now (is_document doc) →
         IsWrittenWithTags (plain_dtd dtd.now) doc text.body.items →
         IsCompletion (plain_dtd dtd.now) root.now doc c) }
 {
-    let Text { body, marks, .. } = text;
+    let TaggedText { body, marks } = text;
+    let marks = numbers_of(alloc, marks.as_slice())?;
     let Ok(count) = u32::try_from(marks.len()) else {
         return Err(MakeError::TooMany);
     };
@@ -110,15 +124,11 @@ fn bounds_of(
     proper_doc_law(doc);
     let dtd = grammar.dtd();
     let layout = lay_out(alloc, grammar)?;
-    let plan = plan_of(alloc, &layout)?;
-    let found = bound_doc(alloc, &plan, root, doc, verdicts)?;
+    let known = known_columns(alloc, &layout)?;
+    let found = bound_doc(alloc, &known, root, doc, verdicts)?;
     let least = least_of(found.least, verdicts)?;
-    let plenty = Plenty {
-        dtd,
-        verdicts,
-        pieces: &found.pieces,
-    };
-    let text = write_doc(alloc, plenty, doc)?;
+    check_tags(dtd, &found.pieces, bytes.len())?;
+    let text = doc_with_tags(alloc, dtd, &found.pieces, doc)?;
     let completion = completion_of(alloc, dtd, root, bytes, text)?;
     Ok((least, completion))
 }

@@ -1,9 +1,9 @@
 -- How an input is taken, how often it is asked, and what a run over it shows.
-use Rattle.std.proofs.Common.{◌≡◌, ◌≢◌, ◌≤◌, ◌<◌, ◌+◌, ℕ, zero, suc, Bool, true, false, List, [], ◌∷◌, ◌++◌, length, take, drop, Option, Some, None}
+use Rattle.std.proofs.Common.{◌≡◌, ◌≢◌, ◌≤◌, ◌<◌, ◌+◌, ℕ, zero, suc, Bool, true, false, List, [], ◌++◌, length, take, drop, Option, Some, None}
 use Rattle.std.proofs.Common.{Result, Ok, Err, refl, sym, ap, ◌∙◌, subst, append_assoc, arith}
 use Rattle.std.proofs.Math.Seq.{take-append-add, take-append_seam}
 use Rattle.std.proofs.lemmas.Grind.{common_steps}
-use Rattle.std.proofs.lemmas.List.{length-append, length-take}
+use Rattle.std.proofs.lemmas.List.{length-append}
 use Rattle.std.specs.Io.KnownBytes.{Appends, Consumes, IsAtEnd, Keeps}
 use Rattle.std.specs.List.{AllByRecursion}
 use Rattle.pv_dtd.specs.Plain.{PlainDtd}
@@ -11,12 +11,11 @@ use Rattle.pv_io.specs.Causes.{AppendsFront, Asked, CountStays, MadeCalls, WasAs
 use Rattle.pv_io.specs.declared.source.Failed.{Failed}
 use Rattle.pv_opening.specs.Course.{RunEnding, no_memory, without_input}
 use Rattle.pv_opening.specs.Devices.{InputNow, OutputNow, ShelfNow}
-use Rattle.pv_opening.specs.Showing.{AskedAtMost, CountsInput, CountsShelf, MadeAtMost, WritesEnding, wrote}
+use Rattle.pv_opening.specs.ShownCourses.{AskedAtMost, CountsInput, CountsShelf, MadeAtMost, WritesEnding, wrote}
 use Rattle.pv_opening.specs.declared.status.Status.{Status}
 use Rattle.pv_opening.specs.declared.status.Status.TheVariants.{NoMemory}
-use Rattle.pv_many.specs.Answers.{NamedAnswer, IsAnswerFor, ShowsAnswers, names_answered}
+use Rattle.pv_many.specs.Answers.{NamedAnswer, IsAnswerFor, ShowsAnswers}
 use Rattle.pv_many.specs.Many.{AnswersOver, EndsAfter, no_room as without_room, over_input}
-use Rattle.pv_many.specs.Names.{AreNames}
 use Rattle.pv_many.specs.declared.requests.Question.{Question}
 
 pub consumes_more : (old mid new : Option (List ℕ)) (before piece : List ℕ) →

@@ -4,4 +4,4 @@ pub mod NamesRead
 pub mod Pieces
 pub mod RequestWords
 pub mod Runs
-pub mod Written
+pub mod CallResults

@@ -1,23 +1,23 @@
 -- Answers, one after another.
-use Rattle.std.proofs.Common.{◌≡◌, ◌⊎◌, inl, inr, ℕ, ◌+◌, List, [], ◌∷◌, ◌++◌, map, Option, Result, Ok, Err, Vec, Global, refl, sym, ap, ◌∙◌, subst}
+use Rattle.std.proofs.Common.{◌≡◌, inl, inr, ℕ, ◌+◌, List, [], ◌∷◌, ◌++◌, Option, Result, Ok, Err, Vec, Global, refl, sym, ap, ◌∙◌, subst}
 use Rattle.std.proofs.Common.{append_assoc, arith}
 use Rattle.std.proofs.lemmas.List.{append-nil, map-append}
 use Rattle.std.specs.List.{AllByRecursion}
 use Rattle.pv_dtd.specs.Plain.{PlainDtd}
 use Rattle.pv_commands.specs.Returns.{BehindDocument}
-use Rattle.pv_opening.specs.Course.{Course, RunEnding, after_fetches, without_input}
+use Rattle.pv_opening.specs.Course.{Course, after_fetches, without_input}
 use Rattle.pv_opening.specs.Devices.{ShelfNow}
-use Rattle.pv_opening.specs.Documents.{PlainOpened, document_stage}
+use Rattle.pv_opening.specs.Documents.{document_stage}
 use Rattle.pv_opening.specs.Opening.{IsFile, document_fetch_stage, dtd_file_stage}
 use Rattle.pv_opening.specs.Returns.{Returns, ReturnsOver, TakesCourse, ending_of}
-use Rattle.pv_opening.specs.Showing.{CountsShelf, ShowsShelf}
+use Rattle.pv_opening.specs.ShownCourses.{CountsShelf, ShowsShelf}
 use Rattle.pv_opening.specs.Stage.{Stage, Behind, beside, followed_by, opened, refused, stopped, short_of_memory}
 use Rattle.pv_opening.specs.declared.response.Response.{Response}
 use Rattle.pv_opening.specs.declared.stop.Stop.{Stop}
 use Rattle.pv_opening.specs.declared.stop.Stop.TheVariants.{Refused, ShelfFault, NoMemory}
 use Rattle.pv_opening.proofs.Stages.{behind_second, finds_goes, finds_stays, stays_from, stop_counts, stop_ends, stopped_first}
 use Rattle.pv_many.specs.Answers.{NamedAnswer, AnswersName, AnswersNames, Does, FindsDocumentAnswer, IsDocumentAnswer, IsAnswerFor, IsCommandAnswer}
-use Rattle.pv_many.specs.Answers.{ShowsAnswers, answer_text, answers_text, document_file_stage, line_of, names_answered}
+use Rattle.pv_many.specs.Answers.{ShowsAnswers, answer_text, answers_text, document_file_stage, names_answered}
 use Rattle.pv_many.specs.declared.requests.Question.{Question}
 use Rattle.pv_many.proofs.NamesRead.{all_as, all_both}
 

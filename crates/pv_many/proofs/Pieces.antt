@@ -1,19 +1,18 @@
 -- Names that are answered, piece by piece of the input.
-use Rattle.std.proofs.Common.{◌≡◌, ℕ, ◌+◌, ◌<◌, ◌≤◌, Bool, true, false, List, [], ◌∷◌, ◌++◌, codes, length, get_or, take, drop, nat_eq, Option, refl}
+use Rattle.std.proofs.Common.{◌≡◌, ℕ, ◌+◌, ◌-◌, ◌<◌, ◌≤◌, Bool, true, false, List, [], ◌∷◌, ◌++◌, codes, length, get_or, take, drop, nat_eq, Option, refl}
 use Rattle.std.proofs.Common.{sym, ap, ◌∙◌, subst, append_assoc, arith}
-use Rattle.std.proofs.lemmas.List.{append-nil, take-append-drop, take_more}
+use Rattle.std.proofs.lemmas.List.{append-nil, length-append, take-append-drop, take_more}
 use Rattle.std.specs.Io.KnownBytes.{Appends, Consumes}
 use Rattle.pv_dtd.specs.Plain.{PlainDtd}
-use Rattle.pv_io.specs.Causes.{AppendsFront, Asked, CountStays}
+use Rattle.pv_io.specs.Causes.{AppendsFront, Asked}
 use Rattle.pv_opening.specs.Course.{RunEnding, input_fault, output_fault, responds}
 use Rattle.pv_opening.specs.Devices.{ShelfNow}
-use Rattle.pv_opening.specs.Showing.{AskedAtMost}
+use Rattle.pv_opening.specs.ShownCourses.{AskedAtMost}
 use Rattle.pv_opening.specs.declared.status.Status.TheVariants.{Done, Limit, NoMemory}
 use Rattle.pv_many.specs.Answers.{NamedAnswer, AnswersName, AnswersNames, answers_text, names_answered}
-use Rattle.pv_many.specs.Many.{AnswersThese, EndsAfter, AnswersPiece, HaltShows, StopsWithin, answered_all, input_failed, output_failed, too_many}
-use Rattle.pv_many.specs.Many.{without_memory}
+use Rattle.pv_many.specs.Many.{AnswersThese, EndsAfter, AnswersPiece, StopsWithin, answered_all, input_failed, output_failed, too_many}
+use Rattle.pv_many.specs.Many.{max_names_bytes, without_memory}
 use Rattle.pv_many.specs.Names.{AreNames, HasNoNul, StandInOrder, last_name}
-use Rattle.pv_many.specs.declared.input.Halt.{Halt}
 use Rattle.pv_many.specs.declared.requests.Question.{Question}
 use Rattle.pv_many.proofs.NamedAnswers.{answer_of, answers_both, answers_none, names_both, one_answer}
 use Rattle.pv_many.proofs.Inputs.{appends_behind, front_behind}
@@ -99,16 +98,17 @@ cut_here piece i = sym (take-append-drop i piece)
 pub cut_after : (piece : List ℕ) (i : ℕ) (d : ℕ) → i < length piece → piece ≡ (take i piece ++ get_or piece i d ∷ []) ++ drop (i + 1) piece
 cut_after piece i d within = cut_here piece (i + 1) ∙ ap (λ (h : List ℕ). h ++ drop (i + 1) piece) (take_more piece i d within)
 
--- a run over an input, so far
+-- a run over an input, so far, and how many bytes more it may take
 pub record Reads (question : Question) (root : List ℕ) (g : PlainDtd) (before now : ShelfNow)
-    (held : List ℕ) (old new : Option (List ℕ)) (left left_now : Option (List ℕ)) (calls calls_now : Asked) :
-    Type 0 where
+    (held : List ℕ) (old new : Option (List ℕ)) (left left_now : Option (List ℕ))
+    (calls calls_now : Asked) (room : ℕ) : Type 0 where
   pub script : List ℕ
   pub answers : List NamedAnswer
   pub are_names : AreNames script (names_answered answers) held
   pub so_far : AnswersNames question root g before now answers (Adds old new)
   pub taken : Consumes left left_now script
   pub asked : AskedAtMost (length script) 0 calls calls_now
+  pub few : room + length script ≡ max_names_bytes
 
 -- answers, and how the run ended after them
 pub record Ended (question : Question) (root : List ℕ) (g : PlainDtd) (before now : ShelfNow)
@@ -133,16 +133,22 @@ short_after answers = responds (record { status = NoMemory; output = answers_tex
 abbrev pub limited_after : List NamedAnswer → RunEnding
 limited_after answers = responds (record { status = Limit; output = answers_text answers ++ codes "limit names\n" })
 
+-- of the bytes that may still be taken a piece is taken
+pub less_left : (left count : ℕ) (script piece : List ℕ) → left + length script ≡ max_names_bytes →
+    count ≤ left → length piece ≡ count → (left - count) + length (script ++ piece) ≡ max_names_bytes
+less_left left count script piece all within long =
+    omega (arith, all, within, long, length-append script piece)
+
 module _ (question : Question) (root : List ℕ) (g : PlainDtd) (before between : ShelfNow)
     (held : List ℕ) (old mid : Option (List ℕ)) (script : List ℕ) (answers : List NamedAnswer)
     (are_names : AreNames script (names_answered answers) held) (so_far : AnswersNames question root g before between answers (Adds old mid)) where
   -- the last name was answered, or the output failed at it
-  pub ended_all : (after : ShelfNow) (new : Option (List ℕ)) →
+  pub ended_all : (after : ShelfNow) (new : Option (List ℕ)) → length script ≤ max_names_bytes →
       AnswersThese question root g between after (last_name held) (Adds mid new) →
       Ended question root g before after script true done_with (Adds old new)
-  ended_all after new last = record {
+  ended_all after new few last = record {
     answers = answers ++ last.answers;
-    ends = answered_all (names_answered answers) held are_names (names_both answers last.answers
+    ends = answered_all (names_answered answers) held are_names few (names_both answers last.answers
         ∙ ap (λ (h : List (List ℕ)). names_answered answers ++ h) last.are_names) refl refl;
     so_far = answers_both question root g before between after answers last.answers (Adds old mid)
         (Adds mid new) (Adds old new) (λ s t. appends_behind old mid new s t) so_far last.so_far;
@@ -161,8 +167,13 @@ module _ (question : Question) (root : List ℕ) (g : PlainDtd) (before between 
   ended_at_input = record { answers = answers; ends = input_failed held are_names refl refl; so_far = so_far }
 
   module _ (piece : List ℕ) where
-    pub ended_by_limit : Ended question root g before between (script ++ piece) false limited_after (Adds old mid)
-    ended_by_limit = record { answers = answers; ends = too_many (in_order script (names_answered answers) held are_names piece) refl refl; so_far = so_far }
+    pub ended_by_limit : max_names_bytes < length (script ++ piece) →
+        Ended question root g before between (script ++ piece) false limited_after (Adds old mid)
+    ended_by_limit many = record {
+      answers = answers;
+      ends = too_many (in_order script (names_answered answers) held are_names piece) many refl refl;
+      so_far = so_far;
+    }
 
     pub ended_without_memory : (after : ShelfNow) (new : Option (List ℕ)) → StopsWithin question root g between after held piece (Adds mid new) →
         Ended question root g before after (script ++ piece) false short_after (Adds old new)
@@ -188,11 +199,12 @@ module _ (question : Question) (root : List ℕ) (g : PlainDtd) (before between 
 
     -- the names of a piece were answered
     pub reads_more : (after : ShelfNow) (held_now : List ℕ) (new left left_now : Option (List ℕ))
-        (calls calls_now : Asked) → AnswersPiece question root g between after held piece held_now
-        (Adds mid new) →
-        Consumes left left_now (script ++ piece) → AskedAtMost (length (script ++ piece)) 0 calls
-        calls_now → Reads question root g before after held_now old new left left_now calls calls_now
-    reads_more after held_now new left left_now calls calls_now goes taken asked = record {
+        (calls calls_now : Asked) (room : ℕ) → AnswersPiece question root g between after held piece
+        held_now (Adds mid new) → Consumes left left_now (script ++ piece) →
+        AskedAtMost (length (script ++ piece)) 0 calls calls_now →
+        room + length (script ++ piece) ≡ max_names_bytes →
+        Reads question root g before after held_now old new left left_now calls calls_now room
+    reads_more after held_now new left left_now calls calls_now room goes taken asked few = record {
       script = script ++ piece;
       answers = answers ++ goes.answers;
       are_names = rw (names_both answers goes.answers) (names_then script piece
@@ -201,6 +213,7 @@ module _ (question : Question) (root : List ℕ) (g : PlainDtd) (before between 
           (Adds mid new) (Adds old new) (λ s t. appends_behind old mid new s t) so_far goes.so_far;
       taken = taken;
       asked = asked;
+      few = few;
     }
 
 -- the name that a rest of some bytes is

@@ -1,12 +1,12 @@
 -- A request as a whole: its DTD, and what comes after it.
-use Rattle.std.proofs.Common.{◌≡◌, ℕ, ◌+◌, List, [], ◌∷◌, Option, Some, None, Result, Ok, Err, refl, sym, subst, arith}
+use Rattle.std.proofs.Common.{ℕ, List, [], ◌∷◌, Some, None, Result, Ok, Err, refl, arith}
 use Rattle.pv_dtd.specs.PlainForms.{plain_dtd}
 use Rattle.pv_dtd.specs.declared.dtd.Dtd.{Dtd}
-use Rattle.pv_opening.specs.Course.{Course, after_fetches, without_input}
+use Rattle.pv_opening.specs.Course.{after_fetches, without_input}
 use Rattle.pv_opening.specs.Devices.{InputNow, OutputNow, ShelfNow}
 use Rattle.pv_opening.specs.Opening.{IsFile, dtd_file_stage}
 use Rattle.pv_opening.specs.Returns.{ReturnsOver, TakesCourse, ending_of}
-use Rattle.pv_opening.specs.Showing.{CountsInput, CountsShelf, ShowsStreams, WritesEnding}
+use Rattle.pv_opening.specs.ShownCourses.{CountsInput, CountsShelf, ShowsStreams, WritesEnding}
 use Rattle.pv_opening.specs.Stage.{opened}
 use Rattle.pv_opening.specs.declared.response.Response.{Response}
 use Rattle.pv_opening.specs.declared.status.Status.{Status}
@@ -14,7 +14,7 @@ use Rattle.pv_opening.specs.declared.stop.Stop.{Stop}
 use Rattle.pv_opening.specs.declared.stop.Stop.TheVariants.{Refused, ShelfFault, NoMemory}
 use Rattle.pv_opening.proofs.Stages.{finds_goes, finds_stays, stays_from, stop_counts, stop_ends}
 use Rattle.pv_many.specs.Many.{AnswersAsked, AnswersInput, AnswersOver, IsManyCourse}
-use Rattle.pv_many.specs.Requests.{ManyRequest, request}
+use Rattle.pv_many.specs.Requests.{request}
 use Rattle.pv_many.specs.declared.requests.Question.{Question}
 use Rattle.pv_many.proofs.NamedAnswers.{as_commands}
 

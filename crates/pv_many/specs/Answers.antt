@@ -1,5 +1,5 @@
 -- The answers to names, each as a command of `pvtag` answers for a document.
-use Rattle.std.specs.Prelude.{◌≡◌, ℕ, List, [], ◌∷◌, ◌++◌, codes, map, Option, Result}
+use Rattle.std.specs.Prelude.{◌≡◌, ℕ, List, [], ◌∷◌, ◌++◌, codes, map, Option}
 use Rattle.std.specs.List.{AllByRecursion}
 use Rattle.pv_dtd.specs.Plain.{PlainDtd}
 use Rattle.pv_commands.specs.Check.{IsCheckCourse}
@@ -9,13 +9,11 @@ use Rattle.pv_opening.specs.Course.{output_fault, no_memory, without_input}
 use Rattle.pv_opening.specs.Devices.{ShelfNow}
 use Rattle.pv_opening.specs.Documents.{PlainOpened, document_stage}
 use Rattle.pv_opening.specs.Opening.{IsFile, document_fetch_stage, opening_stage}
-use Rattle.pv_opening.specs.Returns.{ending_of}
-use Rattle.pv_opening.specs.Showing.{ShowsShelf}
+use Rattle.pv_opening.specs.ShownCourses.{ShowsShelf}
 use Rattle.pv_opening.specs.Stage.{Stage, Behind, followed_by}
-use Rattle.pv_opening.specs.declared.response.Response.{Response}
-use Rattle.pv_opening.specs.declared.stop.Stop.{Stop}
 use Rattle.pv_many.specs.declared.requests.Question.{Question}
-use Rattle.pv_many.specs.declared.requests.Question.TheVariants.{Check, Valid}
+use Rattle.pv_many.specs.declared.requests.Question.TheVariants.{Check, Need, Valid}
+use Rattle.pv_many.specs.MissingAnswers.{IsNeedCourse}
 
 -- an answer: the name of a document, the file of that name, and how the command on it ended
 pub record NamedAnswer : Type 0 where
@@ -23,10 +21,12 @@ pub record NamedAnswer : Type 0 where
   pub file : Option (List ℕ)
   pub ending : RunEnding
 
--- what the command of a question does after the opened files
+-- what the command of a question does after the opened files; that of `need` is a session whose
+-- script is this line
 abbrev pub Does : Question → List ℕ → PlainOpened → Course → Type 0
 Does Valid root opened = IsValidCourse root opened
 Does Check root opened = IsCheckCourse root opened
+Does Need root opened = IsNeedCourse root opened
 
 -- fetching a document, and reading it, once a DTD is opened
 abbrev pub document_file_stage : List ℕ → PlainDtd → Option (List ℕ) → Stage PlainOpened

@@ -1,5 +1,6 @@
 -- What a run comes to, over its words, its files and its input.
-use Rattle.std.specs.Prelude.{◌≡◌, ℕ, Bool, true, false, List, [], ◌∷◌, ◌++◌, codes}
+use Rattle.std.specs.Prelude.{◌≡◌, ◌≤◌, ◌<◌, ℕ, Bool, true, false, List, [], ◌++◌}
+use Rattle.std.specs.Prelude.{codes, length}
 use Rattle.std.specs.Prelude.{Option, Some, None}
 use Rattle.std.specs.Io.KnownBytes.{Appends}
 use Rattle.std.specs.List.{AllByRecursion}
@@ -9,8 +10,8 @@ use Rattle.pv_opening.specs.Course.{Course, RunEnding, responds, input_fault, ou
 use Rattle.pv_opening.specs.Course.{no_memory, without_input}
 use Rattle.pv_opening.specs.Devices.{InputNow, OutputNow, ShelfNow}
 use Rattle.pv_opening.specs.Opening.{AreFiles, Files, IsFile, dtd_file_stage, file_at}
-use Rattle.pv_opening.specs.Response.{PlainResponse, with_line}
-use Rattle.pv_opening.specs.Showing.{CountsShelf, ShowsShelf, ShowsStreams}
+use Rattle.pv_opening.specs.Response.{with_line}
+use Rattle.pv_opening.specs.ShownCourses.{CountsShelf, ShowsShelf, ShowsStreams}
 use Rattle.pv_opening.specs.Stage.{Behind, Responds}
 use Rattle.pv_opening.specs.declared.status.Status.{Status}
 use Rattle.pv_opening.specs.declared.status.Status.TheVariants.{Done, Limit, NoMemory, Usage}
@@ -22,13 +23,18 @@ use Rattle.pv_many.specs.declared.input.Halt.{Halt}
 use Rattle.pv_many.specs.declared.input.Halt.TheVariants.{OutOfMemory, OutputFault}
 use Rattle.pv_many.specs.declared.requests.Question.{Question}
 
+-- the most bytes of all names, with the NULs that end them
+abbrev pub max_names_bytes : ℕ
+max_names_bytes = 1099511627776
+
 -- How a run ended over the bytes that it took of the input, after these answers. All names were
 -- answered, the last one also where no NUL ends it; or the input failed, and all whole names were
--- answered; or the output failed, or there was no memory for a name, or there are too many names:
--- then those up to some name were.
+-- answered; or the output failed, or there was no memory for a name, or more bytes were taken than
+-- names may have: then those up to some name were.
 pub data EndsAfter (taken : List ℕ) (answers : List NamedAnswer) (at_end : Bool)
     (ending : RunEnding) : Type 0 where
   answered_all : (names : List (List ℕ)) (rest : List ℕ) → AreNames taken names rest →
+      length taken ≤ max_names_bytes →
       names_answered answers ≡ names ++ last_name rest → at_end ≡ true →
       ending ≡ responds (record { status = Done; output = answers_text answers }) →
       EndsAfter taken answers at_end ending
@@ -39,7 +45,8 @@ pub data EndsAfter (taken : List ℕ) (answers : List NamedAnswer) (at_end : Boo
   without_memory : StandInOrder taken (names_answered answers) → at_end ≡ false →
       ending ≡ responds (record { status = NoMemory; output = answers_text answers }) →
       EndsAfter taken answers at_end ending
-  too_many : StandInOrder taken (names_answered answers) → at_end ≡ false →
+  too_many : StandInOrder taken (names_answered answers) → max_names_bytes < length taken →
+      at_end ≡ false →
       ending ≡ responds (record {
         status = Limit;
         output = answers_text answers ++ codes "limit names\n";

@@ -4,7 +4,7 @@ use Rattle.std.specs.Prelude.{option_map}
 use Rattle.std.specs.Str.{bytes_eq}
 use Rattle.pv_chars.specs.Names.{is_name}
 use Rattle.pv_many.specs.declared.requests.Question.{Question}
-use Rattle.pv_many.specs.declared.requests.Question.TheVariants.{Check, Valid}
+use Rattle.pv_many.specs.declared.requests.Question.TheVariants.{Check, Need, Valid}
 use Rattle.pv_many.specs.declared.requests.Request.{Request}
 
 -- a question of many documents: its word is followed by DTD and ROOT
@@ -16,6 +16,7 @@ abbrev pub asked_question : List ℕ → Option Question
 asked_question word =
     if bytes_eq word (codes "valid") then Some Valid
     else if bytes_eq word (codes "check") then Some Check
+    else if bytes_eq word (codes "need") then Some Need
     else None
 
 -- the request that these words are; ROOT is a Name of XML

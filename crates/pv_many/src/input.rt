@@ -9,7 +9,7 @@ ghost use Rattle.pv_many.specs.Many.{HaltShows, StopsWithin};
 ghost use Rattle.pv_many.specs.Names.{HasNoNul, last_name};
 ghost use Rattle.pv_opening.specs.Course.{responds};
 ghost use Rattle.pv_opening.specs.Devices.{input_at, output_at};
-ghost use Rattle.pv_opening.specs.Showing.{WritesEnding};
+ghost use Rattle.pv_opening.specs.ShownCourses.{WritesEnding};
 
 use crate::answering::answer_name;
 use crate::archive::Archive;

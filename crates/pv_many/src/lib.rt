@@ -10,6 +10,7 @@ mod archive;
 mod documents;
 mod input;
 mod inquiry;
+mod missing;
 mod possibility;
 mod program;
 mod requests;

@@ -15,6 +15,8 @@ pub enum Question {
     Valid,
     /// Whether inserting elements can make it valid.
     Check,
+    /// How many elements are missing in it.
+    Need,
 }
 
 /// A question of many documents, with their root's name and the name of their DTD.
@@ -33,6 +35,8 @@ pub fn question_of(word: &str) -> Option<Question>
         Some(Question::Valid)
     } else if word == "check" {
         Some(Question::Check)
+    } else if word == "need" {
+        Some(Question::Need)
     } else {
         None
     }

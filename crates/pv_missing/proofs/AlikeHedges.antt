@@ -3,7 +3,7 @@ use Rattle.std.proofs.Common.{List, Some, ℕ, ◌↔◌, ◌≡◌}
 use Rattle.pv_model.specs.Plain.{empty}
 use Rattle.pv_dtd.specs.Plain.{PlainDtd, model_of, number_of}
 use Rattle.pv_dtd.specs.Hedge.{Hedge, Leaf, cdata, data_unit, done, elem, leaf, misc, white}
-use Rattle.pv_missing.specs.Completing.{HasCompletion}
+use Rattle.pv_missing.specs.Completions.{HasCompletion}
 use Rattle.pv_dtd.specs.Proper.{IsProperDtd}
 
 abbrev pub IsBlank : Leaf → Type 0

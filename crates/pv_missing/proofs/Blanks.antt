@@ -4,9 +4,9 @@ use Rattle.pv_dtd.specs.Plain.{PlainDtd, number_of}
 use Rattle.pv_dtd.specs.Hedge.{Hedge, Leaf, cdata, data_unit, done, elem, leaf, misc, white}
 use Rattle.pv_missing.specs.DocumentLaws.{BlanksChangeNothing}
 use Rattle.pv_missing.specs.SameMissing.{bare, is_empty_model, is_empty_number, keep_if}
-use Rattle.pv_missing.proofs.Alike.{unchanged}
+use Rattle.pv_missing.proofs.AlikeCompletions.{unchanged}
 use Rattle.pv_missing.proofs.AlikeHedges.{Alike, IsEmptyName, alike_blank, alike_done, alike_elem, alike_leaf}
-use Rattle.pv_missing.proofs.Same.{same_missing}
+use Rattle.pv_missing.proofs.SameCompletions.{same_missing}
 
 keep_alike : (g : PlainDtd) (keep : Bool) (l : Leaf) (h h2 : Hedge) → Alike g h h2 → Alike g (leaf l h) (keep_if keep l h2)
 keep_alike g true (white b) h h2 r = alike_leaf (white b) h h2 r

@@ -4,13 +4,13 @@ use Rattle.pv_model.specs.Plain.{PlainModel, PlainToken, empty, named, text}
 use Rattle.pv_model.specs.Models.{Allows}
 use Rattle.pv_dtd.specs.Plain.{PlainDtd, declared, model_of, number_of, spelling_of}
 use Rattle.pv_dtd.specs.Hedge.{Fits, Hedge, Leaf, cdata, data_unit, done, elem, leaf, misc, token, white, word}
-use Rattle.pv_missing.specs.Covering.{Covers, cover_kept, cover_new, cover_none, cover_text}
+use Rattle.pv_missing.specs.Covers.{Covers, cover_kept, cover_new, cover_none, cover_text}
 use Rattle.pv_dtd.specs.Proper.{IsProperDtd}
-use Rattle.pv_missing.specs.Extending.{join}
+use Rattle.pv_missing.specs.Extensions.{join}
 use Rattle.pv_missing.specs.Levels.{Inserts, insert_done, insert_kept, insert_leaf, insert_new}
-use Rattle.pv_missing.proofs.Grow.{CanKeep}
+use Rattle.pv_missing.proofs.KeptElements.{CanKeep}
 use Rattle.pv_missing.proofs.Hedges.{Cut, cut}
-use Rattle.pv_dtd.proofs.Proper.{spelled}
+use Rattle.pv_dtd.proofs.ProperDtds.{spelled}
 
 -- a join without tokens has none on either side
 pub empty_join : (a b : List PlainToken) → [] ≡ a ++ b → (a ≡ []) × (b ≡ [])

@@ -10,9 +10,9 @@ use Rattle.pv_missing.specs.DocumentLaws.{CutsChangeNothing}
 use Rattle.pv_dtd.specs.Proper.{IsProperDtd}
 use Rattle.pv_missing.specs.SameMissing.{SameMissing, uncut, uncut_all, uncut_before}
 use Rattle.pv_tree.specs.Units.{HasUnits, HaveUnits}
-use Rattle.pv_missing.proofs.Alike.{unchanged}
+use Rattle.pv_missing.proofs.AlikeCompletions.{unchanged}
 use Rattle.pv_missing.proofs.AlikeHedges.{Alike, IsText, alike_blank, alike_done, alike_elem, alike_leaf, alike_merge, alike_text, alike_white}
-use Rattle.pv_missing.proofs.Same.{same_missing}
+use Rattle.pv_missing.proofs.SameCompletions.{same_missing}
 
 blank_unit : (g : PlainDtd) (bytes : List ℕ) (more : Bool) (h h2 : Hedge) (b : Bool) → (b || more) ≡ false → (more ≡ false → Alike g h h2) →
     Alike g (leaf (if b then data_unit bytes else white bytes) h) h2

@@ -4,7 +4,7 @@ use Rattle.std.proofs.lemmas.List.{length-map}
 use Rattle.pv_model.specs.PlainForms.{plain_model}
 use Rattle.pv_dtd.specs.Plain.{declared}
 use Rattle.pv_dtd.specs.Facts.{as_dtd}
-use Rattle.pv_missing.proofs.LeftOut.{names}
+use Rattle.pv_missing.proofs.LeftOutNames.{names}
 use Rattle.std.specs.declared.alloc.Global.{Global}
 use Rattle.pv_model.specs.declared.models.ContentModel.{ContentModel}
 

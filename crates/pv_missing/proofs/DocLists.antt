@@ -9,19 +9,19 @@ use Rattle.pv_tree.specs.Lists.{IsValidList, Listed, Owner, an_element, lists_at
 use Rattle.pv_tree.specs.Plain.{Forest, Tree, cdata_node, element, is_element, misc_node, no_trees, text_node, tree}
 use Rattle.pv_tree.specs.View.{view, view_all}
 use Rattle.pv_tree.specs.Words.{word_of}
-use Rattle.pv_missing.specs.Completing.{HasCompletion}
-use Rattle.pv_missing.specs.Covering.{Covers, IsPossibleWith}
+use Rattle.pv_missing.specs.Completions.{HasCompletion}
+use Rattle.pv_missing.specs.Covers.{Covers, IsPossibleWith}
 use Rattle.pv_missing.specs.DocumentLaws.{IsPotentiallyValidByLists, Locality, NumbersAddUp}
 use Rattle.pv_dtd.specs.Proper.{IsProperDtd}
 use Rattle.pv_missing.specs.ListLaws.{LiveMisses}
-use Rattle.pv_missing.specs.Missing.{MissInAll, MissesBy, MissesInContent, MissesInRoot}
+use Rattle.pv_missing.specs.MissingNumbers.{MissInAll, MissesBy, MissesInContent, MissesInRoot}
 use Rattle.pv_tree.specs.Units.{HasUnits}
 use Rattle.pv_missing.specs.Verdicts.{AreVerdicts, IsLive, IsLiveBy, IsLiveContent, IsLiveRoot, Judges}
 use Rattle.pv_missing.proofs.HedgeLists.{NoneImpossible}
 use Rattle.pv_missing.proofs.PossibleWords.{depths}
 use Rattle.pv_missing.proofs.Locality.{locality}
 use Rattle.pv_missing.proofs.OneList.{covered_live, live_agrees}
-use Rattle.pv_missing.proofs.Same.{some_number}
+use Rattle.pv_missing.proofs.SameCompletions.{some_number}
 use Rattle.pv_missing.proofs.TreeLists.{BeforeMisses, before_live, live_before}
 use Rattle.pv_tree.specs.declared.nodes.Verdict.{Verdict}
 use Rattle.pv_tree.specs.declared.nodes.Verdict.TheVariants as verdict

@@ -4,8 +4,8 @@ use Rattle.std.proofs.Common.{List, Some, [], ℕ, ◌+◌, ◌↔◌, ◌∷◌
 use Rattle.pv_model.specs.Plain.{empty, named}
 use Rattle.pv_dtd.specs.Plain.{PlainDtd, model_of, number_of}
 use Rattle.pv_dtd.specs.Hedge.{Hedge, done, elem, leaf, word}
-use Rattle.pv_missing.specs.Completing.{HasCompletion}
-use Rattle.pv_missing.specs.Covering.{Covers, IsPossibleWith}
+use Rattle.pv_missing.specs.Completions.{HasCompletion}
+use Rattle.pv_missing.specs.Covers.{Covers, IsPossibleWith}
 use Rattle.pv_dtd.specs.Proper.{IsProperDtd}
 use Rattle.pv_dtd.specs.Productive.{IsProductive}
 

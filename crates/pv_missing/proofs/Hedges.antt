@@ -3,7 +3,7 @@ use Rattle.std.proofs.Common.{List, [], ap, arith, refl, ◌++◌, ◌+◌, ◌�
 use Rattle.pv_model.specs.Plain.{PlainToken, text}
 use Rattle.pv_dtd.specs.Plain.{PlainDtd, number_of}
 use Rattle.pv_dtd.specs.Hedge.{Hedge, Leaf, cdata, data_unit, done, elem, elements, leaf, misc, token, white, word}
-use Rattle.pv_missing.specs.Extending.{join}
+use Rattle.pv_missing.specs.Extensions.{join}
 
 pub word-join : (g : PlainDtd) (a b : Hedge) → word g (join a b) ≡ word g a ++ word g b
 word-join g done b = refl

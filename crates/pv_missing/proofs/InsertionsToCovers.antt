@@ -3,11 +3,11 @@ use Rattle.std.proofs.Common.{List, Some, [], ap, arith, refl, subst, suc, sym, 
 use Rattle.pv_model.specs.Plain.{PlainToken}
 use Rattle.pv_dtd.specs.Plain.{PlainDtd, number_of}
 use Rattle.pv_dtd.specs.Hedge.{Fits, Hedge, Leaf, cdata, data_unit, elem, leaf, leaf_word, misc, white, word}
-use Rattle.pv_missing.specs.Covering.{Covers, cover_kept, cover_new, cover_none, cover_text}
-use Rattle.pv_missing.specs.Extending.{join}
+use Rattle.pv_missing.specs.Covers.{Covers, cover_kept, cover_new, cover_none, cover_text}
+use Rattle.pv_missing.specs.Extensions.{join}
 use Rattle.pv_dtd.specs.Productive.{IsProductiveName}
 use Rattle.pv_missing.specs.Levels.{Inserts, insert_done, insert_kept, insert_leaf, insert_new}
-use Rattle.pv_missing.proofs.Grow.{CanKeep}
+use Rattle.pv_missing.proofs.KeptElements.{CanKeep}
 use Rattle.pv_missing.proofs.CoversToInsertions.{CanKeep-join}
 use Rattle.pv_missing.proofs.Hedges.{word-join}
 

@@ -12,8 +12,8 @@ use Rattle.pv_rules.specs.Sites.{PlainSite, content_site, name_site}
 use Rattle.pv_rules.proofs.DerivationLaws.{closed_below}
 use Rattle.pv_dtd.specs.Proper.{IsProperDtd}
 use Rattle.pv_missing.specs.ListLaws.{ClosedIsBound, DerivationsMiss, WeightIsLeast}
-use Rattle.pv_missing.specs.Missing.{MissesBy}
-use Rattle.pv_missing.specs.Weighing.{site_of, whole}
+use Rattle.pv_missing.specs.MissingNumbers.{MissesBy}
+use Rattle.pv_missing.specs.ListWeights.{site_of, whole}
 use Rattle.pv_missing.proofs.DocLists.{live_misses_by}
 use Rattle.pv_missing.proofs.OneList.{covered_names}
 use Rattle.pv_missing.proofs.SpanDerivations.{DerivesAtMost, content_weights, root_weights}

@@ -3,15 +3,15 @@ use Rattle.std.proofs.Common.{List, Some, [], ap, arith, refl, ℕ, ◌+◌, ◌
 use Rattle.pv_model.specs.Plain.{named}
 use Rattle.pv_dtd.specs.Plain.{PlainDtd, number_of}
 use Rattle.pv_dtd.specs.Hedge.{AreGood, Fits, Hedge, IsValid, done, elem, leaf, token, word}
-use Rattle.pv_missing.specs.Completing.{HasCompletion}
+use Rattle.pv_missing.specs.Completions.{HasCompletion}
 use Rattle.pv_dtd.specs.Proper.{IsProperDtd}
-use Rattle.pv_missing.specs.Extending.{Extends, both_done, join, new_element, same_element, same_leaf}
+use Rattle.pv_missing.specs.Extensions.{Extends, both_done, join, new_element, same_element, same_leaf}
 use Rattle.pv_missing.specs.Levels.{IsCompleted, IsGoodExtension}
-use Rattle.pv_missing.proofs.Deep.{GrowsBy, IsCompleted-productive, ext_grows, grows_ext}
-use Rattle.pv_missing.proofs.Grow.{CanKeep}
+use Rattle.pv_missing.proofs.InsertionLevels.{GrowsBy, IsCompleted-productive, ext_grows, grows_ext}
+use Rattle.pv_missing.proofs.KeptElements.{CanKeep}
 use Rattle.pv_missing.proofs.CoversToInsertions.{Grown, allows-empty, grow, token-name}
 use Rattle.pv_missing.proofs.HedgeLists.{AllLive, HedgeLocality, IsLiveHedge, NoneImpossible}
-use Rattle.pv_dtd.proofs.Proper.{one_name}
+use Rattle.pv_dtd.proofs.ProperDtds.{one_name}
 use Rattle.pv_missing.proofs.InsertionsToCovers.{Shrunk, shrink}
 
 -- nothing extends to nothing but itself

@@ -4,15 +4,15 @@ use Rattle.std.specs.List.{AllByRecursion}
 use Rattle.pv_model.specs.Plain.{PlainModel, PlainToken, empty, named, other, text}
 use Rattle.pv_dtd.specs.Plain.{PlainDtd, model_of}
 use Rattle.pv_dtd.specs.Hedge.{Hedge, cdata, data_unit, done, elem, elements, leaf, misc, white, word}
-use Rattle.pv_missing.specs.Covering.{Covers, IsPossibleWith, cover_kept, cover_new, cover_none, cover_text}
+use Rattle.pv_missing.specs.Covers.{Covers, IsPossibleWith, cover_kept, cover_new, cover_none, cover_text}
 use Rattle.pv_dtd.specs.Proper.{IsProperDtd}
-use Rattle.pv_missing.specs.Extending.{Extends, both_done, join, new_element, same_element, same_leaf}
+use Rattle.pv_missing.specs.Extensions.{Extends, both_done, join, new_element, same_element, same_leaf}
 use Rattle.pv_missing.specs.ListLaws.{HereExtends, OneList, RootList}
 use Rattle.pv_missing.specs.LiveWords.{AreProductiveTokens, IsLiveWord, live_name, live_none, live_other, live_text, live_unproductive}
 use Rattle.pv_dtd.specs.Productive.{AreProductive, IsProductive, IsProductiveName}
 use Rattle.pv_missing.specs.WordLaws.{LiveAgrees}
 use Rattle.pv_missing.specs.Levels.{CanFit, CanFitRoot, Inserts, Stays, insert_done, insert_kept, insert_leaf, insert_new}
-use Rattle.pv_missing.proofs.Grow.{CanKeep}
+use Rattle.pv_missing.proofs.KeptElements.{CanKeep}
 use Rattle.pv_missing.proofs.CoversToInsertions.{Grown, allows-empty, grow}
 use Rattle.pv_missing.proofs.Hedges.{elements-join}
 use Rattle.pv_missing.proofs.InsertionsToCovers.{Shrunk, shrink}

@@ -4,11 +4,11 @@ use Rattle.pv_model.specs.Plain.{PlainToken, named}
 use Rattle.pv_dtd.specs.Plain.{PlainDtd}
 use Rattle.pv_dtd.specs.Proper.{IsProperDtd}
 use Rattle.pv_rules.specs.Derivations.{DeriveAll, Derives, by_rule, one_more}
-use Rattle.pv_rules.specs.Deriving.{DerivesAt}
+use Rattle.pv_rules.specs.SiteDerivations.{DerivesAt}
 use Rattle.pv_rules.specs.Rules.{Rule, kept, missing, over}
 use Rattle.pv_rules.specs.Sites.{PlainSite, content_site, name_site}
 use Rattle.pv_rules.proofs.DerivationsMade.{spanned, to_one}
-use Rattle.pv_missing.specs.Filling.{IsPossible, IsPossibleRoot}
+use Rattle.pv_missing.specs.FilledWords.{IsPossible, IsPossibleRoot}
 use Rattle.pv_missing.specs.LiveWords.{AreProductiveTokens}
 use Rattle.pv_missing.specs.WordLaws.{PossibleDerives}
 use Rattle.pv_missing.specs.declared.owners.Of.TheVariants as of

@@ -4,13 +4,13 @@ use Rattle.pv_model.specs.Plain.{PlainModel, PlainToken, named}
 use Rattle.pv_model.specs.Models.{Allows}
 use Rattle.pv_dtd.specs.Plain.{PlainDtd, declared, model_of, spelling_of}
 use Rattle.pv_dtd.specs.Hedge.{AreGood, Fits, Hedge, done, elem, elements, word}
-use Rattle.pv_missing.specs.Covering.{Covers, IsLeastInNothing, IsPossibleWith, cover_kept, cover_new, cover_none, cover_text}
+use Rattle.pv_missing.specs.Covers.{Covers, IsLeastInNothing, IsPossibleWith, cover_kept, cover_new, cover_none, cover_text}
 use Rattle.pv_dtd.specs.Proper.{IsProperDtd}
 use Rattle.pv_dtd.specs.Productive.{IsLeastSize}
 use Rattle.pv_missing.specs.WordLaws.{SizeIsMissing}
 use Rattle.pv_missing.proofs.CoversToInsertions.{allows-empty, empty_join}
-use Rattle.pv_missing.proofs.LeftOut.{good_covers, names, names_texts}
-use Rattle.pv_dtd.proofs.Proper.{spelled}
+use Rattle.pv_missing.proofs.LeftOutNames.{good_covers, names, names_texts}
+use Rattle.pv_dtd.proofs.ProperDtds.{spelled}
 use Rattle.pv_missing.proofs.Texts.{allows_texts}
 
 module _ (g : PlainDtd) where

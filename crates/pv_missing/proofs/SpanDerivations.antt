@@ -9,10 +9,10 @@ use Rattle.pv_rules.specs.Sites.{PlainSite, content_site, name_site}
 use Rattle.pv_dtd.specs.Proper.{IsFullModel, IsProperDtd}
 use Rattle.pv_missing.specs.WordLaws.{ContentDerives, RootDerives}
 use Rattle.pv_missing.proofs.CoverWeights.{possible_derives, root_derives}
-use Rattle.pv_missing.proofs.Sound.{sound}
-use Rattle.pv_missing.proofs.FromWords.{from_word}
+use Rattle.pv_missing.proofs.CoversOfDerivations.{sound}
+use Rattle.pv_missing.proofs.DerivationsByNumber.{from_word}
 use Rattle.pv_missing.proofs.SpanContents.{Stands}
-use Rattle.pv_missing.proofs.ToWords.{to_word}
+use Rattle.pv_missing.proofs.DerivationsByWord.{to_word}
 use Rattle.pv_missing.proofs.WordDerivations.{AreFull, AtMost, of_content, of_name}
 
 pub all_at : {A : Type 0} (P : A → Type 0) (xs : List A) (i : ℕ) (x : A) → AllByRecursion P xs → slice_get xs i ≡ Some x → P x

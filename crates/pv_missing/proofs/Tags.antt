@@ -1,9 +1,9 @@
 -- Tags left out show an extension.
 use Rattle.std.proofs.Common.{[], ap, arith, length, length-append, refl, suc, ◌++◌, ◌+◌, ◌∙◌, ◌∷◌, ◌≡◌}
 use Rattle.pv_dtd.specs.Hedge.{elements}
-use Rattle.pv_missing.specs.Completing.{out_done, out_kept, out_leaf, out_new}
+use Rattle.pv_missing.specs.Completions.{out_done, out_kept, out_leaf, out_new}
 use Rattle.pv_missing.specs.DocumentLaws.{ExtensionsHaveTags, TagsExtend}
-use Rattle.pv_missing.specs.Extending.{both_done, new_element, same_element, same_leaf}
+use Rattle.pv_missing.specs.Extensions.{both_done, new_element, same_element, same_leaf}
 use Rattle.pv_missing.proofs.Hedges.{elements-join}
 
 pub tags_extend : TagsExtend

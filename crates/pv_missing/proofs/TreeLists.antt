@@ -6,7 +6,7 @@ use Rattle.pv_tree.specs.Lists.{Listed, lists_at, lists_from}
 use Rattle.pv_tree.specs.Plain.{Forest, Tree, cdata_node, element, misc_node, no_trees, text_node, tree}
 use Rattle.pv_tree.specs.View.{spread, view_all, view_before}
 use Rattle.pv_tree.specs.Words.{word_of}
-use Rattle.pv_missing.specs.Missing.{MissInAll, MissesInContent}
+use Rattle.pv_missing.specs.MissingNumbers.{MissInAll, MissesInContent}
 use Rattle.pv_tree.specs.Units.{HasUnits, HaveUnits}
 use Rattle.pv_missing.proofs.HedgeLists.{AllLive, IsLiveHedge}
 use Rattle.pv_missing.proofs.Texts.{possible_texts}

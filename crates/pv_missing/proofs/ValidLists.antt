@@ -6,14 +6,14 @@ use Rattle.pv_dtd.specs.Plain.{PlainDtd, number_of}
 use Rattle.pv_tree.specs.Lists.{IsOwnValid, IsRootList, IsValidBy, Listed, Owner, an_element, the_document}
 use Rattle.pv_tree.specs.Plain.{Forest, cdata_node, element, misc_node, no_trees, text_node, tree}
 use Rattle.pv_tree.specs.Words.{word_of}
-use Rattle.pv_missing.specs.Covering.{Covers, cover_kept, cover_none, cover_text}
+use Rattle.pv_missing.specs.Covers.{Covers, cover_kept, cover_none, cover_text}
 use Rattle.pv_rules.specs.Derivations.{IsWeight}
 use Rattle.pv_rules.specs.Rules.{Rule}
 use Rattle.pv_rules.specs.Sites.{PlainSite, content_site, name_site}
 use Rattle.pv_dtd.specs.Proper.{IsProperDtd}
 use Rattle.pv_missing.specs.ListLaws.{ValidMissesNone}
-use Rattle.pv_missing.specs.Missing.{Misses, MissesBy, MissesInContent, MissesInRoot}
-use Rattle.pv_missing.specs.Weighing.{Weighs, site_of, whole}
+use Rattle.pv_missing.specs.MissingNumbers.{Misses, MissesBy, MissesInContent, MissesInRoot}
+use Rattle.pv_missing.specs.ListWeights.{Weighs, site_of, whole}
 use Rattle.pv_missing.proofs.DocLists.{live_misses_by}
 use Rattle.pv_missing.proofs.OneList.{IsCoverable, covered_by_productive}
 use Rattle.pv_missing.proofs.SpanDerivations.{DerivesAtMost}

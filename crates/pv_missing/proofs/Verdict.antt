@@ -6,10 +6,10 @@ use Rattle.pv_dtd.specs.Plain.{PlainDtd, number_of}
 use Rattle.pv_tree.specs.Lists.{IsOwnValid, IsRootList, IsValidBy, IsValidList, Owner, an_element, the_document}
 use Rattle.pv_tree.specs.Plain.{Forest, Tree, cdata_node, element, misc_node, no_trees, text_node, tree}
 use Rattle.pv_tree.specs.Words.{node_before, word_of}
-use Rattle.pv_tree.proofs.Firsts.{one_first as first_is_one}
-use Rattle.pv_missing.specs.Covering.{Covers, cover_kept, cover_none, cover_text}
+use Rattle.pv_tree.proofs.FirstLists.{one_first as first_is_one}
+use Rattle.pv_missing.specs.Covers.{Covers, cover_kept, cover_none, cover_text}
 use Rattle.pv_missing.specs.ListLaws.{OneFirst, OneVerdict, OwnValidIsLive}
-use Rattle.pv_missing.specs.Missing.{MissesInContent, MissesInRoot}
+use Rattle.pv_missing.specs.MissingNumbers.{MissesInContent, MissesInRoot}
 use Rattle.pv_dtd.specs.Productive.{IsProductiveName}
 use Rattle.pv_missing.specs.Verdicts.{AreProductiveKids, IsLive, IsLiveBy, IsProductiveNode, IsProductiveOwner, Judges}
 use Rattle.pv_missing.proofs.DocLists.{misses_live_by}

@@ -10,13 +10,13 @@ use Rattle.pv_tree.specs.Lists.{Listed}
 use Rattle.pv_tree.specs.PlainForms.{forest}
 use Rattle.pv_tree.specs.Words.{word_of}
 use Rattle.pv_tree.specs.declared.nodes.Node.{Node}
-use Rattle.pv_missing.specs.Filling.{IsPossible, Pieces, StandsFor}
+use Rattle.pv_missing.specs.FilledWords.{IsPossible, Pieces, StandsFor}
 use Rattle.pv_missing.specs.LiveWords.{AreProductiveTokens, IsLiveWord, live_name, live_none, live_other, live_text}
 use Rattle.pv_missing.specs.Verdicts.{IsVerdict}
-use Rattle.pv_missing.specs.Weighing.{site_of}
+use Rattle.pv_missing.specs.ListWeights.{site_of}
 use Rattle.pv_missing.specs.WordVerdicts.{HoldsOne, IsLiveAt, IsPossibleAt, IsValidAt, IsVerdictByWord, MayHaveKids, has_no_trees}
 use Rattle.pv_missing.proofs.LiveFacts.{live_follows}
-use Rattle.pv_missing.proofs.LiveOnce.{one_live_word}
+use Rattle.pv_missing.proofs.OneLiveWord.{one_live_word}
 use Rattle.pv_missing.proofs.VerdictWords.{verdict_by_word}
 use Rattle.pv_tree.specs.declared.nodes.Verdict.{Verdict}
 use Rattle.pv_tree.specs.declared.nodes.Verdict.TheVariants as verdict

@@ -4,7 +4,7 @@ use Rattle.std.proofs.Common.{List, [], ap, arith, length, refl, suc, sym, zero,
 use Rattle.std.specs.List.{Contains}
 use Rattle.pv_dtd.specs.Plain.{PlainDtd}
 use Rattle.pv_tree.specs.Lists.{Listed}
-use Rattle.pv_tree.proofs.Firsts.{first_behind}
+use Rattle.pv_tree.proofs.FirstLists.{first_behind}
 use Rattle.pv_missing.specs.VerdictLaws.{ImpossibleHasFirst, OneListOfVerdicts}
 use Rattle.pv_missing.specs.Verdicts.{AreVerdicts, IsFirstImpossible, IsLive, IsVerdict}
 use Rattle.pv_missing.proofs.Verdict.{one_verdict}

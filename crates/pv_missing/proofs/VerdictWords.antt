@@ -10,9 +10,9 @@ use Rattle.pv_tree.specs.Plain.{Forest, Tree, cdata_node, element, misc_node, no
 use Rattle.pv_tree.specs.Words.{node_before, word_of}
 use Rattle.pv_missing.specs.VerdictLaws.{VerdictByWord}
 use Rattle.pv_missing.specs.Verdicts.{IsLiveBy, IsLiveContent, IsLiveRoot, Judges}
-use Rattle.pv_missing.specs.Weighing.{site_of}
+use Rattle.pv_missing.specs.ListWeights.{site_of}
 use Rattle.pv_missing.specs.WordVerdicts.{HoldsOne, IsLiveAt, IsLiveByWord, IsValidAt, IsValidByWord, has_no_trees}
-use Rattle.pv_dtd.proofs.Proper.{one_name}
+use Rattle.pv_dtd.proofs.ProperDtds.{one_name}
 use Rattle.pv_tree.specs.declared.nodes.Verdict.{Verdict}
 use Rattle.pv_tree.specs.declared.nodes.Verdict.TheVariants as verdict
 

@@ -6,16 +6,16 @@ use Rattle.pv_dtd.specs.Plain.{PlainDtd}
 use Rattle.pv_tree.specs.Lists.{Listed}
 use Rattle.pv_tree.specs.Plain.{PlainDoc}
 use Rattle.pv_tree.specs.View.{view}
-use Rattle.pv_missing.specs.Completing.{HasCompletion}
+use Rattle.pv_missing.specs.Completions.{HasCompletion}
 use Rattle.pv_rules.specs.Derivations.{heaviest}
 use Rattle.pv_missing.specs.DocumentLaws.{BoundsAddUp, WeightsAddUp}
 use Rattle.pv_dtd.specs.Proper.{IsProperDtd}
 use Rattle.pv_missing.specs.Proper.{IsProperDoc}
-use Rattle.pv_missing.specs.Missing.{MissInAll}
-use Rattle.pv_missing.specs.Weighing.{BoundInAll, SumIsLeast, WeighInAll}
+use Rattle.pv_missing.specs.MissingNumbers.{MissInAll}
+use Rattle.pv_missing.specs.ListWeights.{BoundInAll, SumIsLeast, WeighInAll}
 use Rattle.pv_missing.proofs.DocLists.{numbers_add_up, root_lists}
 use Rattle.pv_missing.proofs.ListDerivations.{weight_is_least}
-use Rattle.pv_missing.proofs.Same.{some_number}
+use Rattle.pv_missing.proofs.SameCompletions.{some_number}
 
 cut_of : (n s : ℕ) → s ≤ n → (s < heaviest → n ≤ s) → (suc s ≤ heaviest) ⊎ (heaviest ≤ s) → min heaviest n ≡ min heaviest s
 cut_of n s le up (inl few) = let e = up (omega arith) in omega arith

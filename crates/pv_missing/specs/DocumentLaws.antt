@@ -7,16 +7,16 @@ use Rattle.pv_dtd.specs.Hedge.{Hedge, IsValid, done, elem, elements}
 use Rattle.pv_tree.specs.Lists.{lists_of}
 use Rattle.pv_tree.specs.Plain.{PlainDoc}
 use Rattle.pv_tree.specs.View.{view}
-use Rattle.pv_missing.specs.Completing.{Completes, HasCompletion, IsPotentiallyValid, LeavesOut}
+use Rattle.pv_missing.specs.Completions.{Completes, HasCompletion, IsPotentiallyValid, LeavesOut}
 use Rattle.pv_dtd.specs.Proper.{IsProperDtd}
 use Rattle.pv_missing.specs.Proper.{IsProperDoc}
-use Rattle.pv_missing.specs.Extending.{Extends, leaves_of}
+use Rattle.pv_missing.specs.Extensions.{Extends, leaves_of}
 use Rattle.pv_missing.specs.Levels.{Inserts, IsCompleted, IsGoodExtension}
-use Rattle.pv_missing.specs.Missing.{MissInAll}
+use Rattle.pv_missing.specs.MissingNumbers.{MissInAll}
 use Rattle.pv_missing.specs.SameMissing.{SameMissing, bare, uncut}
 use Rattle.pv_missing.specs.Verdicts.{AreVerdicts, HavePossible, IsLive}
-use Rattle.pv_missing.specs.Weighing.{AscendBounds, BoundAt, BoundInAll, IsBoundAt, SumIsLeast}
-use Rattle.pv_missing.specs.Weighing.{WeighInAll, sum_of_bounds}
+use Rattle.pv_missing.specs.ListWeights.{AscendBounds, BoundAt, BoundInAll, IsBoundAt, SumIsLeast}
+use Rattle.pv_missing.specs.ListWeights.{WeighInAll, sum_of_bounds}
 use Rattle.pv_tree.specs.declared.nodes.Verdict.{Verdict}
 use Rattle.pv_tree.specs.declared.nodes.Verdict.TheVariants as verdict
 

@@ -4,7 +4,7 @@ use Rattle.pv_model.specs.Plain.{PlainModel, empty, named}
 use Rattle.pv_model.specs.Models.{Allows}
 use Rattle.pv_dtd.specs.Plain.{PlainDtd, declared, number_of}
 use Rattle.pv_dtd.specs.Hedge.{AreGood, Fits, Hedge, Leaf, done, elem, elements, leaf, word}
-use Rattle.pv_missing.specs.Extending.{Extends, join}
+use Rattle.pv_missing.specs.Extensions.{Extends, join}
 
 -- The second hedge is the first with n elements inserted. Each that is inserted at this level is
 -- declared, has no attributes, and has content that fits it. `Kept a x t k k'` says that an element

@@ -5,16 +5,16 @@ use Rattle.pv_dtd.specs.Plain.{PlainDtd, model_of}
 use Rattle.pv_dtd.specs.Hedge.{Hedge, done, elements, word}
 use Rattle.pv_tree.specs.Lists.{IsValidList, Listed}
 use Rattle.pv_tree.specs.Plain.{Forest}
-use Rattle.pv_missing.specs.Covering.{IsPossibleRootWith, IsPossibleWith}
+use Rattle.pv_missing.specs.Covers.{IsPossibleRootWith, IsPossibleWith}
 use Rattle.pv_dtd.specs.Proper.{IsProperDtd}
-use Rattle.pv_missing.specs.Extending.{Extends}
+use Rattle.pv_missing.specs.Extensions.{Extends}
 use Rattle.pv_missing.specs.LiveWords.{IsLiveWord}
 use Rattle.pv_missing.specs.Levels.{CanFit, CanFitRoot, InsertsHere}
 use Rattle.pv_dtd.specs.Productive.{AreProductive}
 use Rattle.pv_missing.specs.Verdicts.{AreProductiveKids, IsFirstImpossible, IsLive}
 use Rattle.pv_missing.specs.Verdicts.{IsProductiveOwner, IsVerdict}
-use Rattle.pv_missing.specs.Missing.{Misses}
-use Rattle.pv_missing.specs.Weighing.{IsBound, Weighs, site_of, whole}
+use Rattle.pv_missing.specs.MissingNumbers.{Misses}
+use Rattle.pv_missing.specs.ListWeights.{IsBound, Weighs, site_of, whole}
 use Rattle.pv_missing.specs.WordVerdicts.{HoldsOne}
 use Rattle.pv_rules.specs.Derivations.{Derives, IsClosed, heaviest}
 use Rattle.pv_rules.specs.Rules.{Goal, IsKnownWord, Rule}
@@ -32,7 +32,8 @@ OneList = (g : PlainDtd) (x n : ℕ) (m : PlainModel) (h : Hedge) (live : List P
     (m ≡ empty → h ≡ done) → AreProductive g h → IsLiveWord g (word g h) live →
     IsPossibleWith g x n live ↔ CanFit g m n h
 
--- the same of the document node
+-- The live word of the document node is possible, with n elements missing, exactly where n elements
+-- inserted at its level make it fit. Of the elements there each has a productive name.
 abbrev pub RootList : Type 0
 RootList = (g : PlainDtd) (y n : ℕ) (h : Hedge) (live : List PlainToken) → IsProperDtd g →
     AreProductive g h → IsLiveWord g (word g h) live →

@@ -4,7 +4,7 @@ use Rattle.std.specs.List.{AllByRecursion}
 use Rattle.pv_model.specs.Plain.{PlainToken, named, other, text}
 use Rattle.pv_dtd.specs.Plain.{PlainDtd}
 use Rattle.pv_dtd.specs.Productive.{IsProductive}
-use Rattle.pv_missing.specs.Filling.{IsPossible, IsPossibleRoot}
+use Rattle.pv_missing.specs.FilledWords.{IsPossible, IsPossibleRoot}
 
 -- the second word is the first with `other` in place of each name that isn't productive
 pub data IsLiveWord (g : PlainDtd) : List PlainToken → List PlainToken → Type 0 where

@@ -6,7 +6,7 @@ use Rattle.pv_dtd.specs.Plain.{PlainDtd, model_of, number_of}
 use Rattle.pv_dtd.specs.Hedge.{Hedge, Leaf, cdata, data_unit, done, elem, leaf, misc, white}
 use Rattle.pv_tree.specs.Plain.{Forest, Tree}
 use Rattle.pv_tree.specs.View.{shown_all, shown_before}
-use Rattle.pv_missing.specs.Completing.{IsLeast, IsPotentiallyValid}
+use Rattle.pv_missing.specs.Completions.{IsLeast, IsPotentiallyValid}
 
 -- the bytes of a text as one leaf, before a hedge
 abbrev pub whole_leaf : List (List ℕ) → Leaf

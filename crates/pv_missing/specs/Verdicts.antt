@@ -8,7 +8,7 @@ use Rattle.pv_tree.specs.Lists.{IsFirstNot, IsValidList, Listed, Owner, an_eleme
 use Rattle.pv_tree.specs.Plain.{Forest, Tree, cdata_node, element, misc_node, no_trees, text_node}
 use Rattle.pv_tree.specs.Plain.{tree}
 use Rattle.pv_tree.specs.Words.{word_of}
-use Rattle.pv_missing.specs.Filling.{IsPossible, IsPossibleRoot}
+use Rattle.pv_missing.specs.FilledWords.{IsPossible, IsPossibleRoot}
 use Rattle.pv_missing.specs.LiveWords.{IsLiveWord}
 use Rattle.pv_dtd.specs.Productive.{IsProductive, IsProductiveName}
 use Rattle.pv_tree.specs.declared.nodes.Verdict.{Verdict}

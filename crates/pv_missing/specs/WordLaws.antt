@@ -3,12 +3,12 @@ use Rattle.std.specs.Prelude.{List, length, suc, ℕ, ◌++◌, ◌↔◌, ◌�
 use Rattle.pv_model.specs.Plain.{PlainToken, text}
 use Rattle.pv_dtd.specs.Plain.{PlainDtd}
 use Rattle.pv_rules.specs.Derivations.{Derives}
-use Rattle.pv_rules.specs.Deriving.{DerivesAt}
+use Rattle.pv_rules.specs.SiteDerivations.{DerivesAt}
 use Rattle.pv_rules.specs.Rules.{Rule, over}
 use Rattle.pv_rules.specs.Sites.{content_site, name_site}
-use Rattle.pv_missing.specs.Covering.{IsLeastInNothing, IsPossibleRootWith, IsPossibleWith}
+use Rattle.pv_missing.specs.Covers.{IsLeastInNothing, IsPossibleRootWith, IsPossibleWith}
 use Rattle.pv_dtd.specs.Proper.{IsProperDtd}
-use Rattle.pv_missing.specs.Filling.{IsPossible, IsPossibleRoot}
+use Rattle.pv_missing.specs.FilledWords.{IsPossible, IsPossibleRoot}
 use Rattle.pv_missing.specs.LiveWords.{AreProductiveTokens, FollowsWord, IsLiveWord}
 use Rattle.pv_dtd.specs.Productive.{IsLeastSize, IsProductive}
 use Rattle.pv_missing.specs.PlainForms.{plain_of}
@@ -67,7 +67,9 @@ ContentDerives = (g : PlainDtd) (x n : ℕ) (w : List PlainToken) → IsProperDt
     (IsPossibleWith g x n w → (m : ℕ) × (m ≤ n) ×
     Derives (Rule g w) m (over (content_site x) 0 (length w)))
 
--- the same of the document node
+-- A word whose names are productive is possible in the document node exactly where an element of
+-- the root's name has a derivation over all of it; the derivation needs no more than the missing
+-- elements weigh.
 abbrev pub RootDerives : Type 0
 RootDerives = (g : PlainDtd) (x n : ℕ) (w : List PlainToken) → IsProperDtd g →
     AreProductiveTokens g w →

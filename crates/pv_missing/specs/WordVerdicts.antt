@@ -8,7 +8,7 @@ use Rattle.pv_dtd.specs.Productive.{IsProductive}
 use Rattle.pv_rules.specs.Sites.{PlainSite, content_site, name_site, part_site, rest_site}
 use Rattle.pv_tree.specs.Lists.{Owner, an_element, the_document}
 use Rattle.pv_tree.specs.Plain.{Forest, Tree, no_trees, tree}
-use Rattle.pv_missing.specs.Filling.{IsPossible, IsPossibleRoot}
+use Rattle.pv_missing.specs.FilledWords.{IsPossible, IsPossibleRoot}
 use Rattle.pv_missing.specs.LiveWords.{IsLiveWord}
 use Rattle.pv_missing.specs.Verdicts.{Judges}
 use Rattle.pv_tree.specs.declared.nodes.Verdict.{Verdict}
@@ -54,7 +54,8 @@ IsValidAt g (content_site x) w none =
 IsValidAt g (part_site q) w none = ⊥
 IsValidAt g (rest_site q) w none = ⊥
 
--- the same where the owner has a site, which it has where the DTD has its name
+-- kids of this word, or none at all, may stand in an owner, which has a site where the DTD has its
+-- name
 abbrev pub IsLiveByWord : PlainDtd → Option PlainSite → List PlainToken → Bool → Type 0
 IsLiveByWord g None w none = ⊥
 IsLiveByWord g (Some s) w none = IsLiveAt g s w none

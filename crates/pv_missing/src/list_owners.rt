@@ -6,7 +6,7 @@ ghost use Rattle.pv_dtd.specs.PlainForms.{plain_dtd};
 ghost use Rattle.pv_rules.specs.Sites.{HasSite};
 ghost use Rattle.pv_tree.specs.Lists.{an_element, the_document};
 ghost use Rattle.pv_missing.specs.PlainForms.{plain_of};
-ghost use Rattle.pv_missing.specs.Weighing.{site_of};
+ghost use Rattle.pv_missing.specs.ListWeights.{site_of};
 
 use crate::owners::Of;
 use pv_dtd::Dtd;

@@ -4,8 +4,8 @@ use Rattle.pv_model.specs.Plain.{PlainPart, PlainToken, named, text, other}
 use Rattle.pv_model.specs.Models.{Matches}
 use Rattle.pv_model.specs.Positions.{may_be_empty, unreached_positions, any_reached, reads}
 use Rattle.pv_model.proofs.ReachedPositions.{Positions, Continues, ends, after, unreached}
-use Rattle.pv_model.proofs.Ends.{may_be_empty-means, ends-means}
-use Rattle.pv_model.proofs.After.{after-means}
+use Rattle.pv_model.proofs.EmptyWords.{may_be_empty-means, ends-means}
+use Rattle.pv_model.proofs.PositionsAfterName.{after-means}
 use Rattle.pv_model.proofs.PositionLists.{list_of, is_end_after-is, positions_after-is}
 use Rattle.pv_model.proofs.UnreachedPositions.{nothing_continues, none_reached_continues, unreached-list}
 

@@ -1,10 +1,10 @@
 -- Content particles and their layouts have the same words.
 use Rattle.std.proofs.Common.{◌≡◌, ℕ, zero, suc, ◌+◌, ◌≤◌, ◌<◌, Bool, ◌⊎◌, inl, inr, ◌↔◌, List, [], ◌∷◌, ◌++◌, length, take, drop, refl, sym, ap, ◌∙◌, subst, arith, append_assoc, length-drop}
-use Rattle.std.proofs.lemmas.List.{append-nil, length-take-le}
+use Rattle.std.proofs.lemmas.List.{length-take-le}
 use Rattle.pv_model.specs.Plain.{PlainPart, name, seq, choice, opt, star, plus, PlainParts, no_parts, part}
 use Rattle.pv_model.specs.Models.{Rounds, no_round, round, Matches, MatchesAll, MatchesSome}
 use Rattle.pv_model.specs.PlainForms.{plain_part, plain_parts}
-use Rattle.pv_model.specs.Layouts.{PlainLayout, nothing, blank, in_order, either, optional, repeated, HasWord, has_empty_word, places_of}
+use Rattle.pv_model.specs.Layouts.{PlainLayout, in_order, either, optional, repeated, HasWord, has_empty_word, places_of}
 use Rattle.pv_model.specs.LaidOut.{listed, IsLaidOut}
 use Rattle.pv_model.specs.declared.models.Part.{Part}
 use Rattle.pv_model.specs.declared.places.Places.{Places}
@@ -81,44 +81,6 @@ some_to (suc k) (p ∷ ps) w m = elim m [
 rounds_map : (R S : List ℕ → Type 0) → ((w : List ℕ) → R w → S w) → (w : List ℕ) → Rounds R w → Rounds S w
 rounds_map R S f _ no_round = no_round
 rounds_map R S f _ (round u v w e a r) = round u v w e (f u a) (rounds_map R S f v r)
-
-pub IsLaidOut-blank : (t : Places) → IsLaidOut (seq no_parts) blank t t
-IsLaidOut-blank t = record {
-  words = λ w. (λ h. h, λ h. h);
-  numbers = refl;
-  places = λ y. sym (append-nil (listed t y));
-}
-
-pub IsLaidOut-nothing : (t : Places) → IsLaidOut (choice no_parts) nothing t t
-IsLaidOut-nothing t = record {
-  words = λ w. (λ h. h, λ h. h);
-  numbers = refl;
-  places = λ y. sym (append-nil (listed t y));
-}
-
-only_from : (p : PlainPart) (w u v : List ℕ) → w ≡ u ++ v → v ≡ [] → Matches p u → Matches p w
-only_from p w u v e n m = subst (Matches p) (sym (e ∙ ap (λ z. u ++ z) n ∙ append-nil u)) m
-
-pub IsLaidOut-only : (p : PlainPart) (g : PlainLayout) (old new : Places) → IsLaidOut p g old new → IsLaidOut (seq (part p no_parts)) g old new
-IsLaidOut-only p g old new l = record {
-  words = λ w. (λ h. (w, [], sym (append-nil w), (l.words w).0 h, refl), λ h. (l.words w).1 (only_from p w h.0 h.1 h.2 h.4 h.3));
-  numbers = l.numbers;
-  places = l.places;
-}
-
-pub IsLaidOut-only_choice : (p : PlainPart) (g : PlainLayout) (old new : Places) → IsLaidOut p g old new → IsLaidOut (choice (part p no_parts)) g old new
-IsLaidOut-only_choice p g old new l = record {
-  words = λ w. (λ h. inl ((l.words w).0 h), λ h. elim h [ inl x ↦ (l.words w).1 x | inr x ↦ absurd x ]);
-  numbers = l.numbers;
-  places = l.places;
-}
-
-pub IsLaidOut-optional : (p : PlainPart) (g : PlainLayout) (old new : Places) → IsLaidOut p g old new → IsLaidOut (opt p) (optional g) old new
-IsLaidOut-optional p g old new l = record {
-  words = λ w. (λ h. elim h [ inl x ↦ inl x | inr x ↦ inr ((l.words w).0 x) ], λ h. elim h [ inl x ↦ inl x | inr x ↦ inr ((l.words w).1 x) ]);
-  numbers = l.numbers;
-  places = l.places;
-}
 
 rounds_to : (p : PlainPart) (g : PlainLayout) → ((w : List ℕ) → HasWord g w ↔ Matches (plus p) w) → (w : List ℕ) → Rounds (Matches p) w → (w ≡ []) ⊎ HasWord g w
 rounds_to p g words _ no_round = inl refl

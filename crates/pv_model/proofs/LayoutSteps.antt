@@ -1,6 +1,7 @@
 -- One more name, in each form of a laid-out particle.
 use Rattle.std.proofs.Common.{◌≡◌, ℕ, Bool, true, false, not, ◌&&◌, ◌||◌, ◌==◌, List, [], ◌∷◌, ◌++◌, length, IsTrue, refl, sym, ap, ◌∙◌, subst, arith, append_assoc, eqb-true, if◌then◌else◌}
-use Rattle.pv_model.specs.Layouts.{PlainLayout, nothing, blank, one, in_order, either, optional, repeated, places_of, ends, reached, Advances, AdvancesFrom, IsSplit}
+use Rattle.std.proofs.Common.{Err, IfOk, Ok, OnOk, Result}
+use Rattle.pv_model.specs.Layouts.{PlainLayout, one, in_order, either, optional, repeated, places_of, ends, reached, Advances, AdvancesFrom, IsSplit}
 use Rattle.pv_model.proofs.LayoutPlaces.{Advances-nothing, reached-before, reached-from, places_of-before, places_of-from, AreFrom-place}
 
 -- some list isn't empty
@@ -16,12 +17,6 @@ pub AdvancesFrom-passed : (g : PlainLayout) (e : Bool) (y : ℕ) (before called 
 AdvancesFrom-passed g e y before called old was is r c w i = record {
   from = λ a b m n q p. rw (w, i) (Advances-nothing g e y m old (sym q ∙ r) (λ t. sym p ∙ c t));
 }
-
-pub AdvancesFrom-nothing : (e : Bool) (y : ℕ) (before called old : List ℕ) (was is : Bool) → was ≡ false → is ≡ false → AdvancesFrom nothing e y before called old old was is
-AdvancesFrom-nothing e y before called old was is w i = record { from = λ a b m n q p. rw (w, i) (Advances-nothing nothing e y m old refl (λ t. refl)) }
-
-pub AdvancesFrom-blank : (e : Bool) (y : ℕ) (before called old : List ℕ) (was is : Bool) → was ≡ false → is ≡ false → AdvancesFrom blank e y before called old old was is
-AdvancesFrom-blank e y before called old was is w i = record { from = λ a b m n q p. rw (w, i) (Advances-nothing blank e y m old refl (λ t. refl)) }
 
 pub AdvancesFrom-one : (place x : ℕ) (e : Bool) (y : ℕ) (before called old new : List ℕ) (ends was is : Bool) → was ≡ has_some before → is ≡ ends →
     ends ≡ (e && x == y) → new ≡ old ++ (if ends then place ∷ [] else []) → AdvancesFrom (one place x) e y before called old new was is
@@ -95,3 +90,8 @@ AdvancesFrom-repeated place g e y before called inner own old mid new w1 i1 w wa
 pub none_where : (ks : List ℕ) (b : Bool) → b ≡ (length ks == 0) → b ≡ true → ks ≡ []
 none_where [] b e h = refl
 none_where (k ∷ ks) b e h = absurd (omega (arith, eqb-true (length (k ∷ ks)) 0 (sym e ∙ h)))
+
+-- what two clauses say of a result
+pub ok_by : {A B : Type 0} (r : Result A B) (P R : A → Type 0) (Q : Type 0) → IfOk r P → OnOk r Q → ((x : A) → P x → Q → R x) → IfOk r R
+ok_by (Ok x) P R Q h q f = f x h q
+ok_by (Err e) P R Q h q f = tt

@@ -1,7 +1,7 @@
 -- of this crate:
-pub mod After
+pub mod PositionsAfterName
 pub mod Answer
-pub mod Ends
+pub mod EmptyWords
 pub mod Joins
 pub mod LayingOut
 pub mod LayoutPlaces
@@ -15,4 +15,4 @@ pub mod WordWalks
 pub mod SplitPlaces
 pub mod Tokens
 pub mod UnreachedPositions
-pub mod Written
+pub mod WrittenPositions

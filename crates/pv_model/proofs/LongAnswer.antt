@@ -115,7 +115,7 @@ module _ (g : PlainLayout) where
     pub answer_never : (AnyLeft g true (unreached g) word → ⊥) → IsTrue false ↔ HasTokens g word
     answer_never n = (λ h. absurd cc, λ c. absurd (n (tokens_to c)))
 
--- the same of the particle that is laid out
+-- the answer for a layout is the one for the particle whose words it has
 pub children-means : (p : PlainPart) (g : PlainLayout) → ((w : List ℕ) → HasWord g w ↔ Matches p w) → (word : List PlainToken) (b : Bool) → IsTrue b ↔ HasTokens g word →
     IsTrue b ↔ IsOfChildren p word
 children-means p g words word b h = (

@@ -118,7 +118,7 @@ mutual
       ap (positions_after p e y) (apart p ps m rest) ∙ positions_after-list_of p e y m.0 (list_of_all ps m.1 ++ rest) in
       rw (behind p ps m rest, next, positions_after-in_each ps e y m.1 rest)
 
--- the same where nothing comes after it
+-- after one more name, where no positions follow those of the particle
 pub is_end_after-is : (p : PlainPart) (e : Bool) (y : ℕ) (m : Positions p) → is_end_after p e y (list_of p m) ≡ ends p (after p e y m)
 is_end_after-is p e y m = ap (is_end_after p e y) (sym (append-nil (list_of p m))) ∙ is_end_after-list_of p e y m []
 

@@ -4,7 +4,7 @@ use Rattle.std.proofs.lemmas.Bool.{or_parts}
 use Rattle.pv_model.specs.Plain.{PlainPart, name, seq, choice, opt, star, plus, PlainParts, no_parts, part}
 use Rattle.pv_model.specs.Positions.{unreached_positions, unreached_positions_all, any_reached}
 use Rattle.pv_model.proofs.ReachedPositions.{Positions, AllPositions, Continues, ContinuesInOrder, ContinuesSome, ends, unreached, all_unreached}
-use Rattle.pv_model.proofs.Ends.{ends-means}
+use Rattle.pv_model.proofs.EmptyWords.{ends-means}
 use Rattle.pv_model.proofs.Progress.{any_reached-append}
 use Rattle.pv_model.proofs.PositionLists.{list_of, list_of_all}
 

@@ -9,7 +9,7 @@ use Rattle.pv_model.proofs.Answer.{read-means}
 use Rattle.std.proofs.lemmas.List.{append-nil, drop_all}
 use Rattle.pv_model.specs.Plain.{PlainPart, name, seq, choice, opt, star, plus, PlainParts, no_parts, part, PlainToken, named}
 use Rattle.pv_model.specs.Positions.{position_count, position_count_all, may_be_empty, unreached_positions, unreached_positions_all, is_end_after, positions_after, any_reached, overwrite, reads}
-use Rattle.pv_model.proofs.Written.{length-positions_after}
+use Rattle.pv_model.proofs.WrittenPositions.{length-positions_after}
 
 pub record IsReading (p : PlainPart) (word : List PlainToken) (entered ended : Bool) (positions : List Bool) (rest : List PlainToken) : Type 0 where
   pub count : length positions ≡ position_count p

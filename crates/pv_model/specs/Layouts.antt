@@ -109,7 +109,8 @@ pub record Advances (g : PlainLayout) (entered : Bool) (y : ℕ) (m : Reach g) (
   pub now : is_end ≡ ends g (after g entered y m)
   pub next : new ≡ old ++ reached g (after g entered y m)
 
--- the same, by the places that are reached and those that have the name
+-- y, which has the places in `called`, leads to these after those before, from each state in which
+-- the word so far has reached the places in `places`
 pub record AdvancesFrom (g : PlainLayout) (entered : Bool) (y : ℕ) (places called old new : List ℕ)
     (was_end is_end : Bool) : Type 0 where
   pub from : (a b : ℕ) (m : Reach g) → IsNumbered g a b → places ≡ reached g m →

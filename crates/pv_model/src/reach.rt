@@ -105,12 +105,10 @@ pub fn advance(
         return Ok(Ends::none());
     }
     match layout {
-        ModelLayout::Nothing => Ok(Ends::none()),
-        ModelLayout::Blank => Ok(Ends::none()),
+        ModelLayout::Nothing | ModelLayout::Blank => Ok(Ends::none()),
         ModelLayout::Name { place, name: own } => {
             let is_end = entered && *own == name;
-            let ends = end_at(*place, !reached.is_empty(), is_end, next, most)?;
-            Ok(ends)
+            end_at(*place, !reached.is_empty(), is_end, next, most)
         }
         ModelLayout::InOrder {
             middle,
@@ -169,16 +167,12 @@ pub fn advance(
             )?;
             Ok(front.or(back))
         }
-        ModelLayout::Opt(member) => {
-            let ends = advance(member, entered, name, reached, called, next, most)?;
-            Ok(ends)
-        }
+        ModelLayout::Opt(member) => advance(member, entered, name, reached, called, next, most),
         ModelLayout::Plus { place, member } => {
             let (inner, own) = split(reached, *place);
             let was_end = !own.is_empty();
             let round = advance(member, entered || was_end, name, inner, called, next, most)?;
-            let ends = end_at(*place, was_end, round.is_end, next, most)?;
-            Ok(ends)
+            end_at(*place, was_end, round.is_end, next, most)
         }
     }
 }

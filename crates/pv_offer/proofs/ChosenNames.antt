@@ -5,7 +5,7 @@ use Rattle.pv_cache.specs.Stamps.{StampedDoc}
 use Rattle.pv_edit.specs.declared.asks.Ask.{Ask}
 use Rattle.pv_offer.specs.Laws.{OffersExactly}
 use Rattle.pv_offer.specs.Offers.{IsOffered, Picks, TellsOffered, added, ends, leaves, takes}
-use Rattle.pv_tree.proofs.Every.{contains_cases, contains_first, contains_later}
+use Rattle.pv_tree.proofs.JoinedLists.{contains_cases, contains_first, contains_later}
 
 module _ {P : List ℕ → Type 0} where
   pub takes_last : {xs ys : List (List ℕ)} (x : List ℕ) → Picks P xs ys → P x → Picks P (xs ++ x ∷ []) (ys ++ x ∷ [])

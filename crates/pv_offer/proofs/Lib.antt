@@ -1,5 +1,5 @@
 -- of this crate:
-mod Alike
+mod EditsOfAnyName
 mod ChosenNames
 mod Outlines
 pub mod SharedDocument

@@ -1,11 +1,11 @@
 -- What holds of offers. M is a type of marks.
 use Rattle.std.specs.Prelude.{Contains, IsTrue, List, ℕ, ◌≡◌}
-use Rattle.pv_cache.specs.Accepting.{IsHoldable, IsWithinLimits}
+use Rattle.pv_cache.specs.AcceptedEdits.{IsHoldable, IsWithinLimits}
 use Rattle.pv_cache.specs.Moves.{HasGround}
 use Rattle.pv_cache.specs.Stamps.{StampedDoc}
 use Rattle.pv_dtd.specs.Plain.{PlainDtd}
 use Rattle.pv_edit.specs.ChangedLists.{changed_lists, makes}
-use Rattle.pv_edit.specs.Given.{is_new_name}
+use Rattle.pv_edit.specs.GivenNames.{is_new_name}
 use Rattle.pv_edit.specs.Reasons.{edit_outcome, gives, refuses}
 use Rattle.pv_edit.specs.declared.answers.EditAnswer.{EditAnswer}
 use Rattle.pv_edit.specs.declared.answers.EditAnswer.TheVariants as answer_of

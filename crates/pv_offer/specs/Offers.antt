@@ -1,13 +1,13 @@
 -- The names that may be put at a place of a document.
 use Rattle.std.specs.Prelude.{Bool, IfOk, IsTrue, List, Result, [], false, take, true, ℕ, ◌++◌}
 use Rattle.std.specs.Prelude.{◌∷◌, ◌≡◌}
-use Rattle.pv_cache.specs.Accepting.{IsAccepted, IsWithinLimits}
+use Rattle.pv_cache.specs.AcceptedEdits.{IsAccepted, IsWithinLimits}
 use Rattle.pv_cache.specs.Moves.{HasGround}
 use Rattle.pv_cache.specs.Stamps.{StampedDoc}
 use Rattle.pv_chars.specs.declared.memory.NoMemory.{NoMemory as WantOfMemory}
 use Rattle.pv_dtd.specs.Plain.{PlainDtd, declared}
 use Rattle.pv_edit.specs.ChangedLists.{changed_lists, makes}
-use Rattle.pv_edit.specs.Given.{is_new_name}
+use Rattle.pv_edit.specs.GivenNames.{is_new_name}
 use Rattle.pv_edit.specs.Reasons.{edit_outcome, gives}
 use Rattle.pv_edit.specs.declared.answers.EditAnswer.{EditAnswer}
 use Rattle.pv_edit.specs.declared.answers.EditAnswer.TheVariants as answer
@@ -74,7 +74,7 @@ abbrev pub TellsOffered : StampedDoc → Ask → List ℕ → Bool → Type 0
 TellsOffered s ask x true = IsOffered s ask x
 TellsOffered s ask x false = IsOffered s ask x → ⊥
 
--- the same, unless there was too little memory
+-- it is told of a name whether it may be put there, unless there was too little memory
 abbrev pub TellsOf : StampedDoc → Ask → List ℕ → Result Bool WantOfMemory → Type 0
 TellsOf s ask x tried = IfOk tried (TellsOffered s ask x)
 

@@ -2,7 +2,7 @@
 
 ghost use Rattle.std.specs.Prelude.{◌≡◌, ◌<◌, IfErr, IfOk, OnOk, ℕ};
 ghost use Rattle.std.specs.List.{AllZip};
-ghost use Rattle.pv_cache.specs.Accepting.{IsAccepted};
+ghost use Rattle.pv_cache.specs.AcceptedEdits.{IsAccepted};
 ghost use Rattle.pv_cache.specs.Moves.{HasGround};
 ghost use Rattle.pv_offer.specs.Offers.{TellsOf, edit_with};
 ghost use Rattle.pv_tree.specs.Plain.{PlainDoc};

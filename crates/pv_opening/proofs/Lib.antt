@@ -1,5 +1,5 @@
 -- for other crates:
-pub mod Both
+pub mod StagePairs
 pub mod FetchedFiles
 pub mod JudgedLists
 pub mod OneOpening

@@ -7,10 +7,10 @@ use Rattle.pv_tree.specs.Marks.{unmarked_doc}
 use Rattle.pv_tree.specs.Plain.{PlainDoc}
 use Rattle.pv_tree.specs.View.{view}
 use Rattle.pv_tree.specs.declared.nodes.Mark.{Mark}
-use Rattle.pv_tree.proofs.Every.{all_right}
-use Rattle.pv_tree.proofs.Firsts.{one_first}
+use Rattle.pv_tree.proofs.JoinedLists.{all_right}
+use Rattle.pv_tree.proofs.FirstLists.{one_first}
 use Rattle.pv_missing.proofs.VerdictHeads.{live_alike}
-use Rattle.pv_missing.specs.Completing.{IsPotentiallyValid}
+use Rattle.pv_missing.specs.Completions.{IsPotentiallyValid}
 use Rattle.pv_missing.specs.Verdicts.{IsLive}
 use Rattle.pv_missing.specs.Widths.{FitsVerdict, IsFirstTooWide, IsListForVerdict}
 use Rattle.pv_opening.specs.Possibility.{AreAllNarrow, RefusesImpossible, RefusesWidth, is_impossible, is_too_wide, possibility_stage, verdict_stage, width_stage}

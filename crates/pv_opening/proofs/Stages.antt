@@ -7,7 +7,7 @@ use Rattle.pv_opening.specs.declared.stop.Stop.{Stop}
 use Rattle.pv_opening.specs.declared.stop.Stop.TheVariants.{Refused, ShelfFault, NoMemory}
 use Rattle.pv_opening.specs.Course.{Course, after_fetches, without_input}
 use Rattle.pv_opening.specs.Opening.{IsFile}
-use Rattle.pv_opening.specs.Showing.{CountsShelf}
+use Rattle.pv_opening.specs.ShownCourses.{CountsShelf}
 use Rattle.pv_opening.specs.Response.{PlainResponse, plain_response}
 use Rattle.pv_opening.specs.Returns.{TakesCourse, RefusesWith, Returns, StopCounts, StopsBy, TellsBy, ending_of}
 use Rattle.pv_opening.specs.Stage.{Stage, without_fetch, followed_by, beside, Behind, opened, refused, stopped, short_of_memory, Responds, responded, short_of_memory as out_of_memory}

@@ -23,20 +23,9 @@ pub record Course : Type 0 where
 
 -- the run ended after so many fetches, and the input wasn't asked
 abbrev pub without_input : ℕ → RunEnding → Course
-without_input fetches ending = record {
-  fetches = fetches;
-  taken = None;
-  at_end = false;
-  silent = [];
-  ending = ending;
-}
+without_input fetches ending =
+    record { fetches = fetches; taken = None; at_end = false; silent = []; ending = ending }
 
 -- a course after so many fetches that came before it
 abbrev pub after_fetches : ℕ → Course → Course
-after_fetches count rest = record {
-  fetches = count + rest.fetches;
-  taken = rest.taken;
-  at_end = rest.at_end;
-  silent = rest.silent;
-  ending = rest.ending;
-}
+after_fetches count rest = record rest { fetches = count + rest.fetches }

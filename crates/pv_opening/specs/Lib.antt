@@ -1,12 +1,12 @@
 pub mod Course
 pub mod Devices
 pub mod Documents
-pub mod Judging
+pub mod JudgedCounts
 pub mod Opening
 pub mod Parameters
 pub mod Possibility
 pub mod Response
 pub mod Returns
-pub mod Showing
+pub mod ShownCourses
 pub mod Stage
 pub mod Status

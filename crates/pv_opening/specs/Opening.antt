@@ -32,9 +32,8 @@ IsFile (Some files) name file = file ≡ file_named name files
 -- a file for each of these names, in order
 abbrev pub AreFiles : Option (List (List ℕ × List ℕ)) → List (List ℕ) → Files → Type 0
 AreFiles told [] [] = Unit {0}
-AreFiles told [] (file ∷ files) = ⊥
-AreFiles told (name ∷ names) [] = ⊥
 AreFiles told (name ∷ names) (file ∷ files) = IsFile told name file × AreFiles told names files
+AreFiles told _ _ = ⊥
 
 -- the file holds these bytes, and no more than so many
 pub record IsFetched (file : Option (List ℕ)) (most : ℕ) (bytes : List ℕ) : Type 0 where

@@ -6,7 +6,7 @@ use Rattle.pv_tree.specs.Lists.{lists_of}
 use Rattle.pv_tree.specs.Plain.{PlainDoc}
 use Rattle.pv_tree.specs.View.{view}
 use Rattle.pv_tree.specs.declared.nodes.Mark.{Mark}
-use Rattle.pv_missing.specs.Completing.{IsPotentiallyValid}
+use Rattle.pv_missing.specs.Completions.{IsPotentiallyValid}
 use Rattle.pv_missing.specs.Verdicts.{HaveVerdicts, IsFirstImpossible, PlainVerdicts}
 use Rattle.pv_missing.specs.Widths.{IsFirstTooWide, IsListForVerdict}
 use Rattle.pv_words.specs.Paths.{path_text}

@@ -10,7 +10,7 @@ use Rattle.pv_opening.specs.Course.{Course, RunEnding, no_memory, responds, shel
 use Rattle.pv_opening.specs.Course.{without_input}
 use Rattle.pv_opening.specs.Devices.{InputNow, OutputNow, ShelfNow}
 use Rattle.pv_opening.specs.Documents.{PlainOpened}
-use Rattle.pv_opening.specs.Showing.{CountsShelf, ShowsStreams}
+use Rattle.pv_opening.specs.ShownCourses.{CountsShelf, ShowsStreams}
 use Rattle.pv_opening.specs.Response.{PlainResponse, plain_response}
 use Rattle.pv_opening.specs.Stage.{Stage}
 use Rattle.pv_opening.specs.declared.opening.Fetched.{Fetched}

@@ -1,8 +1,8 @@
 //! The order of work, up to a document that was opened: stages, one after another, each of which
 //! opens something, or refuses with a response, or stops (`specs/Stage.antt`). A run takes a course
-//! through them (`specs/Course.antt`), and its devices show it (`specs/Showing.antt`). Here are the
-//! stages that several commands share: the files of a DTD and a document (`specs/Opening.antt`,
-//! `specs/Documents.antt`), and whether inserting elements can make it valid
+//! through them (`specs/Course.antt`), and its devices show it (`specs/ShownCourses.antt`). Here
+//! are the stages that several commands share: the files of a DTD and a document
+//! (`specs/Opening.antt`, `specs/Documents.antt`), and whether inserting elements can make it valid
 //! (`specs/Possibility.antt`); and the writing of a response.
 #![tactic(auto)]
 

@@ -2,7 +2,7 @@
 
 ghost use Rattle.std.specs.Prelude.{◌≡◌, true};
 ghost use Rattle.pv_opening.specs.Course.{responds};
-ghost use Rattle.pv_opening.specs.Showing.{WritesEnding};
+ghost use Rattle.pv_opening.specs.ShownCourses.{WritesEnding};
 ghost use Rattle.pv_opening.specs.Response.{plain_response};
 ghost use Rattle.pv_opening.specs.Returns.{ending_of};
 

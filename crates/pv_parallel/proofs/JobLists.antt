@@ -7,7 +7,7 @@ use Rattle.pv_tree.specs.Plain.{Forest, PlainDoc, Tree, cdata_node, element, mis
 use Rattle.pv_tree.specs.PlainForms.{forest, plain}
 use Rattle.pv_tree.specs.declared.nodes.Mark.{Mark}
 use Rattle.pv_tree.specs.declared.nodes.Node.{Node}
-use Rattle.pv_tree.proofs.Every.{all_joined}
+use Rattle.pv_tree.proofs.JoinedLists.{all_joined}
 use Rattle.pv_tree.proofs.Forests.{forest-drop, forest-end}
 use Rattle.pv_parallel.specs.Jobs.{Adds, AreJobs, HasGathered, IsRunOf, TakesFront}
 use Rattle.pv_parallel.specs.Sizes.{HasFewTokens, Measures, Tallies}

@@ -9,7 +9,7 @@ use Rattle.pv_dtd.specs.Plain.{PlainDtd}
 use Rattle.pv_tree.specs.Lists.{Listed}
 use Rattle.pv_tree.specs.declared.nodes.Mark.{Mark}
 use Rattle.pv_tree.specs.declared.nodes.Verdict.{Verdict}
-use Rattle.pv_tree.proofs.Every.{all_left, all_right}
+use Rattle.pv_tree.proofs.JoinedLists.{all_left, all_right}
 use Rattle.pv_missing.specs.Verdicts.{AreVerdicts, IsVerdict}
 use Rattle.pv_missing.specs.Widths.{IsListForVerdict}
 use Rattle.pv_reach.specs.declared.errors.ReachError.{ReachError}

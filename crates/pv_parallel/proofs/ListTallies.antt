@@ -4,10 +4,10 @@ use Rattle.std.specs.List.{AllByRecursion}
 use Rattle.pv_dtd.specs.Plain.{PlainDtd}
 use Rattle.pv_tree.specs.Lists.{Listed}
 use Rattle.pv_tree.specs.declared.nodes.Mark.{Mark}
-use Rattle.pv_tree.proofs.Every.{all_joined}
+use Rattle.pv_tree.proofs.JoinedLists.{all_joined}
 use Rattle.pv_tree.specs.Words.{word_of}
 use Rattle.pv_missing.specs.Widths.{FitsVerdict, IsListForVerdict}
-use Rattle.pv_fresh.proofs.Narrow.{fits_less}
+use Rattle.pv_fresh.proofs.NarrowLists.{fits_less}
 use Rattle.pv_parallel.specs.Sizes.{HasFewTokens, Tallies}
 use Rattle.pv_parallel.specs.declared.sizes.Tally.{Tally}
 

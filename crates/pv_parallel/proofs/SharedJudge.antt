@@ -18,12 +18,6 @@ use Rattle.pv_productive.specs.contracts.grammar.Grammar as grammar
 pub plan_sync : IsSync plan.the_row
 plan_sync = search (sendable, crosses) depth 40 fits 20000
 
-pub content_sync : IsSync content.the_row
-content_sync = search (part_crosses, sendable, crosses) depth 40
-
-pub form_sync : IsSync form.the_row
-form_sync = search (layout_crosses, sendable, crosses, maps_cross) depth 40
-
 pub laid_sync : IsSync laid.the_row
 laid_sync = search (part_crosses, layout_crosses, sendable, crosses, maps_cross) depth 60 fits 20000
 

@@ -12,7 +12,7 @@ pub trait Gate {
         ensures { entered self.now number };
 }
 
-/// Takes no notice.
+/// A gate that does nothing, for callers that don't watch which list is judged.
 #[derive(Clone, Copy, Debug)]
 pub struct NoGate;
 

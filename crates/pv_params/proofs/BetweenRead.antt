@@ -39,10 +39,6 @@ no_instruction_at : (b : ℕ) (rest : List ℕ) → (60 == b) ≡ false → inst
 unfolding instruction_at
 no_instruction_at b rest e = rw e refl
 
-no_markup_word : (rest : List ℕ) → (comment_at (codes "<!E" ++ rest) ≡ None) × (instruction_at (codes "<!E" ++ rest) ≡ None) × (reference_at (codes "<!E" ++ rest) ≡ None)
-unfolding comment_at instruction_at reference_at named_at
-no_markup_word rest = (refl, refl, refl)
-
 no_comment_question : (rest : List ℕ) → comment_at (codes "<?" ++ rest) ≡ None
 unfolding comment_at
 no_comment_question rest = refl

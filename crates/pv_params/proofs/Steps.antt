@@ -1,18 +1,18 @@
 -- One step of the program: what it leads to, and that less is left.
 use Rattle.std.proofs.Common.{◌≡◌, ◌≢◌, ◌<◌, ℕ, suc, ◌+◌, ◌-◌, ◌*◌, List, [], ◌∷◌, ◌++◌, length, take, drop, codes, Bool, true, false, ◌||◌, is_some}
-use Rattle.std.proofs.Common.{Option, Some, None, ◌==◌, refl, sym, ap, ◌∙◌, subst, arith, append_assoc, append-nil, length-append, take-append-drop}
+use Rattle.std.proofs.Common.{Option, Some, None, ◌==◌, refl, sym, ap, ◌∙◌, subst, arith, append_assoc, length-append, take-append-drop}
 use Rattle.std.proofs.lemmas.Bool.{ltb-false}
 use Rattle.std.proofs.lemmas.Bool.Decides.{Decides-eqb}
 use Rattle.std.proofs.lemmas.List.{drop_at}
 use Rattle.pv_chars.specs.Scan.{after_bytes}
 use Rattle.pv_chars.proofs.TextScans.{after_bytes_takes}
 use Rattle.pv_params.specs.Items.{Mode, file, between, inside, value, TextItem, puts, reference, parameter, declaration}
-use Rattle.pv_params.specs.Spelling.{Spells, StandsAt, IsConditional, IsExternal, HasHead}
+use Rattle.pv_params.specs.Spelling.{Spells, StandsAt, IsConditional, IsExternal}
 use Rattle.pv_params.specs.Meaning.{Fault, conditional, external, undeclared, recursive, limit, syntax, SoFar, MAX_REFERENCES, MAX_PLACED, Enters}
 use Rattle.pv_params.specs.Meaning.{EndOfText, closes, declares, finish, put, entered, with_no_result, blank, blank_before, mode_of_text, Within}
 use Rattle.pv_params.specs.Meaning.{Opens, of_reference, of_parameter, of_declaration, Outcome, gives, meets, IsBetween, IsOfEntity, BeginsNothing}
 use Rattle.pv_params.specs.Meaning.{Stops, ends, refused, of_section, of_external, no_item, unread, Reads, stops, copies, meets_within, goes_on}
-use Rattle.pv_params.specs.Meaning.{expanded, faulty, expansion_of, Expands, behind_head}
+use Rattle.pv_params.specs.Meaning.{expanded, Expands}
 use Rattle.pv_params.specs.ItemReading.{item_at, external_at}
 use Rattle.pv_params.specs.OpenTexts.{LeadToExpansion, PlainOpenText, names_behind, Comes, LeadToOutcome, room_of, work_left, mode_behind, OpensAt, Handles}
 use Rattle.pv_params.specs.Answers.{Tells}
@@ -279,29 +279,3 @@ pub all_read : (bytes : List ℕ) (ps qs : List PlainOpenText) (reading names : 
     LeadToOutcome qs names after o → LeadToOutcome ps reading before o) → qs ≡ [] →
     Expands bytes (expanded after.result)
 all_read bytes ps qs reading names before after leads step e = leads (gives after) (step (gives after) (subst (λ l. LeadToOutcome l names after (gives after)) (sym e) refl))
-
-pub leads_on : (bytes : List ℕ) (ps qs : List PlainOpenText) (reading names : List (List ℕ))
-    (before after : SoFar) → LeadToExpansion bytes ps reading before → ((o : Outcome) →
-    LeadToOutcome qs names after o → LeadToOutcome ps reading before o) → LeadToExpansion bytes qs names after
-leads_on bytes ps qs reading names before after leads step = λ o l. leads o (step o l)
-
-pub all_faulty : (bytes : List ℕ) (ps : List PlainOpenText) (reading : List (List ℕ))
-    (before : SoFar) → LeadToExpansion bytes ps reading before → (f : Fault) →
-    LeadToOutcome ps reading before (meets f) → Expands bytes (faulty f)
-all_faulty bytes ps reading before leads f l = leads (meets f) l
-
--- the file alone is being read
-pub file_leads : (bytes head rest : List ℕ) → HasHead bytes head rest →
-    LeadToExpansion bytes
-    (record { mode = file false; of_entity = false; rest = rest; ending = closes [] } ∷ []) []
-    (behind_head head)
-file_leads bytes head rest is o (gives after, r, e) =
-    record {
-      head = head;
-      rest = rest;
-      outcome = gives after;
-      has_head = is;
-      reads = r;
-      is_expansion = ap expansion_of e ∙ ap expanded (append-nil after.result);
-    }
-file_leads bytes head rest is o (meets f, r, e) = record { head = head; rest = rest; outcome = meets f; has_head = is; reads = r; is_expansion = ap expansion_of e }

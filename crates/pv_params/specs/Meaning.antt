@@ -56,19 +56,12 @@ passes_limit before text = nat_lt MAX_REFERENCES (suc before.references) ||
     nat_lt MAX_PLACED (before.placed + length text)
 
 abbrev pub put : List ℕ → SoFar → SoFar
-put bytes before = record {
-  declared = before.declared;
-  references = before.references;
-  placed =
-      before.placed;
-  result = before.result ++ bytes;
-}
+put bytes before = record before { result = before.result ++ bytes }
 
 -- ---- a reference that is read
 -- the first fault of a reference that is read (XML 1.0, 4.1, No Recursion, Entity Declared)
 pub data RefusesReference (mode : Mode) (reading : List (List ℕ)) (before : SoFar) (name : List ℕ) :
-    Fault →
-    Type 0 where
+    Fault → Type 0 where
   no_entity : text_of name before.declared ≡ None →
       RefusesReference mode reading before name undeclared
   being_read : {text : List ℕ} → text_of name before.declared ≡ Some text →
@@ -97,12 +90,8 @@ pub data EndOfText : Type 0 where
 
 abbrev pub finish : EndOfText → SoFar → SoFar
 finish (closes bytes) after = put bytes after
-finish (declares name result) after = record {
-  declared = with_entity name after.result after.declared;
-  references = after.references;
-  placed = after.placed;
-  result = result;
-}
+finish (declares name result) after =
+    record after { declared = with_entity name after.result after.declared; result = result }
 
 -- A text that is read within another: its mode, the names whose texts are being read, what was read
 -- so far; and after it the ending, and
@@ -119,44 +108,30 @@ pub record Within : Type 0 where
 -- the mode of an entity's text where the reference is read in this mode
 abbrev pub mode_of_text : Mode → Mode
 mode_of_text (file after_parameter) = between
-mode_of_text between = between
-mode_of_text inside = inside
-mode_of_text value = value
+mode_of_text mode = mode
 
 -- what is put before and after it
 abbrev pub blank : Mode → List ℕ
-blank (file after_parameter) = codes " "
-blank between = codes " "
-blank inside = codes " "
 blank value = []
+blank _ = codes " "
 
 -- the mode after a parameter declaration
 abbrev pub behind_parameter : Mode → Mode
 behind_parameter (file after_parameter) = file true
-behind_parameter between = between
-behind_parameter inside = inside
-behind_parameter value = value
+behind_parameter mode = mode
 
 -- a reference to this text is counted, and one space put before it
 abbrev pub entered : Mode → List ℕ → SoFar → SoFar
 entered mode text before =
-    record {
-      declared = before.declared;
+    record before {
       references = suc before.references;
-      placed =
-          before.placed + length text;
+      placed = before.placed + length text;
       result = before.result ++ blank mode;
     }
 
 -- a text with nothing in its result yet
 abbrev pub with_no_result : SoFar → SoFar
-with_no_result before = record {
-  declared = before.declared;
-  references =
-      before.references;
-  placed = before.placed;
-  result = [];
-}
+with_no_result before = record before { result = [] }
 
 -- the item at the front of the rest has this text read within (XML 1.0, 4.4.8, 4.5)
 pub data Opens (mode : Mode) (reading : List (List ℕ)) (before : SoFar) (rest : List ℕ) : Within →
@@ -201,10 +176,9 @@ pub data Outcome : Type 0 where
 
 -- the file, or an entity's text, in mode Between
 abbrev pub IsBetween : Mode → Type 0
-IsBetween (file after_parameter) = Unit {0}
-IsBetween between = Unit {0}
 IsBetween inside = ⊥
 IsBetween value = ⊥
+IsBetween _ = Unit {0}
 
 -- the rest isn't empty, and begins with no item of the mode, and with nothing that is refused by
 -- its front
@@ -222,9 +196,7 @@ blank_before after_parameter = if after_parameter then codes " " else []
 -- a text that isn't the file
 abbrev pub IsOfEntity : Mode → Type 0
 IsOfEntity (file after_parameter) = ⊥
-IsOfEntity between = Unit {0}
-IsOfEntity inside = Unit {0}
-IsOfEntity value = Unit {0}
+IsOfEntity _ = Unit {0}
 
 -- reading comes to its end here
 pub data Stops (mode : Mode) (reading : List (List ℕ)) (before : SoFar) (rest : List ℕ) : Outcome →

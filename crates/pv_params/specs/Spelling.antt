@@ -9,7 +9,7 @@ use Rattle.pv_chars.specs.Markup.{IsComment, IsInstruction}
 use Rattle.pv_chars.specs.Declarations.{is_one_of, IsQuoted, IsTextDecl}
 use Rattle.pv_chars.specs.ByteOrderMark.{IsBehindByteOrderMark}
 use Rattle.pv_chars.specs.References.{number, IsCharRefIn, IsEntityRef}
-use Rattle.pv_params.specs.Items.{Mode, file, between, inside, value, TextItem, puts, reference}
+use Rattle.pv_params.specs.Items.{Mode, inside, value, TextItem, puts, reference}
 use Rattle.pv_params.specs.Items.{parameter, declaration}
 
 -- PEReference: `%`, this Name, `;` (XML 1.0, 4.1)
@@ -38,8 +38,7 @@ abbrev pub SpellsInside : TextItem → List ℕ → Type 0
 SpellsInside (puts result) text =
     (result ≡ text) × (IsByteBut (codes "<>%'\"") text ⊎ IsQuotedLiteral text)
 SpellsInside (reference name) text = IsPEReference name text
-SpellsInside (parameter name given) text = ⊥
-SpellsInside (declaration word held) text = ⊥
+SpellsInside _ text = ⊥
 
 -- ---- mode Value: bytes other than `%` and `&`, EntityRefs, CharRefs, references
 -- CharRef in this base, which gives this character
@@ -59,8 +58,7 @@ abbrev pub SpellsValue : TextItem → List ℕ → Type 0
 SpellsValue (puts result) text = ((result ≡ text) × (IsByteBut (codes "%&") text ⊎
     IsGeneral text)) ⊎ IsCharacter result text
 SpellsValue (reference name) text = IsPEReference name text
-SpellsValue (parameter name given) text = ⊥
-SpellsValue (declaration word held) text = ⊥
+SpellsValue _ text = ⊥
 
 -- such items, one after the other, and nothing else
 pub data AreItems (Spells : TextItem → List ℕ → Type 0) : List ℕ → Type 0 where
@@ -120,10 +118,9 @@ SpellsBetween (declaration word held) text = IsDeclaration word held text
 
 -- ---- all modes
 abbrev pub Spells : Mode → TextItem → List ℕ → Type 0
-Spells (file after_parameter) = SpellsBetween
-Spells between = SpellsBetween
 Spells inside = SpellsInside
 Spells value = SpellsValue
+Spells _ = SpellsBetween
 
 -- this item stands at the front of the rest of a text that is read in this mode, and this after it
 pub record StandsAt (mode : Mode) (rest : List ℕ) (i : TextItem) (more : List ℕ) : Type 0 where

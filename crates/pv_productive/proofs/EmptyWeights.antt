@@ -10,9 +10,9 @@ use Rattle.pv_rules.specs.Kinds.{OfContent, OfName, OfPart, OfRest}
 use Rattle.pv_rules.specs.Numbering.{IsMemberAt, first_part, here, later, part_at, rest_at}
 use Rattle.pv_rules.specs.Rules.{Goal, Rule, any_none, children_part, empty_none, missing, mixed_none, opt_none, over, part_choice, part_name, part_seq, plus_one, rest_last, rest_then, star_none}
 use Rattle.pv_rules.specs.Sites.{PlainSite, content_site, name_site, part_site, rest_site}
-use Rattle.pv_rules.proofs.ByKind.{by_kind}
+use Rattle.pv_rules.proofs.RulesByKind.{by_kind}
 use Rattle.pv_rules.proofs.Facts.{parts_by_number}
-use Rattle.pv_productive.proofs.Paid.{Nothing, by_none, by_one, by_two, none_span}
+use Rattle.pv_productive.proofs.HedgeDerivations.{Nothing, by_none, by_one, by_two, none_span}
 
 module _ (g : PlainDtd) where
   -- v is the least weight of a derivation of the site over no tokens, cut at c

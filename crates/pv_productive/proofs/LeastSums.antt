@@ -11,11 +11,11 @@ use Rattle.pv_rules.specs.Sites.{PlainSite, content_site, name_site, part_site, 
 use Rattle.pv_rules.specs.declared.flat.ContentKind.{ContentKind}
 use Rattle.pv_rules.specs.declared.flat.ContentKind.TheVariants as content
 use Rattle.pv_rules.specs.declared.flat.FlatContent.{FlatContent}
-use Rattle.pv_rules.proofs.ByKind.{by_kind}
+use Rattle.pv_rules.proofs.RulesByKind.{by_kind}
 use Rattle.pv_rules.proofs.FlatContents.{content_at}
 use Rattle.pv_rules.proofs.FlatKinds.{IsNoRest}
 use Rattle.pv_productive.specs.Tables.{IsLeastMember, IsLeastSum, Table, no_size, size_at, size_in, size_of, total}
-use Rattle.pv_productive.proofs.Paid.{none_span}
+use Rattle.pv_productive.proofs.HedgeDerivations.{none_span}
 use Rattle.pv_productive.proofs.EmptyWeights.{name_rules, part_rules, plus_rules, rest_rules, then_rules}
 
 -- a content that needs no element

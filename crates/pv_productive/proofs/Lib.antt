@@ -3,10 +3,10 @@ pub mod CutSums
 pub mod SizeLaws
 -- of this crate:
 pub mod Elements
-pub mod Grown
+pub mod GrownHedges
 pub mod LeastSums
 pub mod LoweredSizes
-pub mod Paid
+pub mod HedgeDerivations
 pub mod SettledSizes
 pub mod NameSizes
 pub mod EmptyWeights

@@ -14,14 +14,14 @@ use Rattle.pv_rules.specs.Derivations.{DeriveAll, Derives, by_rule, heaviest, no
 use Rattle.pv_rules.specs.Numbering.{first_part, part_at, rest_at}
 use Rattle.pv_rules.specs.Rules.{Goal, Rule, any_none, children_part, empty_none, mixed_none, over}
 use Rattle.pv_rules.specs.Sites.{PlainSite, content_site, name_site, part_site, rest_site}
-use Rattle.pv_rules.proofs.ByKind.{by_kind}
+use Rattle.pv_rules.proofs.RulesByKind.{by_kind}
 use Rattle.pv_rules.proofs.Facts.{parts_by_number}
 use Rattle.pv_rules.proofs.Members.{some_part}
 use Rattle.pv_rules.proofs.Spans.{over_spans}
 use Rattle.pv_productive.specs.Tables.{AreNamesSettled, ArePartsSettled, HasSize, IsAttained, IsLeastSum, IsLowered, IsLowering, IsSettled}
 use Rattle.pv_productive.specs.Tables.{IsSettledAt, Table, capped, no_size, size_at, size_in, size_of, sum_in, total}
 use Rattle.pv_productive.proofs.CutSums.{cut_below, cut_few, cut_least, cut_many, cut_mono}
-use Rattle.pv_productive.proofs.Paid.{by_none, by_one, none_span}
+use Rattle.pv_productive.proofs.HedgeDerivations.{by_none, by_one, none_span}
 use Rattle.pv_productive.proofs.EmptyWeights.{content_rules, name_rules, part_rules, rest_rules}
 
 module _ (g : PlainDtd) (t : Table) (a : IsAttained g t) where
@@ -156,9 +156,6 @@ module _ (g : PlainDtd) where
       kept (At (name_site q)) old (record { names = cells; parts = old.parts; rests = old.rests }) a
       (ap (λ x. let t : Table = record { names = x; parts = old.parts; rests = old.rests } in t)
       d.1) (sum_settled g old a (name_site q) k l d.0)
-
-  pub lowered_none : (t : Table) (P : Table → Type 0) → IsAttained g t → P t → IsLowering g P t t false
-  lowered_none t P a p = kept P t t a refl p
 
   -- sizes don't grow
   not_more : (P : Table → Type 0) (old new : Table) (b : Bool) → IsLowering g P old new b → sum_in new ≤ sum_in old

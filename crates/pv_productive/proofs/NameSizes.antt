@@ -8,7 +8,7 @@ use Rattle.pv_productive.specs.PlainForms.{dtd_of}
 use Rattle.pv_productive.specs.Sizes.{IsCutSize}
 use Rattle.pv_productive.specs.Tables.{no_size, size_at}
 use Rattle.pv_productive.specs.declared.grammar.Grammar.{Grammar}
-use Rattle.pv_dtd.proofs.Proper.{proper}
+use Rattle.pv_dtd.proofs.ProperDtds.{proper}
 use Rattle.pv_productive.proofs.SettledSizes.{size_held}
 
 module _ (g : Grammar) (y v : ℕ) (e : v ≡ size_at g.sizes.items y) where

@@ -17,8 +17,8 @@ use Rattle.pv_dtd.specs.Proper.{IsProperDtd}
 use Rattle.pv_productive.specs.Sizes.{IsCutSize}
 use Rattle.pv_productive.specs.Tables.{AreSizes, IsAttained, IsSettled, Table, capped, no_size, size_at, size_of, total}
 use Rattle.pv_productive.proofs.CutSums.{cut_few}
-use Rattle.pv_productive.proofs.Grown.{grown}
-use Rattle.pv_productive.proofs.Paid.{Nothing, by_one, derived, none_span}
+use Rattle.pv_productive.proofs.GrownHedges.{grown}
+use Rattle.pv_productive.proofs.HedgeDerivations.{Nothing, by_one, derived, none_span}
 use Rattle.pv_productive.proofs.EmptyWeights.{derivation, weigh}
 
 module _ (g : PlainDtd) (t : Table) (settled : IsSettled g t) where

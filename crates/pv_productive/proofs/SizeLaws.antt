@@ -6,8 +6,8 @@ use Rattle.pv_productive.specs.Laws.{IsLeastOverNothing, ProductiveDerives, Size
 use Rattle.pv_dtd.specs.Proper.{IsProperDtd}
 use Rattle.pv_rules.specs.Rules.{over}
 use Rattle.pv_rules.specs.Sites.{content_site}
-use Rattle.pv_productive.proofs.Grown.{grown}
-use Rattle.pv_productive.proofs.Paid.{derived}
+use Rattle.pv_productive.proofs.GrownHedges.{grown}
+use Rattle.pv_productive.proofs.HedgeDerivations.{derived}
 
 pub productive_derives : ProductiveDerives
 productive_derives g y r = (

@@ -2,3 +2,4 @@ pub mod Sizes
 pub mod Laws
 pub mod Tables
 pub mod PlainForms
+pub mod Turns

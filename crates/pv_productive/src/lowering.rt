@@ -99,6 +99,7 @@ pub fn lower_site(layout: &Layout, site: Site, sizes: &mut Sizes) -> bool
     requires { IsAttained (plain_dtd layout.now.dtd) (table_of sizes.old) }
     ensures attained { IsAttained (plain_dtd layout.now.dtd) (table_of sizes.new) }
     ensures less { IsTrue result → sum_in (table_of sizes.new) < sum_in (table_of sizes.old) }
+    ensures most { sum_in (table_of sizes.new) ≤ sum_in (table_of sizes.old) }
 {
     match site {
         Site::Name(id) if id.0 < layout.dtd().names() => lower_name(layout, id.0, sizes),

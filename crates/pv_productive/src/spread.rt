@@ -2,9 +2,11 @@
 //! algorithm", 1977): what is made from one size, or from a sum, is known with it; a choice is known
 //! with its least member.
 
+ghost use Rattle.std.specs.Prelude.{◌≤◌, OnOk};
 ghost use Rattle.pv_dtd.specs.PlainForms.{plain_dtd};
 ghost use Rattle.pv_productive.specs.PlainForms.{table_of};
 ghost use Rattle.pv_productive.specs.Tables.{IsAttained};
+ghost use Rattle.pv_productive.specs.Turns.{turns_left};
 
 use crate::layout::Layout;
 use crate::links::Links;
@@ -36,18 +38,22 @@ fn climb(
     waiting: &mut Waiting,
 ) -> Result<(), NoMemory>
     requires { IsAttained (plain_dtd layout.now.dtd) (table_of sizes.old) }
-    ensures { IsAttained (plain_dtd layout.now.dtd) (table_of sizes.new) }
+    ensures attained { IsAttained (plain_dtd layout.now.dtd) (table_of sizes.new) }
+    ensures turns { OnOk result (turns_left (table_of sizes.new) waiting.new ≤
+        turns_left (table_of sizes.old) waiting.old) }
 {
     let mut site = Site::Part(number);
     while lower_site(layout, site, sizes) {
         if let Site::Name(id) = site {
-            return waiting.push_mentions(links, id.0);
+            waiting.push_mentions(links, id.0)?;
+            return Ok(());
         }
         let Some(above) = links.above(site) else {
             return Ok(());
         };
         if let Some(choice) = choice_at(layout, above) {
-            return waiting.push_choice(choice, sizes.of_site(site));
+            waiting.push_choice(choice, sizes.of_site(site))?;
+            return Ok(());
         }
         site = above;
     }
@@ -63,10 +69,7 @@ pub fn spread(alloc: Global, layout: &Layout, sizes: &mut Sizes) -> Result<(), N
     lower_all(layout, sizes);
     let links = Links::of(alloc, layout)?;
     let mut waiting = Waiting::of(alloc, layout, &links, sizes)?;
-    for _ in 0..u64::MAX {
-        let Some(number) = waiting.pop() else {
-            break;
-        };
+    while let Some(number) = waiting.pop() {
         if sizes.of_part(number) == NO_SIZE {
             climb(layout, &links, number, sizes, &mut waiting)?;
         }

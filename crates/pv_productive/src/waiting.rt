@@ -25,6 +25,9 @@ pub struct Waiting {
 }
 
 impl Waiting {
+    ghost use Rattle.std.specs.Prelude.{◌+◌, ◌^◌, ◌<◌, ◌≤◌, OnOk, OnSome};
+    ghost use Rattle.pv_productive.specs.Turns.{parts_waiting};
+
     /// The mentions of all names that need no other element.
     pub fn of(
         alloc: Global,
@@ -46,7 +49,9 @@ impl Waiting {
     }
 
     /// Puts in all mentions of a name.
-    pub fn push_mentions(&mut self, links: &Links, name: u32) -> Result<(), NoMemory> {
+    pub fn push_mentions(&mut self, links: &Links, name: u32) -> Result<(), NoMemory>
+        ensures { OnOk result (parts_waiting self.new ≤ parts_waiting self.old + 2 ^ 32) }
+    {
         let mut mention = links.first_mention(name);
         while let Some(number) = mention {
             self.ready.push(number)?;
@@ -56,7 +61,9 @@ impl Waiting {
     }
 
     /// Puts in a choice, with the size of one of its members.
-    pub fn push_choice(&mut self, choice: u32, size: u32) -> Result<(), NoMemory> {
+    pub fn push_choice(&mut self, choice: u32, size: u32) -> Result<(), NoMemory>
+        ensures { OnOk result (parts_waiting self.new ≤ parts_waiting self.old + 1) }
+    {
         if size <= self.reached {
             self.ready.push(choice)?;
         } else {
@@ -66,7 +73,9 @@ impl Waiting {
     }
 
     /// Takes a part of least size.
-    pub fn pop(&mut self) -> Option<u32> {
+    pub fn pop(&mut self) -> Option<u32>
+        ensures { OnSome result (parts_waiting self.new < parts_waiting self.old) }
+    {
         if let Some(number) = self.ready.pop() {
             return Some(number);
         }

@@ -1,13 +1,9 @@
 -- The answer for a word of productive names, by whether its owner's column reaches the end.
-use Rattle.std.proofs.Common.{Bool, IsTrue, List, None, Option, [], arith, inl, inr, length, map, refl, Some, ℕ, ◌∷◌, ◌↔◌, ◌≡◌, ◌≤◌}
-use Rattle.pv_model.specs.Plain.{PlainModel, named}
+use Rattle.std.proofs.Common.{Bool, IsTrue, List, [], arith, inl, inr, length, map, ℕ, ◌∷◌, ◌↔◌, ◌≡◌}
+use Rattle.pv_model.specs.Plain.{named}
 use Rattle.pv_model.specs.PlainForms.{plain_token}
 use Rattle.pv_model.specs.declared.models.Token.{Token}
-use Rattle.pv_dtd.specs.Plain.{IsDeclared, PlainDtd, declared, model_of}
-use Rattle.pv_rules.specs.Derivations.{by_rule}
-use Rattle.pv_rules.specs.Kinds.{OfContent}
-use Rattle.pv_rules.proofs.ByKind.{by_kind}
-use Rattle.std.proofs.lemmas.Option.{slice_get_within}
+use Rattle.pv_dtd.specs.Plain.{IsDeclared, PlainDtd, declared}
 use Rattle.pv_rules.specs.Sites.{content_site}
 use Rattle.pv_reach.proofs.FormedDtds.{IsFormedDtd}
 use Rattle.pv_missing.specs.LiveWords.{AreProductiveTokens}
@@ -21,7 +17,7 @@ use Rattle.pv_missing.specs.WordVerdicts.{IsPossibleAt}
 use Rattle.pv_columns.specs.declared.rules.ColumnRule.{ColumnRule}
 use Rattle.pv_columns.specs.ColumnRules.{ReadThrough}
 use Rattle.pv_reach.specs.Columns.{AreRules}
-use Rattle.pv_rules.specs.Deriving.{DerivesAt}
+use Rattle.pv_rules.specs.SiteDerivations.{DerivesAt}
 use Rattle.pv_reach.proofs.ColumnsDerive.{content_derives}
 use Rattle.pv_reach.proofs.SitesReach.{sites_reach}
 
@@ -32,14 +28,6 @@ content_reaches g rules word x b are formed l iff = (
   (λ t. content_derives g rules word are formed x 0 (length word) l (omega arith) (iff.0 t)),
   (λ d. iff.1 (sites_reach g rules word are d.0 (content_site x) 0 (length word) d.1).1),
 )
-
--- the content of a name that isn't declared derives nothing
-pub undeclared_derives : (g : PlainDtd) (word : List Token) (x : ℕ) → declared g ≤ x → DerivesAt g (map plain_token word) (content_site x) 0 (length word) → ⊥
-undeclared_derives g word x le (n, by_rule _ c m _ xs e rule ds) = undeclared_case (model_of g x) refl (by_kind g (map plain_token word) (content_site x) 0 (length word) c xs rule)
-  where
-    undeclared_case : (o : Option PlainModel) → model_of g x ≡ o → OfContent g (map plain_token word) 0 (length word) c xs x o → ⊥
-    undeclared_case None e k = k
-    undeclared_case (Some m) e k = let l = slice_get_within g.models x m e in omega arith
 
 module _ (g : PlainDtd) (word : List Token) (x : ℕ) (b : Bool) (proper : IsProperDtd g) (productive : AreProductiveTokens g (map plain_token word))
     (iff : IsTrue b ↔ DerivesAt g (map plain_token word) (content_site x) 0 (length word)) where

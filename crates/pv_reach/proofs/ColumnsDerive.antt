@@ -19,7 +19,7 @@ use Rattle.pv_rules.proofs.DerivationsMade.{any_more, mixed_more, plus_again, sp
 use Rattle.pv_reach.proofs.FormedDtds.{IsFormedDtd}
 use Rattle.pv_columns.specs.declared.rules.ColumnRule.{ColumnRule}
 use Rattle.pv_columns.specs.ColumnRules.{ReadThrough, ReadsToken}
-use Rattle.pv_rules.specs.Deriving.{DerivesAt}
+use Rattle.pv_rules.specs.SiteDerivations.{DerivesAt}
 use Rattle.pv_columns.specs.ColumnRules as Columns
 use Rattle.pv_reach.specs.Columns.{AreRules, IsAnyRule, IsContentRule, IsPartRule, IsRule, any_column, member_columns, of_any, of_content, of_part, part_column, token_of}
 use Rattle.pv_columns.proofs.Spans.{reads_within, reaches_within}

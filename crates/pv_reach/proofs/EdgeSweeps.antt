@@ -5,7 +5,7 @@ use Rattle.std.proofs.lemmas.Bool.{cases_lt}
 use Rattle.std.proofs.lemmas.List.{get_or_append_left}
 use Rattle.std.proofs.Math.Seq.{get_or-append_seam}
 use Rattle.std.proofs.lemmas.List.Elements.{Contains-append_cases}
-use Rattle.pv_reach.specs.Leading.{AreLed, IsRightEdgeOf, IsHead, Leads, Turned, along, here}
+use Rattle.pv_reach.specs.LeadingColumns.{AreLed, IsRightEdgeOf, IsHead, Leads, Turned, along, here}
 use Rattle.pv_columns.specs.declared.layers.Edge.{Edge}
 use Rattle.pv_columns.specs.declared.rules.ColumnRule.{ColumnRule}
 use Rattle.pv_reach.proofs.RaisedCells.{set_at}

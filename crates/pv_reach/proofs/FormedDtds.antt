@@ -4,7 +4,7 @@ use Rattle.std.specs.List.{list_all}
 use Rattle.pv_dtd.specs.Facts.{is_formed_model}
 use Rattle.pv_dtd.specs.Plain.{PlainDtd}
 use Rattle.pv_dtd.specs.Proper.{IsProperDtd}
-use Rattle.pv_dtd.proofs.Proper.{proper}
+use Rattle.pv_dtd.proofs.ProperDtds.{proper}
 use Rattle.pv_productive.specs.PlainForms.{dtd_of}
 use Rattle.pv_productive.specs.declared.grammar.Grammar.{Grammar}
 

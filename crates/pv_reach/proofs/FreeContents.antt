@@ -8,7 +8,7 @@ use Rattle.pv_model.specs.PlainForms.{plain_token}
 use Rattle.pv_model.specs.declared.models.Token.{Token}
 use Rattle.pv_model.specs.declared.models.Token.TheVariants.{Other, Text}
 use Rattle.pv_dtd.specs.Plain.{IsDeclared, PlainDtd}
-use Rattle.pv_rules.specs.Deriving.{DerivesAt}
+use Rattle.pv_rules.specs.SiteDerivations.{DerivesAt}
 use Rattle.pv_rules.specs.Sites.{content_site}
 use Rattle.pv_missing.specs.LiveWords.{AreProductiveTokens}
 use Rattle.pv_columns.specs.FreeSets.{AreFreeSets, AreInRow, IsFreeOver}
@@ -17,7 +17,7 @@ use Rattle.pv_columns.specs.declared.rules.ColumnRule.{ColumnRule}
 use Rattle.pv_reach.specs.Columns.{token_of, width_of}
 use Rattle.pv_reach.specs.Merging.{column_head}
 use Rattle.pv_reach.specs.Plans.{IsPlan}
-use Rattle.pv_reach.specs.Taking.{ContentTakes, IsContentSet, IsFreeContent}
+use Rattle.pv_reach.specs.TokensTaken.{ContentTakes, IsContentSet, IsFreeContent}
 use Rattle.pv_reach.specs.declared.plan.Plan.{Plan}
 use Rattle.pv_reach.proofs.ColumnsDerive.{content_derives}
 use Rattle.pv_reach.proofs.EmptyReaches.{tokens_may_be_missing}

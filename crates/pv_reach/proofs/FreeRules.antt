@@ -1,10 +1,9 @@
 -- The rules of free columns for a word, in front of those that are kept.
-use Rattle.std.proofs.Common.{Contains, List, None, Some, [], arith, get_or, inl, inr, length, subst, suc, sym, zero, ℕ, ◌++◌, ◌<◌, ◌∷◌, ◌≡◌, ◌⊎◌}
+use Rattle.std.proofs.Common.{Contains, List, [], arith, get_or, inl, inr, subst, suc, zero, ℕ, ◌++◌, ◌<◌, ◌∷◌, ◌≡◌}
 use Rattle.std.proofs.lemmas.List.Elements.{Contains-append_cases, Contains-append_left, Contains-append_right}
 use Rattle.pv_model.specs.declared.models.Token.{Token}
 use Rattle.pv_columns.specs.declared.rules.ColumnRule.{ColumnRule}
-use Rattle.pv_reach.specs.Adding.{RulesGrow}
-use Rattle.pv_reach.specs.Columns.{Has}
+use Rattle.pv_reach.specs.AddedRules.{RulesGrow}
 use Rattle.pv_reach.specs.Cuts.{AreCutRules, AreCuts, AreRulesCut, AreRulesKept, HasCut, IsCutOf, by_rules}
 use Rattle.pv_reach.specs.declared.tables.cut.Cut.{Cut}
 use Rattle.pv_reach.specs.declared.tables.kept.Cuts.{Cuts}

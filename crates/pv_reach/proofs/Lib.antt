@@ -1,6 +1,6 @@
 -- of this crate:
-pub mod ChainsLeft
-pub mod Alone
+pub mod SearchSteps
+pub mod TokenRules
 pub mod Cells
 pub mod FewColumns
 pub mod ClosedCells
@@ -13,7 +13,7 @@ pub mod FreeRules
 pub mod PartRules
 pub mod LinkedColumns
 pub mod ContentRules
-pub mod Live
+pub mod LiveColumns
 pub mod MembersLeft
 pub mod NameRules
 pub mod PlacedNumbers
@@ -27,6 +27,6 @@ pub mod StandInColumns
 pub mod SitesReach
 pub mod EdgeSweeps
 pub mod FreeContents
-pub mod Within
+pub mod InnerSpans
 -- for other crates:
 pub mod OtherMarks

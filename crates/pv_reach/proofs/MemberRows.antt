@@ -12,7 +12,7 @@ use Rattle.pv_rules.proofs.Facts.{parts_by_number}
 use Rattle.pv_rules.proofs.FlatKinds.{IsNoRest}
 use Rattle.pv_rules.proofs.Members.{some_part}
 use Rattle.pv_reach.specs.Columns.{part_column}
-use Rattle.pv_reach.specs.Reached.{AreRests, past_column, past_members, past_rest}
+use Rattle.pv_reach.specs.ReachedPlaces.{AreRests, past_column, past_members, past_rest}
 use Rattle.pv_reach.specs.Merging.{column_head}
 use Rattle.pv_reach.specs.Tables.{IsTable, onward, past}
 use Rattle.pv_reach.specs.declared.tables.ends.Ends.{Ends}
@@ -38,9 +38,6 @@ module _ (g : PlainDtd) (e : Ends) where
   pub record IsFilled (rests : List ℕ) (n from : ℕ) : Type 0 where
     pub behind : AreRests g e rests (suc n)
     pub row : (i : ℕ) (ps : PlainParts) → i < from → rest_at g n ≡ Some ps → past_rest e rests n i ≡ past_members g e n ps i
-
-  pub filled_none : (rests : List ℕ) (n : ℕ) → AreRests g e rests (suc n) → IsFilled rests n 0
-  filled_none rests n are = record { behind = are; row = λ i ps lt h. absurd (omega arith) }
 
   module _ (rests : List ℕ) (n from v : ℕ) (lt : n < parts_in_models g.models) (le : from ≤ length e.word.items) (is : IsFilled rests n from) where
     at : ℕ

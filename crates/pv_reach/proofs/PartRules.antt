@@ -5,7 +5,7 @@ use Rattle.pv_model.specs.declared.models.Token.{Token}
 use Rattle.pv_dtd.specs.Plain.{PlainDtd, declared}
 use Rattle.pv_rules.specs.Numbering.{IsAfterPart, IsChoiceAt, IsMemberAt, part_at}
 use Rattle.pv_rules.proofs.Members.{HavePassed, member_in, passed_all, passed_more, passed_none}
-use Rattle.pv_reach.specs.Adding.{AddsRule, AreSoundRules, RulesGrow, IsRuleOfPart, LaysOut}
+use Rattle.pv_reach.specs.AddedRules.{AddsRule, AreSoundRules, RulesGrow, IsRuleOfPart, LaysOut}
 use Rattle.pv_reach.specs.Columns.{Has, IsPartRule, RightSide, member_columns, of_part, part_column, token_of}
 use Rattle.pv_columns.specs.declared.rules.ColumnRule.{ColumnRule}
 use Rattle.pv_reach.proofs.PushedRules.{adds_as, grow_none, grow_twice, has_as, sound_more}
@@ -64,9 +64,6 @@ module _ (g : PlainDtd) (q c : ℕ) (is : c ≡ part_column g q) where
   pub seq_laid : (old new : List ColumnRule) (ps : PlainParts) (cs : List ℕ) → part_at g q ≡ Some (seq ps) → cs ≡ member_columns g (suc q) ps → AddsRule old new c None cs →
       LaysOut g old new (part_column g q) (IsRuleOfPart g q)
   seq_laid old new ps cs at e a = laid_one g q c is (seq ps) at old new None cs (refl, e) a (λ v es rule. (rule.0, rule.1 ∙ sym e))
-
-  next_column : (d : ℕ) → d ≡ c + 1 → d ≡ part_column g (suc q)
-  next_column d e = omega arith
 
   two_columns : (d b : ℕ) → d ≡ c + 1 → b ≡ c → d ∷ b ∷ [] ≡ part_column g (suc q) ∷ part_column g q ∷ []
   two_columns d b e f = let x : d ≡ part_column g (suc q) = omega arith in let y : b ≡ part_column g q = omega arith in cc

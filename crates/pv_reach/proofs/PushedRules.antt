@@ -5,7 +5,7 @@ use Rattle.pv_model.specs.declared.models.Token.{Token}
 use Rattle.pv_columns.specs.declared.rules.ColumnRule.{ColumnRule}
 use Rattle.pv_dtd.specs.Plain.{PlainDtd}
 use Rattle.pv_reach.specs.Columns.{IsRule, Has}
-use Rattle.pv_reach.specs.Adding.{AreSoundRules, RulesGrow, AddsRule}
+use Rattle.pv_reach.specs.AddedRules.{AreSoundRules, RulesGrow, AddsRule}
 
 pub has_as : (rules : List ColumnRule) (l k : ℕ) (o u : Option Token) (cs ds : List ℕ) → l ≡ k → o ≡ u → cs ≡ ds → Has rules k u ds → Has rules l o cs
 has_as rules l k o u cs ds a b c h = record { rule = h.rule; is_in = h.is_in; is_left = h.is_left ∙ sym a; is_token = h.is_token ∙ sym b; are_columns = h.are_columns ∙ sym c }

@@ -116,6 +116,3 @@ pub rise_complete : (rules : List ColumnRule) (word : List Token) (width : ℕ) 
     (from : ℕ) → ((k : ℕ) → get_or old k 0 ≤ get_or new k 0) →
     IsComplete rules word width old from → IsComplete rules word width new from
 rise_complete rules word width old new from up full = record { beyond = λ c i j lt ge le d. let a = full.beyond c i j lt ge le d in let b = up (i * width + c) in omega arith }
-
-pub none_complete : (rules : List ColumnRule) (word : List Token) (width : ℕ) (table : List ℕ) (from : ℕ) → from ≡ suc (length word) → IsComplete rules word width table from
-none_complete rules word width table from e = record { beyond = λ c i j lt ge le d. absurd (omega arith) }

@@ -9,7 +9,7 @@ use Rattle.std.proofs.lemmas.List.Elements.{Contains-append_cases, Contains-appe
 use Rattle.pv_model.specs.declared.models.Token.{Token}
 use Rattle.pv_columns.specs.declared.rules.ColumnRule.{ColumnRule}
 use Rattle.pv_columns.proofs.ClosedMarks.{same_or_not}
-use Rattle.pv_reach.specs.Adding.{AddsRule, RulesGrow}
+use Rattle.pv_reach.specs.AddedRules.{AddsRule, RulesGrow}
 use Rattle.pv_reach.specs.Cuts.{AddsCut, AreCutRules, AreColumnNumbers, AreRanges, HasAllNumbered, HasCut, HasNumbered, IsCutRule, by_rules, by_set}
 use Rattle.pv_reach.specs.Merging.{column_head}
 use Rattle.pv_reach.specs.declared.columns.ranges.RuleRanges.{RuleRanges}

@@ -11,19 +11,19 @@ use Rattle.pv_model.specs.declared.models.Token.{Token}
 use Rattle.pv_model.specs.declared.models.Token.TheVariants.{Name, Other, Text}
 use Rattle.pv_dtd.specs.Plain.{PlainDtd, declared}
 use Rattle.pv_rules.specs.Derivations.{by_rule as by_rule_of, none_left}
-use Rattle.pv_rules.specs.Deriving.{DerivesAt}
+use Rattle.pv_rules.specs.SiteDerivations.{DerivesAt}
 use Rattle.pv_rules.specs.Numbering.{part_at, rest_at}
 use Rattle.pv_rules.specs.Rules.{kept, missing, over}
 use Rattle.pv_rules.specs.Sites.{HasSite, PlainSite, content_site, name_site, part_site, rest_site}
-use Rattle.pv_rules.proofs.ByKind.{by_kind}
+use Rattle.pv_rules.proofs.RulesByKind.{by_kind}
 use Rattle.pv_rules.proofs.DerivationsMade.{spanned, to_one}
 use Rattle.pv_columns.specs.ColumnRules.{ReadThrough, TokensMayBeMissing, by_rule, done}
 use Rattle.pv_columns.specs.declared.rules.ColumnRule.{ColumnRule}
 use Rattle.pv_columns.proofs.Spans.{join}
 use Rattle.pv_reach.specs.Columns.{AreRules, IsRule, member_columns, of_any, of_content, of_part, part_column, token_of, width_of}
-use Rattle.pv_reach.specs.Ending.{AreReaches, IsGreatestEnd, past_of, place_told}
+use Rattle.pv_reach.specs.FurthestEnds.{AreReaches, IsGreatestEnd, past_of, place_told}
 use Rattle.pv_reach.specs.Merging.{Replaces, column_head, column_heads}
-use Rattle.pv_reach.specs.Reached.{AreRests, is_of_name, kept_past, past_column, past_members, past_rest}
+use Rattle.pv_reach.specs.ReachedPlaces.{AreRests, is_of_name, kept_past, past_column, past_members, past_rest}
 use Rattle.pv_reach.specs.Tables.{IsFurthest, onward, past}
 use Rattle.pv_reach.specs.declared.tables.ends.Ends.{Ends}
 use Rattle.pv_reach.specs.declared.reaches.Reaches.{Reaches}

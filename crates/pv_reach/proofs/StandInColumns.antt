@@ -5,11 +5,11 @@ use Rattle.std.proofs.Common.{Err, Ok, Result}
 use Rattle.std.specs.Prelude.{IfOk, OnOk}
 use Rattle.std.proofs.lemmas.List.{get_or_default}
 use Rattle.pv_model.specs.declared.models.Token.{Token}
-use Rattle.pv_reach.specs.Adding.{AddsRule, RulesGrow}
+use Rattle.pv_reach.specs.AddedRules.{AddsRule, RulesGrow}
 use Rattle.pv_columns.specs.ColumnRules.{InRange, ReadThrough, ReadsToken, TokensMayBeMissing, by_rule, done}
 use Rattle.pv_reach.specs.Columns.{Has}
 use Rattle.pv_columns.specs.Marks.{AreNullable}
-use Rattle.pv_reach.specs.Leading.{AreAlike, LeadsOnTo, ReadsWhatever}
+use Rattle.pv_reach.specs.LeadingColumns.{AreAlike, LeadsOnTo, ReadsWhatever}
 use Rattle.pv_reach.specs.Merging.{AddsMerged, AreMerged, HasMerged, IsFurtherRule, IsMergedRule, IsMerging, MayStandBehind, Replaces, behind, column_head, column_heads, none, one}
 use Rattle.pv_reach.specs.declared.columns.merging.Merging.{Merging}
 use Rattle.pv_columns.specs.declared.rules.ColumnRule.{ColumnRule}
@@ -205,9 +205,6 @@ module _ (rules : List ColumnRule) (m : Merging) where
     grow = adds.grow;
     merged = λ a. record { only = λ k u ds h. elim (adds.only k u ds h) [ inl x ↦ a.only k u ds x | inr e ↦ rw (e.0, e.1, e.2) rule ] };
   }
-
-  pub merged_none : (new : List ColumnRule) → new ≡ [] → AreMerged rules m new
-  merged_none new e = record { only = λ l o cs h. absurd (let P : List ColumnRule → Type 0 = λ v. Contains v h.rule in let lt = (subst P e h.is_in).1 in omega arith) }
 
 -- a rule of the list, by its number
 pub numbered : (rules : List ColumnRule) (i : ℕ) (r s : ColumnRule) → i < length rules → r ≡ get_or rules i r → s ≡ get_or rules i s → r ≡ s

@@ -7,7 +7,7 @@ use Rattle.pv_columns.specs.FreeSets.{AreFreeSets, IsFreeOver}
 use Rattle.pv_columns.specs.Tokens.{IsInRow}
 use Rattle.pv_columns.specs.declared.free_sets.FreeSets.{FreeSets}
 use Rattle.pv_columns.specs.declared.rules.ColumnRule.{ColumnRule}
-use Rattle.pv_reach.specs.Adding.{RulesGrow}
+use Rattle.pv_reach.specs.AddedRules.{RulesGrow}
 use Rattle.pv_reach.specs.Columns.{Has}
 use Rattle.pv_reach.specs.Merging.{column_head, column_heads}
 use Rattle.pv_reach.specs.declared.columns.ranges.RuleRanges.{RuleRanges}

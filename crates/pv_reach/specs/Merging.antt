@@ -3,11 +3,11 @@
 use Rattle.std.specs.Prelude.{All, Bool, List, None, Option, [], get_or, length, map, ℕ, ◌+◌}
 use Rattle.std.specs.Prelude.{◌<◌, ◌^◌, ◌∷◌, ◌≡◌, ◌≤◌, ◌⊎◌, ◌↔◌}
 use Rattle.pv_model.specs.declared.models.Token.{Token}
-use Rattle.pv_reach.specs.Adding.{RulesGrow}
+use Rattle.pv_reach.specs.AddedRules.{RulesGrow}
 use Rattle.pv_columns.specs.ColumnRules.{InRange, ReadThrough, TokensMayBeMissing}
 use Rattle.pv_reach.specs.Columns.{Has}
 use Rattle.pv_columns.specs.Marks.{AreNullable, IsMarked}
-use Rattle.pv_reach.specs.Leading.{AreAlike, LeadsOnTo}
+use Rattle.pv_reach.specs.LeadingColumns.{AreAlike, LeadsOnTo}
 use Rattle.pv_reach.specs.declared.columns.merging.Merging.{Merging}
 use Rattle.pv_columns.specs.declared.rules.ColumnRule.{ColumnRule}
 

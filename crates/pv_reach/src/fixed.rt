@@ -12,7 +12,7 @@ ghost use Rattle.pv_missing.specs.Owners.{IsOwner};
 ghost use Rattle.pv_missing.specs.Verdicts.{IsVerdict};
 ghost use Rattle.pv_missing.specs.Widths.{FitsVerdict};
 ghost use Rattle.pv_missing.specs.WordVerdicts.{HoldsOne};
-ghost use Rattle.pv_reach.specs.Ending.{AreReaches};
+ghost use Rattle.pv_reach.specs.FurthestEnds.{AreReaches};
 ghost use Rattle.pv_reach.specs.declared.errors.ReachError.TheVariants.{TooWide as too_wide};
 
 use crate::errors::ReachError;

@@ -5,7 +5,7 @@ ghost use Rattle.pv_model.specs.PlainForms.{plain_token};
 ghost use Rattle.pv_productive.specs.PlainForms.{dtd_of};
 ghost use Rattle.pv_missing.specs.LiveWords.{IsProductiveToken};
 ghost use Rattle.pv_reach.specs.Plans.{IsPlan};
-ghost use Rattle.pv_reach.specs.Taking.{ContentTakes, IsFreeContent};
+ghost use Rattle.pv_reach.specs.TokensTaken.{ContentTakes, IsFreeContent};
 
 use crate::columns::merging::column_head;
 use crate::plan::Plan;
@@ -33,7 +33,7 @@ impl<'a> Model for FreeContent<'a> {
     ghost coded = { content_code };
 
     ghost use Rattle.pv_productive.specs.PlainForms.{dtd_of};
-    ghost use Rattle.pv_reach.specs.Taking.{IsContentSet};
+    ghost use Rattle.pv_reach.specs.TokensTaken.{IsContentSet};
 
     ghost view = { λ c. record { grammar = c.grammar.now; name = c.id.0 } };
 

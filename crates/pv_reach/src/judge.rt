@@ -37,7 +37,7 @@ impl<'a> Judge<'a> {
     ghost use Rattle.std.specs.Prelude.{◌≡◌, IfSome};
     ghost use Rattle.pv_productive.specs.PlainForms.{dtd_of};
     ghost use Rattle.pv_reach.specs.Plans.{IsPlan};
-    ghost use Rattle.pv_reach.specs.Taking.{IsFreeContent};
+    ghost use Rattle.pv_reach.specs.TokensTaken.{IsFreeContent};
 
     /// Judges by a grammar, whose plan this is.
     pub fn new(alloc: Global, grammar: &'a Grammar, plan: &'a Plan) -> Judge<'a>

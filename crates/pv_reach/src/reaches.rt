@@ -5,7 +5,7 @@ ghost use Rattle.pv_model.specs.PlainForms.{plain_token};
 ghost use Rattle.pv_productive.specs.PlainForms.{dtd_of};
 ghost use Rattle.pv_missing.specs.LiveWords.{AreProductiveTokens};
 ghost use Rattle.pv_missing.specs.Widths.{FitsVerdict, columns_of};
-ghost use Rattle.pv_reach.specs.Ending.{AreReaches};
+ghost use Rattle.pv_reach.specs.FurthestEnds.{AreReaches};
 ghost use Rattle.pv_reach.specs.Plans.{IsPlan};
 ghost use Rattle.pv_reach.specs.declared.errors.ReachError.TheVariants.{TooWide as too_wide};
 
@@ -34,7 +34,7 @@ pub struct Reaches {
 impl Reaches {
     ghost use Rattle.std.specs.Prelude.{◌≡◌};
     ghost use Rattle.pv_rules.specs.PlainForms.{plain_site};
-    ghost use Rattle.pv_reach.specs.Ending.{end_told, past_of};
+    ghost use Rattle.pv_reach.specs.FurthestEnds.{end_told, past_of};
 
     /// One past the furthest place of a site, or 0.
     fn past(&self, site: Site, from: u32) -> u32

@@ -35,7 +35,7 @@ use std::sync::ledger::Ledger;
 
 /// The verdict of the document node's list by its word.
 fn judge_root(judge: &Judge<'_>, id: NameId, word: &[Token]) -> Result<Verdict, NoMemory>
-    requires fits { FitsVerdict (dtd_of judge.now) (length word.now) }
+    requires short { 0 < declared (dtd_of judge.now) → length word.now < 2 ^ 26 }
     requires productive { AreProductiveTokens (dtd_of judge.now) (map plain_token word.now) }
     ensures { IfOk result (λ verdict. (none : Bool) →
         IsVerdictByWord (dtd_of judge.now) (Some (name_site id.0))
@@ -71,7 +71,7 @@ fn judge_content(
     word: &[Token],
     is_bare: bool,
 ) -> Result<Verdict, NoMemory>
-    requires fits { FitsVerdict (dtd_of judge.now) (length word.now) }
+    requires short { 0 < declared (dtd_of judge.now) → length word.now < 2 ^ 26 }
     requires productive { AreProductiveTokens (dtd_of judge.now) (map plain_token word.now) }
     ensures { IfOk result (λ verdict. IsVerdictByWord (dtd_of judge.now) (Some (content_site id.0))
         (map plain_token word.now) is_bare verdict) }
@@ -121,7 +121,7 @@ fn judge_owned(
     word: &[Token],
     is_bare: bool,
 ) -> Result<Verdict, NoMemory>
-    requires fits { FitsVerdict (dtd_of judge.now) (length word.now) }
+    requires short { 0 < declared (dtd_of judge.now) → length word.now < 2 ^ 26 }
     ensures { IfOk result (λ verdict. IsVerdictByWord (dtd_of judge.now) (Some (plain_of of))
         (map plain_token word.now) is_bare verdict) }
 {
@@ -156,6 +156,30 @@ pub fn judge_word(
     };
     let verdict = judge_owned(judge, of, word, is_bare)?;
     Ok(verdict)
+}
+
+// So many tokens a word may have, whatever it is judged by: one for each byte of a document.
+const MAX_TOKENS: usize = 67_108_864;
+
+/// The verdict of a list as `judge_word` finds it, however wide the list is: by a table over the
+/// columns that its owner needs, of 268,435,456 numbers at most, for which there may be too little
+/// memory.
+pub fn judge_any_word(
+    judge: &Judge<'_>,
+    owner: Option<Of>,
+    word: &[Token],
+    is_bare: bool,
+) -> Result<Verdict, NoMemory>
+    ensures { IfOk result (λ verdict. IsVerdictByWord (dtd_of judge.now)
+        (option_map plain_of owner) (map plain_token word.now) is_bare verdict) }
+{
+    if word.len() >= MAX_TOKENS {
+        return Err(NoMemory);
+    }
+    let Some(of) = owner else {
+        return Ok(Verdict::Impossible);
+    };
+    judge_owned(judge, of, word, is_bare)
 }
 
 /// The verdict of a list by its owner and its kids, as `list_verdict` finds it, by a plan that is

@@ -1,6 +1,7 @@
 //! Whether a word is possible.
 
-ghost use Rattle.std.specs.Prelude.{◌≡◌, ◌↔◌, ◌∷◌, ◌+◌, ◌<◌, [], IfErr, IfOk, IsTrue, length, map};
+ghost use Rattle.std.specs.Prelude.{◌≡◌, ◌↔◌, ◌∷◌, ◌+◌, ◌<◌, ◌^◌, [], IfErr, IfOk, IsTrue};
+ghost use Rattle.std.specs.Prelude.{length, map};
 ghost use Rattle.pv_model.specs.PlainForms.{plain_token};
 ghost use Rattle.pv_model.specs.Plain.{named};
 ghost use Rattle.pv_dtd.specs.Plain.{declared};
@@ -10,7 +11,7 @@ ghost use Rattle.pv_missing.specs.LiveWords.{AreProductiveTokens};
 ghost use Rattle.pv_missing.specs.PlainForms.{plain_of};
 ghost use Rattle.pv_missing.specs.Widths.{FitsVerdict};
 ghost use Rattle.pv_missing.specs.WordVerdicts.{IsPossibleAt};
-ghost use Rattle.pv_rules.specs.Deriving.{DerivesAt};
+ghost use Rattle.pv_rules.specs.SiteDerivations.{DerivesAt};
 ghost use Rattle.pv_reach.specs.Plans.{IsPlan};
 ghost use Rattle.pv_reach.specs.declared.errors.ReachError.TheVariants.{TooWide as too_wide};
 
@@ -37,7 +38,7 @@ fn derives_by(
 ) -> Result<bool, AllocError>
     requires plan { IsPlan (dtd_of judge.now) plan.now }
     requires known { id.0 < declared (dtd_of judge.now) }
-    requires fits { FitsVerdict (dtd_of judge.now) (length word.now) }
+    requires short { length word.now < 2 ^ 26 }
     requires productive { AreProductiveTokens (dtd_of judge.now) (map plain_token word.now) }
     ensures { IfOk result (λ b. IsTrue b ↔ DerivesAt (dtd_of judge.now)
         (map plain_token word.now) (content_site id.0) 0 (length word.now)) }
@@ -49,10 +50,10 @@ fn derives_by(
     column_reaches(judge.alloc(), plan, word, column)
 }
 
-/// Whether the content of a name derives the whole word, which isn't too wide and has productive
-/// names only. Where the rules of the grammar aren't laid out, they are laid out for this word.
+/// Whether the content of a name derives the whole word, which is short and has productive names
+/// only. Where the rules of the grammar aren't laid out, they are laid out for this word.
 pub fn content_derives(judge: &Judge<'_>, id: NameId, word: &[Token]) -> Result<bool, NoMemory>
-    requires fits { FitsVerdict (dtd_of judge.now) (length word.now) }
+    requires short { 0 < declared (dtd_of judge.now) → length word.now < 2 ^ 26 }
     requires productive { AreProductiveTokens (dtd_of judge.now) (map plain_token word.now) }
     ensures { IfOk result (λ b. IsTrue b ↔ DerivesAt (dtd_of judge.now)
         (map plain_token word.now) (content_site id.0) 0 (length word.now)) }

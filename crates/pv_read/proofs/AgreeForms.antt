@@ -93,8 +93,6 @@ space_data bytes some space = record {
 }
 
 -- ---- what begins with `<` ends a text run
-pub starts_tag : (front rest : List ℕ) → IsRunEnd ((60 ∷ front) ++ rest)
-starts_tag front rest = inr (front ++ rest, refl)
 
 pub misc_ends_run : (bytes rest : List ℕ) → IsCommentOrInstruction bytes → IsRunEnd (bytes ++ rest)
 misc_ends_run bytes rest (inl is) = subst (λ b. IsRunEnd (b ++ rest)) (sym is.whole) (inr (_, refl))

@@ -11,7 +11,7 @@ use Rattle.pv_tree.specs.Plain.{tagged, Tree, element, text_node, cdata_node, mi
 use Rattle.pv_tree.specs.Attributes.{AreMadeOf, IsAttributes, IsKnownReference}
 use Rattle.pv_tree.specs.Prolog.{IsMisc, IsDoctype, IsProlog, IsEpilog}
 use Rattle.pv_read.specs.Limits.{IsWithinDepth}
-use Rattle.pv_tree.proofs.Every.{all_joined}
+use Rattle.pv_tree.proofs.JoinedLists.{all_joined}
 use Rattle.pv_read.proofs.Pieces.{nothing}
 use Rattle.pv_read.specs.Grammar.{SpellsNode, SpellsContent, IsElement, IsWholeRun, begins_with_text}
 use Rattle.pv_read.specs.Items.{start_tag, bytes_of, IsRunEnd}

@@ -175,8 +175,6 @@ takes_front bytes inside name rest e s =
     }
 
 -- ---- where none is
-pub no_front_word : (bytes : List ℕ) → ((rest : List ℕ) → bytes ≢ codes "<!DOCTYPE" ++ rest) → BeginsNoDoctypeFront bytes
-no_front_word bytes none name front more is e ends = none _ (e ∙ ap (λ l. l ++ more) is.whole ∙ append_assoc (codes "<!DOCTYPE") (is.space ++ (name ++ (is.external ++ is.gap))) more)
 
 pub no_front_blank : (bytes inside : List ℕ) → bytes ≡ codes "<!DOCTYPE" ++ inside → after_blank inside ≡ None → BeginsNoDoctypeFront bytes
 no_front_blank bytes inside f none name front more is e ends = let blank = (front_steps inside name front more is (sym f ∙ e) ends).blank in cc

@@ -163,9 +163,6 @@ name_some name is =
     let shorter = begins_shorter name is.first is.others (record { scalar = scalar; whole = is.whole }) in
     omega arith
 
-pub no_empty_name : IsName [] → ⊥
-no_empty_name is = let some = name_some [] is in omega arith
-
 instruction_length : (bytes : List ℕ) → IsInstruction bytes → 5 ≤ length bytes
 instruction_length bytes is = let some = name_some is.target is.is_target.is_name in rw is.whole (simp length-append (omega arith))
 

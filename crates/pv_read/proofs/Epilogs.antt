@@ -27,9 +27,6 @@ behind_is m before t after (empty_tag name attrs) next is = cc
 behind_is m before t after (end_tag name gap) next is = cc
 behind_is m before t after (text_run bytes) next is = by_test (list_all is_space bytes) _ next is
 
-pub no_items_behind : (most : Option ℕ) (root end : List ℕ) (first : ℕ) → ReadsEpilog most root end first end first
-no_items_behind most root end first = record { after = []; whole = refl; few = omega arith; leads = λ before t o means. means }
-
 module _ {most : Option ℕ} {root end rest : List ℕ} {first count : ℕ} (r : ReadsEpilog most root end first rest count) where
   pub one_more_behind : (i : Item) (more : List ℕ) → ((left : Left Mark) → place_reached left ≡ epilog → TakesItem most blank_mark root left rest i more)
       → length more < length rest → (next : ℕ) → next ≡ count + 1 → ReadsEpilog most root end first more next

@@ -24,9 +24,6 @@ module _ (IsValue : List ℕ → Type 0) where
   in_quotes : (bytes rest : List ℕ) → (b : Begins (IsLiteralOf IsValue) bytes rest) → Begins (IsQuoted b.is_item.0) bytes rest
   in_quotes bytes rest b = record { item = b.item; is_item = b.is_item.2; whole = b.whole }
 
-  pub literal_by : (bytes value rest : List ℕ) → IsValue value → Begins (IsQuoted value) bytes rest → Begins (IsLiteralOf IsValue) bytes rest
-  literal_by bytes value rest is b = record { item = b.item; is_item = (value, is, b.is_item); whole = b.whole }
-
   pub no_literal : (bytes : List ℕ) → BeginsNoQuoted bytes → BeginsNone (IsLiteralOf IsValue) bytes
   no_literal bytes none rest b = none b.is_item.0 rest (in_quotes bytes rest b)
 
@@ -266,9 +263,6 @@ system_or_public bytes rest more a b =
     let s = word_start (codes "SYSTEM") system_some refl bytes _ (system_steps bytes rest a).word in
     let p = word_start (codes "PUBLIC") public_some refl bytes _ (public_steps bytes more b).word in
     letters_differ (ap first_byte (sym s ∙ p))
-
-pub external_by_system : (bytes rest : List ℕ) → Begins IsSystemId bytes rest → Begins IsExternalId bytes rest
-external_by_system bytes rest b = record { item = b.item; is_item = inl b.is_item; whole = b.whole }
 
 pub external_by_public : (bytes rest : List ℕ) → Begins IsPublicId bytes rest → Begins IsExternalId bytes rest
 external_by_public bytes rest b = record { item = b.item; is_item = inr b.is_item; whole = b.whole }

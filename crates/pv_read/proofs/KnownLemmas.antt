@@ -8,7 +8,7 @@ use Rattle.pv_chars.specs.Texts.{joined}
 use Rattle.pv_chars.proofs.MeansLemmas.{is_nothing}
 use Rattle.pv_tree.specs.Attributes.{AreMadeOf, IsTextPiece, IsAttribute, IsAttributes, IsCharacterData, IsKnownReference}
 use Rattle.pv_read.specs.Takes.{TakesAttributes}
-use Rattle.pv_read.proofs.Absent.{has_no, parts_have_no}
+use Rattle.pv_read.proofs.AbsentBytes.{has_no, parts_have_no}
 use Rattle.pv_read.proofs.Pieces.{literals_in_front, without_reference, nothing}
 use Rattle.pv_read.proofs.KnownReferences.{reference_is, known_is_reference}
 use Rattle.pv_read.proofs.Values.{value_is_quoted, quoted_is_value}

@@ -29,11 +29,6 @@ are_references Known bytes is = known_is_reference bytes is
 pub same_of_sort : (sort : References) (bytes u v more rest : List ℕ) → IsReferenceOf sort u → IsReferenceOf sort v → bytes ≡ u ++ more → bytes ≡ v ++ rest → more ≡ rest
 same_of_sort sort bytes u v more rest a b e f = same_reference bytes u v more rest (are_references sort u a) (are_references sort v b) e f
 
--- by what was found
-pub by_char_ref : (sort : References) (bytes rest : List ℕ) → Begins IsCharRef bytes rest → Begins (IsReferenceOf sort) bytes rest
-by_char_ref Any bytes rest b = record { item = b.item; is_item = inl b.is_item; whole = b.whole }
-by_char_ref Known bytes rest b = record { item = b.item; is_item = inl b.is_item; whole = b.whole }
-
 pub by_name : (sort : References) (bytes name rest : List ℕ) → Begins (IsEntityRef name) bytes rest → MayBeNamed sort name → Begins (IsReferenceOf sort) bytes rest
 by_name Any bytes name rest b may = record { item = b.item; is_item = inr (name, b.is_item); whole = b.whole }
 by_name Known bytes name rest b may = record { item = b.item; is_item = inr record { name = name; is_predefined = may; is_reference = b.is_item }; whole = b.whole }

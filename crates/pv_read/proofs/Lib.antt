@@ -19,7 +19,7 @@ pub mod AgreeForms
 pub mod AgreeMeans
 pub mod AgreeProlog
 pub mod AgreeDocuments
-pub mod Absent
+pub mod AbsentBytes
 pub mod Cuts
 pub mod KnownReferences
 pub mod Values
@@ -33,7 +33,7 @@ pub mod MarkupItems
 pub mod KnownLemmas
 pub mod AnyItem
 pub mod AgreeItems
-pub mod AtPlaces
+pub mod ItemsAtPlaces
 pub mod SpannedItems
 pub mod Contents
 pub mod TextRuns

@@ -17,7 +17,7 @@ use Rattle.pv_read.specs.Items.{Item, xml_declaration, doctype, comment_or_instr
 use Rattle.pv_read.specs.ItemLaws.{ItemsAreDetermined}
 use Rattle.pv_read.specs.Sorts.{sort_of, sort_behind_less, sort}
 use Rattle.pv_read.specs.declared.forms.sorts.Sort.TheVariants.{Text, Tag, Misc}
-use Rattle.pv_read.proofs.Absent.{has_no}
+use Rattle.pv_read.proofs.AbsentBytes.{has_no}
 use Rattle.pv_read.proofs.AttributeLemmas.{name_some}
 use Rattle.pv_read.proofs.TagLemmas.{start_has, empty_has, same_tag, same_end_tag}
 use Rattle.pv_read.proofs.DoctypeLemmas.{same_doctype as same_declared}

@@ -1,5 +1,5 @@
 -- The items of a prolog, one after another.
-use Rattle.std.proofs.Common.{◌≡◌, ◌<◌, ◌+◌, ℕ, suc, List, [], ◌++◌, length, Bool, true, false, Option, Some, None, cond, refl, sym, ap, ◌∙◌, subst, append-nil, append_assoc, arith}
+use Rattle.std.proofs.Common.{◌≡◌, ◌<◌, ◌+◌, ℕ, suc, List, [], ◌++◌, length, Bool, true, false, Option, Some, None, cond, refl, sym, ap, ◌∙◌, subst, append_assoc, arith}
 use Rattle.std.specs.List.{list_all}
 use Rattle.pv_chars.specs.Spaces.{is_space}
 use Rattle.pv_tree.specs.Marks.{blank_mark}
@@ -38,9 +38,6 @@ pub takes_leads : {M : Type 0} {most : Option ℕ} {m : M} {root : List ℕ} {le
     more : List ℕ} {i : Item} (k : ℕ) (t : TakesItem most m root left rest i more) (o : Outcome M) →
     DocumentRestMeans most m root (suc k) t.next more o → DocumentRestMeans most m root k left rest o
 takes_leads {i = i} k t o means = item i t.begins t.stands t.no_fault means
-
-pub no_items : (most : Option ℕ) (root text : List ℕ) → ReadsProlog most root text at_front text 0
-no_items most root text = record { before = []; whole = refl; few = omega arith; leads = λ mark o means. rw append-nil at means }
 
 module _ {most : Option ℕ} {root text rest : List ℕ} {stage : PlainStage} {count : ℕ} (r : ReadsProlog most root text stage rest count) (i : Item) (more : List ℕ)
     (taken : (left : Left Mark) → place_reached left ≡ prolog stage → TakesItem most blank_mark root left rest i more) (less : length more < length rest) where

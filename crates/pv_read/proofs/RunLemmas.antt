@@ -10,7 +10,7 @@ use Rattle.pv_read.specs.Items.{text_run, IsRunEnd, BeginsItem}
 use Rattle.pv_read.specs.PlainItems.{BeginsNoneOf}
 use Rattle.pv_read.specs.declared.forms.sorts.Sort.TheVariants as sort
 use Rattle.pv_read.proofs.KnownReferences.{reference_is}
-use Rattle.pv_read.proofs.Absent.{has_no, by_holds, not_behind, less_is_mark}
+use Rattle.pv_read.proofs.AbsentBytes.{has_no, by_holds, not_behind, less_is_mark}
 use Rattle.pv_read.proofs.Pieces.{made_have_no}
 
 -- a text run holds no `<`

@@ -14,7 +14,7 @@ use Rattle.pv_chars.specs.ByteOrderMark.{TakesByteOrderMark}
 use Rattle.pv_read.specs.Places.{place_reached, may_stand}
 use Rattle.pv_read.specs.PlainItems.{BeginsNoItem}
 use Rattle.pv_read.specs.Steps.{MeansSomething}
-use Rattle.pv_read.proofs.AtPlaces.{stands_at, none_at}
+use Rattle.pv_read.proofs.ItemsAtPlaces.{stands_at, none_at}
 use Rattle.pv_read.proofs.DecidedReferences.{Decided, one_of, known_is_decided}
 use Rattle.pv_read.proofs.NextItems.{subset_is_first, nothing_begins, may_not_stand, other_reference, other_name, other_doctype, too_deep, takes}
 use Rattle.pv_read.proofs.OneItem.{one_item}

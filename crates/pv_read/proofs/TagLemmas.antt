@@ -40,12 +40,6 @@ start_has name attrs bytes rest b = record { is_name = b.has_form.0; are_attribu
 pub empty_has : (name attrs bytes rest : List ℕ) → BeginsItem (empty_tag name attrs) bytes rest → HasTag name attrs (codes "/>") bytes rest
 empty_has name attrs bytes rest b = record { is_name = b.has_form.0; are_attributes = b.has_form.1; whole = b.whole ∙ spread name attrs (codes "/>") rest }
 
-pub start_by : (name attrs bytes rest : List ℕ) → HasTag name attrs (codes ">") bytes rest → BeginsItem (start_tag name attrs) bytes rest
-start_by name attrs bytes rest h = record { has_form = (h.is_name, h.are_attributes); whole = h.whole ∙ sym (spread name attrs (codes ">") rest); ends_well = tt }
-
-pub empty_by : (name attrs bytes rest : List ℕ) → HasTag name attrs (codes "/>") bytes rest → BeginsItem (empty_tag name attrs) bytes rest
-empty_by name attrs bytes rest h = record { has_form = (h.is_name, h.are_attributes); whole = h.whole ∙ sym (spread name attrs (codes "/>") rest); ends_well = tt }
-
 -- what closes a tag may end it, and ends a name
 closing_ends : (closing rest : List ℕ) → IsClosing closing → ends_tag (closing ++ rest) ≡ true
 closing_ends closing rest (inl e) = rw e refl
@@ -97,26 +91,6 @@ module _ (name bytes : List ℕ) (named : IsName name) (black : BeginsNo is_name
   no_tag_by_end own end taken no_start no_empty (start_tag other attrs) rest is b = no_start rest (own_end other attrs (codes ">") rest own end (inl refl) taken (start_has other attrs _ rest b))
   no_tag_by_end own end taken no_start no_empty (empty_tag other attrs) rest is b = no_empty rest (own_end other attrs (codes "/>") rest own end (inr refl) taken (empty_has other attrs _ rest b))
   no_tag_by_end own end taken no_start no_empty i rest is b = cc
-
-  pub start_tag_read : (attrs end rest : List ℕ) → TakesAttributes IsReference bytes attrs end → end ≡ 62 ∷ rest → BeginsItem (start_tag name attrs) (codes "<" ++ (name ++ bytes)) rest
-  start_tag_read attrs end rest taken e =
-      start_by name attrs _ rest
-      record {
-        is_name = named;
-        are_attributes = taken.are_attributes;
-        whole = ap (λ l. codes "<"
-            ++ (name ++ l)) (taken.whole ∙ ap (λ l. attrs ++ l) e);
-      }
-
-  pub empty_tag_read : (attrs end rest : List ℕ) → TakesAttributes IsReference bytes attrs end → end ≡ 47 ∷ 62 ∷ rest → BeginsItem (empty_tag name attrs) (codes "<" ++ (name ++ bytes)) rest
-  empty_tag_read attrs end rest taken e =
-      empty_by name attrs _ rest
-      record {
-        is_name = named;
-        are_attributes = taken.are_attributes;
-        whole = ap (λ l. codes "<"
-            ++ (name ++ l)) (taken.whole ∙ ap (λ l. attrs ++ l) e);
-      }
 
 -- ---- end tags
 end_spread : (name gap rest : List ℕ) → (codes "</" ++ (name ++ (gap ++ codes ">"))) ++ rest ≡ codes "</" ++ (name ++ (gap ++ (codes ">" ++ rest)))

@@ -6,7 +6,7 @@ use Rattle.pv_chars.specs.declared.errors.TextError.{TextError}
 use Rattle.pv_chars.proofs.MeansLemmas.{text_means_only}
 use Rattle.pv_read.specs.Items.{text_run, IsRunEnd, BeginsItem}
 use Rattle.pv_read.specs.TextRuns.{BeginsText, BeginsNoText}
-use Rattle.pv_read.proofs.Absent.{by_holds}
+use Rattle.pv_read.proofs.AbsentBytes.{by_holds}
 use Rattle.pv_read.proofs.RunLemmas.{run_has_no_less, same_cut}
 use Rattle.pv_read.proofs.TextLaw.{texts_are_runs, units_are_character_data, character_data_is_units}
 

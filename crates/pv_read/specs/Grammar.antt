@@ -14,18 +14,13 @@ use Rattle.pv_read.specs.Limits.{TextLimits, IsWithinDepth}
 use Rattle.pv_read.specs.Meaning.{document_limits}
 
 abbrev pub begins_with_text : {M : Type 0} → Forest M → Bool
-begins_with_text no_trees = false
-begins_with_text (tree (element x attrs ending kids mark) rest) = false
 begins_with_text (tree (text_node units) rest) = true
-begins_with_text (tree (cdata_node bytes) rest) = false
-begins_with_text (tree (misc_node bytes) rest) = false
+begins_with_text _ = false
 
 -- a text run is as long as possible: no text follows it
 abbrev pub IsWholeRun : {M : Type 0} → Tree M → Forest M → Type 0
-IsWholeRun (element x attrs ending kids mark) rest = Unit {0}
 IsWholeRun (text_node units) rest = IsTrue (not (begins_with_text rest))
-IsWholeRun (cdata_node bytes) rest = Unit {0}
-IsWholeRun (misc_node bytes) rest = Unit {0}
+IsWholeRun _ rest = Unit {0}
 
 abbrev mutual
   -- element: EmptyElemTag, or STag content ETag of the same name; or character data with
@@ -55,9 +50,7 @@ abbrev mutual
 
 abbrev pub IsElement : {M : Type 0} → Tree M → Type 0
 IsElement (element x attrs ending kids mark) = Unit {0}
-IsElement (text_node units) = ⊥
-IsElement (cdata_node bytes) = ⊥
-IsElement (misc_node bytes) = ⊥
+IsElement _ = ⊥
 
 -- document: the bytes spell a prolog, one element, and Misc*. A document type declaration, where
 -- there is one, names this root (XML 1.0, 2.1, 2.8).
@@ -76,6 +69,7 @@ pub record IsDocumentTextWithin {M : Type 0} (limits : TextLimits) (root bytes :
   pub shallow : IsWithinDepth limits.depth (depth_of doc.root)
   pub few_bytes : length bytes ≤ limits.bytes
 
--- the same within the limits of a document: a document text
+-- The bytes are a document text for this root, within the limits of a document, and this is its
+-- document.
 abbrev pub IsDocumentText : {M : Type 0} → List ℕ → List ℕ → PlainDoc M → Type 0
 IsDocumentText root bytes doc = IsDocumentTextWithin document_limits root bytes doc

@@ -45,14 +45,10 @@ HasForm (text_run bytes) = IsCharacterData IsReference bytes
 -- each reference of the item is to a character or to a name that needs no declaration (XML 1.0,
 -- 4.1, 4.6)
 abbrev pub HasKnownReferences : Item → Type 0
-HasKnownReferences (xml_declaration bytes) = Unit {0}
-HasKnownReferences (doctype name bytes) = Unit {0}
-HasKnownReferences (comment_or_instruction bytes) = Unit {0}
-HasKnownReferences (cdata_section bytes) = Unit {0}
 HasKnownReferences (start_tag name attrs) = IsAttributes IsKnownReference attrs
 HasKnownReferences (empty_tag name attrs) = IsAttributes IsKnownReference attrs
-HasKnownReferences (end_tag name gap) = Unit {0}
 HasKnownReferences (text_run bytes) = IsCharacterData IsKnownReference bytes
+HasKnownReferences _ = Unit {0}
 
 -- nothing is left, or `<` stands at the front
 abbrev pub IsRunEnd : List ℕ → Type 0
@@ -60,14 +56,8 @@ IsRunEnd rest = (rest ≡ []) ⊎ ((more : List ℕ) × (rest ≡ codes "<" ++ m
 
 -- a text run is as long as possible
 abbrev pub EndsWell : Item → List ℕ → Type 0
-EndsWell (xml_declaration bytes) rest = Unit {0}
-EndsWell (doctype name bytes) rest = Unit {0}
-EndsWell (comment_or_instruction bytes) rest = Unit {0}
-EndsWell (cdata_section bytes) rest = Unit {0}
-EndsWell (start_tag name attrs) rest = Unit {0}
-EndsWell (empty_tag name attrs) rest = Unit {0}
-EndsWell (end_tag name gap) rest = Unit {0}
 EndsWell (text_run bytes) rest = IsRunEnd rest
+EndsWell _ rest = Unit {0}
 
 -- This item stands at the front, and this stands after it.
 pub record BeginsItem (i : Item) (bytes rest : List ℕ) : Type 0 where

@@ -2,11 +2,11 @@
 use Rattle.std.specs.Prelude.{◌≡◌, ◌<◌, ℕ, Bool, true, false, List, ◌++◌, codes, Option, Some}
 use Rattle.std.specs.Prelude.{None, IsTrue}
 use Rattle.pv_tree.specs.Prolog.{IsDoctypeFront}
-use Rattle.pv_read.specs.Items.{Item, xml_declaration, doctype, comment_or_instruction}
-use Rattle.pv_read.specs.Items.{cdata_section, start_tag, empty_tag, end_tag, text_run}
+use Rattle.pv_read.specs.Items.{Item, doctype}
+use Rattle.pv_read.specs.Items.{start_tag, empty_tag, end_tag}
 use Rattle.pv_read.specs.Items.{HasKnownReferences, BeginsItem}
 use Rattle.pv_read.specs.Limits.{IsDeepest}
-use Rattle.pv_read.specs.Left.{Left, in_prolog, in_content, in_epilog, takes_doctype, left_by}
+use Rattle.pv_read.specs.Left.{Left, in_prolog, in_content, takes_doctype, left_by}
 use Rattle.pv_read.specs.Left.{open_elements, IsWholeAt}
 
 pub data Kind : Type 0 where
@@ -28,8 +28,7 @@ pub record BeginsSubset (bytes : List ℕ) : Type 0 where
 -- a document type declaration may stand here
 abbrev pub may_stand_doctype : {M : Type 0} → Left M → Bool
 may_stand_doctype (in_prolog stage before) = takes_doctype stage
-may_stand_doctype (in_content before inner outer) = false
-may_stand_doctype (in_epilog before root after) = false
+may_stand_doctype _ = false
 
 -- An item of this property stands at the front, and it may stand here.
 pub record Stands {M : Type 0} (m : M) (left : Left M) (rest : List ℕ) (P : Item → Type 0)
@@ -43,42 +42,24 @@ pub record Stands {M : Type 0} (m : M) (left : Left M) (rest : List ℕ) (P : It
 
 -- the innermost open element doesn't have this name
 abbrev pub IsOtherName : {M : Type 0} → Left M → List ℕ → Type 0
-IsOtherName (in_prolog stage before) name = ⊥
 IsOtherName (in_content before inner outer) name = name ≡ inner.name → ⊥
-IsOtherName (in_epilog before root after) name = ⊥
+IsOtherName _ name = ⊥
 
 -- an end tag of another name than that of the innermost open element
 abbrev pub IsMismatch : {M : Type 0} → Left M → Item → Type 0
-IsMismatch left (xml_declaration bytes) = ⊥
-IsMismatch left (doctype name bytes) = ⊥
-IsMismatch left (comment_or_instruction bytes) = ⊥
-IsMismatch left (cdata_section bytes) = ⊥
-IsMismatch left (start_tag name attrs) = ⊥
-IsMismatch left (empty_tag name attrs) = ⊥
 IsMismatch left (end_tag name gap) = IsOtherName left name
-IsMismatch left (text_run bytes) = ⊥
+IsMismatch left _ = ⊥
 
 -- a document type declaration of another name than the root's
 abbrev pub IsOtherDoctype : List ℕ → Item → Type 0
-IsOtherDoctype root (xml_declaration bytes) = ⊥
 IsOtherDoctype root (doctype name bytes) = name ≡ root → ⊥
-IsOtherDoctype root (comment_or_instruction bytes) = ⊥
-IsOtherDoctype root (cdata_section bytes) = ⊥
-IsOtherDoctype root (start_tag name attrs) = ⊥
-IsOtherDoctype root (empty_tag name attrs) = ⊥
-IsOtherDoctype root (end_tag name gap) = ⊥
-IsOtherDoctype root (text_run bytes) = ⊥
+IsOtherDoctype root _ = ⊥
 
 -- the item opens an element
 abbrev pub opens_element : Item → Bool
-opens_element (xml_declaration bytes) = false
-opens_element (doctype name bytes) = false
-opens_element (comment_or_instruction bytes) = false
-opens_element (cdata_section bytes) = false
 opens_element (start_tag name attrs) = true
 opens_element (empty_tag name attrs) = true
-opens_element (end_tag name gap) = false
-opens_element (text_run bytes) = false
+opens_element _ = false
 
 -- the item opens an element, and as many are open as may be; the most depth, where there is one, is
 -- given

@@ -33,19 +33,16 @@ pub data Left (M : Type 0) : Type 0 where
 -- the stage after a misc
 abbrev pub behind_misc : PlainStage → PlainStage
 behind_misc at_front = before_doctype
-behind_misc before_doctype = before_doctype
-behind_misc behind_doctype = behind_doctype
+behind_misc stage = stage
 
 -- a document type declaration may stand at this stage
 abbrev pub takes_doctype : PlainStage → Bool
-takes_doctype at_front = true
-takes_doctype before_doctype = true
 takes_doctype behind_doctype = false
+takes_doctype _ = true
 
 abbrev pub is_at_front : PlainStage → Bool
 is_at_front at_front = true
-is_at_front before_doctype = false
-is_at_front behind_doctype = false
+is_at_front _ = false
 
 -- an element that has just been opened
 abbrev pub just_opened : {M : Type 0} → List ℕ → List ℕ → Open M
@@ -76,22 +73,19 @@ left_in_prolog m stage before (doctype name bytes) =
     if takes_doctype stage then Some (in_prolog behind_doctype (before ++ bytes)) else None
 left_in_prolog m stage before (comment_or_instruction bytes) =
     Some (in_prolog (behind_misc stage) (before ++ bytes))
-left_in_prolog m stage before (cdata_section bytes) = None
 left_in_prolog m stage before (start_tag name attrs) =
     Some (in_content before (just_opened name attrs) [])
 left_in_prolog m stage before (empty_tag name attrs) =
     Some (in_epilog before (empty_element m name attrs) [])
-left_in_prolog m stage before (end_tag name gap) = None
 left_in_prolog m stage before (text_run bytes) =
     if list_all is_space bytes then Some (in_prolog (behind_misc stage) (before ++ bytes))
     else None
+left_in_prolog m stage before _ = None
 
 -- What an item in the root leaves; none where it may not stand there. Whether an end tag has the
 -- right name is asked elsewhere.
 abbrev pub left_in_content : {M : Type 0} → M → List ℕ → Open M → List (Open M) → Item →
     Option (Left M)
-left_in_content m before inner outer (xml_declaration bytes) = None
-left_in_content m before inner outer (doctype name bytes) = None
 left_in_content m before inner outer (comment_or_instruction bytes) =
     Some (in_content before (with_kid inner (misc_node bytes)) outer)
 left_in_content m before inner outer (cdata_section bytes) =
@@ -104,19 +98,15 @@ left_in_content m before inner outer (end_tag name gap) =
     Some (joined_to before outer (closed_element m inner gap))
 left_in_content m before inner outer (text_run bytes) =
     Some (in_content before (with_kid inner (text_node (units_in bytes))) outer)
+left_in_content m before inner outer _ = None
 
 -- What an item after the root leaves; none where it may not stand there.
 abbrev pub left_in_epilog : {M : Type 0} → List ℕ → Tree M → List ℕ → Item → Option (Left M)
-left_in_epilog before root after (xml_declaration bytes) = None
-left_in_epilog before root after (doctype name bytes) = None
 left_in_epilog before root after (comment_or_instruction bytes) =
     Some (in_epilog before root (after ++ bytes))
-left_in_epilog before root after (cdata_section bytes) = None
-left_in_epilog before root after (start_tag name attrs) = None
-left_in_epilog before root after (empty_tag name attrs) = None
-left_in_epilog before root after (end_tag name gap) = None
 left_in_epilog before root after (text_run bytes) =
     if list_all is_space bytes then Some (in_epilog before root (after ++ bytes)) else None
+left_in_epilog before root after _ = None
 
 -- what the items so far and this one leave; none where this one may not stand here
 abbrev pub left_by : {M : Type 0} → M → Left M → Item → Option (Left M)
@@ -126,12 +116,10 @@ left_by m (in_epilog before root after) i = left_in_epilog before root after i
 
 -- how many elements are open
 abbrev pub open_elements : {M : Type 0} → Left M → ℕ
-open_elements (in_prolog stage before) = 0
 open_elements (in_content before inner outer) = suc (length outer)
-open_elements (in_epilog before root after) = 0
+open_elements _ = 0
 
 -- the document is whole where nothing more stands after its root
 abbrev pub IsWholeAt : {M : Type 0} → Left M → List ℕ → Type 0
-IsWholeAt (in_prolog stage before) rest = ⊥
-IsWholeAt (in_content before inner outer) rest = ⊥
 IsWholeAt (in_epilog before root after) rest = rest ≡ []
+IsWholeAt _ rest = ⊥

@@ -48,6 +48,6 @@ pub data DocumentMeansWithin {M : Type 0} (limits : TextLimits) (m : M) (root by
       DocumentRestMeans limits.depth m root 0 (in_prolog at_front mark) rest o →
       DocumentMeansWithin limits m root bytes o
 
--- the same within the limits of a document
+-- The bytes mean this within the limits of a document, where the root's name is this one.
 abbrev pub DocumentMeans : {M : Type 0} → M → List ℕ → List ℕ → Outcome M → Type 0
 DocumentMeans m root bytes o = DocumentMeansWithin document_limits m root bytes o

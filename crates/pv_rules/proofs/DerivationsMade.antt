@@ -4,7 +4,7 @@ use Rattle.std.proofs.lemmas.Bool.{cases_lt}
 use Rattle.pv_model.specs.Plain.{PlainPart, PlainToken, any, mixed, plus, star}
 use Rattle.pv_dtd.specs.Plain.{IsDeclared, PlainDtd, model_of}
 use Rattle.pv_rules.specs.Derivations.{by_rule, none_left, one_more}
-use Rattle.pv_rules.specs.Deriving.{DerivesAt}
+use Rattle.pv_rules.specs.SiteDerivations.{DerivesAt}
 use Rattle.pv_rules.specs.Numbering.{first_part, part_at}
 use Rattle.pv_rules.specs.Rules.{IsSpan, Rule, any_name, mixed_name, over, plus_more, plus_one, star_more}
 use Rattle.pv_rules.specs.Sites.{PlainSite, content_site, name_site, part_site}

@@ -1,5 +1,5 @@
 -- for other crates:
-pub mod ByKind
+pub mod RulesByKind
 pub mod DerivationLaws
 pub mod DerivationsMade
 pub mod Facts

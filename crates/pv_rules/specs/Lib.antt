@@ -2,7 +2,7 @@ pub mod Numbering
 pub mod Sites
 pub mod Rules
 pub mod Derivations
-pub mod Deriving
+pub mod SiteDerivations
 pub mod ClosedTables
 pub mod Barriers
 pub mod Kinds

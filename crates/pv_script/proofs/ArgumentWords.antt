@@ -4,7 +4,7 @@ use Rattle.std.specs.Option.{option_and_then}
 use Rattle.pv_words.specs.Numbers.{MAX_NUMBER, AreNumbers, number_spelled}
 use Rattle.pv_words.specs.Paths.{path_text, path_spelled}
 use Rattle.pv_words.specs.Words.{first_word}
-use Rattle.pv_script.specs.Reading.{on_path, on_number}
+use Rattle.pv_script.specs.LineReading.{on_path, on_number}
 use Rattle.pv_words.proofs.NumberWords.{decimal-free, number_spelled-decimal, number-word}
 use Rattle.pv_words.proofs.PathWords.{path-free, path_spelled-path_text, path-word}
 use Rattle.pv_words.proofs.FirstWords.{first_word-free, first_word-whole}

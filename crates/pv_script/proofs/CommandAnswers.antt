@@ -2,7 +2,7 @@
 use Rattle.std.proofs.Common.{◌≡◌, List, ℕ, Result, Ok, Err}
 use Rattle.std.specs.Result.{IfOk}
 use Rattle.pv_script.specs.Commands.{ReadsAs, SpellsCommand, IsNoCommand}
-use Rattle.pv_script.specs.Reading.{command_of}
+use Rattle.pv_script.specs.LineReading.{command_of}
 use Rattle.pv_script.specs.declared.commands.Command.{Command}
 use Rattle.pv_script.specs.declared.errors.CommandError.{CommandError}
 use Rattle.pv_script.specs.declared.errors.CommandError.TheVariants.{Unknown, NoMemory}

@@ -24,15 +24,8 @@ command_text command.Quit = codes "quit"
 -- the numbers in it
 abbrev pub command_numbers : Command → List ℕ
 command_numbers (command.Edit edit) = numbers_in edit
-command_numbers command.Undo = []
-command_numbers command.Redo = []
-command_numbers command.History = []
-command_numbers command.Show = []
-command_numbers command.Verdicts = []
-command_numbers command.Need = []
-command_numbers command.Complete = []
 command_numbers (command.Offer ask) = numbers_asked ask
-command_numbers command.Quit = []
+command_numbers _ = []
 
 -- The line spells the command. No number in it is past the largest.
 pub record SpellsCommand (line : List ℕ) (command : Command) : Type 0 where

@@ -1,7 +1,7 @@
-pub mod Taking
+pub mod TakenLines
 pub mod Edits
 pub mod Asks
 pub mod Commands
-pub mod Reading
+pub mod LineReading
 pub mod Replies
 pub mod Laws

@@ -3,9 +3,9 @@
 ghost use Rattle.std.specs.Prelude.{◌≡◌, Some, None, MatchResult};
 ghost use Rattle.std.specs.Str.{bytes_eq};
 ghost use Rattle.pv_script.specs.Commands.{ReadsAs};
-ghost use Rattle.pv_script.specs.Reading.{wrap_of, insert_of, unwrap_of, rename_of};
-ghost use Rattle.pv_script.specs.Reading.{split_of, join_of, set_text_of, add_text_of};
-ghost use Rattle.pv_script.specs.Reading.{del_text_of, edit_of};
+ghost use Rattle.pv_script.specs.LineReading.{wrap_of, insert_of, unwrap_of, rename_of};
+ghost use Rattle.pv_script.specs.LineReading.{split_of, join_of, set_text_of, add_text_of};
+ghost use Rattle.pv_script.specs.LineReading.{del_text_of, edit_of};
 ghost use Rattle.pv_words.specs.Numbers.{number_spelled};
 ghost use Rattle.pv_words.specs.Paths.{path_spelled};
 ghost use Rattle.pv_words.specs.Words.{first_word};

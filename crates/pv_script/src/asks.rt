@@ -1,7 +1,7 @@
 //! Questions of which names may be put somewhere, read from their words.
 
 ghost use Rattle.pv_script.specs.Commands.{ReadsAs};
-ghost use Rattle.pv_script.specs.Reading.{ask_of, rename_asked_of, wrap_asked_of};
+ghost use Rattle.pv_script.specs.LineReading.{ask_of, rename_asked_of, wrap_asked_of};
 
 use crate::arguments::{first_word, read_number, read_path};
 use crate::errors::CommandError;

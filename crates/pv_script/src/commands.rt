@@ -2,7 +2,7 @@
 
 ghost use Rattle.std.specs.Prelude.{◌≡◌, Some, None, Err, IfOk};
 ghost use Rattle.pv_script.specs.Commands.{SpellsCommand, IsNoCommand, ReadsAs};
-ghost use Rattle.pv_script.specs.Reading.{command_of, command_with};
+ghost use Rattle.pv_script.specs.LineReading.{command_of, command_with};
 
 use crate::arguments::{first_word, is_word, read_edit};
 use crate::asks::read_ask;

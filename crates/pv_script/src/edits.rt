@@ -1,6 +1,6 @@
 //! Edits written as lines.
 
-ghost use Rattle.std.specs.Prelude.{◌≡◌, [], ◌∷◌, ◌++◌, OnOk};
+ghost use Rattle.std.specs.Prelude.{◌≡◌, [], ◌∷◌, ◌++◌, OnOk, decimal};
 ghost use Rattle.pv_script.specs.Edits.{edit_text};
 ghost use Rattle.pv_words.specs.Paths.{path_text};
 ghost use Rattle.pv_words.specs.Words.{words};
@@ -20,6 +20,39 @@ fn push_front(text: &mut Vec<u8>, word: &[u8], path: &Path) -> Result<(), AllocE
     push_path(text, path.places())
 }
 
+// Appends the word of an edit, its path, and a number.
+fn push_at(text: &mut Vec<u8>, word: &[u8], path: &Path, at: u32) -> Result<(), AllocError>
+    ensures { OnOk result (text.new.items ≡
+        text.old.items ++ words (word.now ∷ path_text path.now ∷ decimal at ∷ [])) }
+{
+    push_front(text, word, path)?;
+    push_next_number(text, u64::from(at))
+}
+
+// Appends the word of an edit, its path, and a name or a text.
+fn push_with(text: &mut Vec<u8>, word: &[u8], path: &Path, last: &[u8]) -> Result<(), AllocError>
+    ensures { OnOk result (text.new.items ≡
+        text.old.items ++ words (word.now ∷ path_text path.now ∷ last.now ∷ [])) }
+{
+    push_front(text, word, path)?;
+    push_next_word(text, last)
+}
+
+// Appends the word of an edit, its path, a number, and a name or a text.
+fn push_at_with(
+    text: &mut Vec<u8>,
+    word: &[u8],
+    path: &Path,
+    at: u32,
+    last: &[u8],
+) -> Result<(), AllocError>
+    ensures { OnOk result (text.new.items ≡
+        text.old.items ++ words (word.now ∷ path_text path.now ∷ decimal at ∷ last.now ∷ [])) }
+{
+    push_at(text, word, path, at)?;
+    push_next_word(text, last)
+}
+
 /// Appends the line of an edit, without its LF.
 pub(crate) fn push_edit(text: &mut Vec<u8>, edit: &Edit) -> Result<(), AllocError>
     ensures { OnOk result (text.new.items ≡ text.old.items ++ edit_text edit.now) }
@@ -31,39 +64,23 @@ pub(crate) fn push_edit(text: &mut Vec<u8>, edit: &Edit) -> Result<(), AllocErro
             to,
             name,
         } => {
-            push_front(text, b"wrap", path)?;
-            push_next_number(text, u64::from(*from))?;
+            push_at(text, b"wrap", path, *from)?;
             push_next_number(text, u64::from(*to))?;
             push_next_word(text, name.as_slice())
         }
         Edit::Insert { path, at, name } => {
-            push_front(text, b"insert", path)?;
-            push_next_number(text, u64::from(*at))?;
-            push_next_word(text, name.as_slice())
+            push_at_with(text, b"insert", path, *at, name.as_slice())
         }
         Edit::Unwrap { path } => push_front(text, b"unwrap", path),
-        Edit::Rename { path, name } => {
-            push_front(text, b"rename", path)?;
-            push_next_word(text, name.as_slice())
-        }
-        Edit::Split { path, at } => {
-            push_front(text, b"split", path)?;
-            push_next_number(text, u64::from(*at))
-        }
+        Edit::Rename { path, name } => push_with(text, b"rename", path, name.as_slice()),
+        Edit::Split { path, at } => push_at(text, b"split", path, *at),
         Edit::Join { path } => push_front(text, b"join", path),
-        Edit::SetText { path, text: units } => {
-            push_front(text, b"text", path)?;
-            push_next_word(text, units.as_slice())
-        }
+        Edit::SetText { path, text: units } => push_with(text, b"text", path, units.as_slice()),
         Edit::AddText {
             path,
             at,
             text: units,
-        } => {
-            push_front(text, b"addtext", path)?;
-            push_next_number(text, u64::from(*at))?;
-            push_next_word(text, units.as_slice())
-        }
+        } => push_at_with(text, b"addtext", path, *at, units.as_slice()),
         Edit::DelText { path } => push_front(text, b"deltext", path),
     }
 }

@@ -1,6 +1,6 @@
 //! Scripts: their lines, their commands, and the replies.
 //!
-//! `Lines` takes the lines (`lines_of`) from pieces of a script, as `specs/Taking.antt`
+//! `Lines` takes the lines (`lines_of`) from pieces of a script, as `specs/TakenLines.antt`
 //! says. `read_command` gives the command that a line spells (`specs/Commands.antt`), and
 //! `edit_line` writes the line of an edit (`specs/Edits.antt`). `reply_text` gives the bytes of a
 //! reply (`specs/Replies.antt`), and `okay_text` those of `ok` with no memory. Paths and numbers

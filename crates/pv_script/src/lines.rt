@@ -2,8 +2,8 @@
 
 ghost use Rattle.std.specs.Prelude.{◌≡◌, ◌++◌, IfOk, length, nat_le, false, if◌then◌else◌};
 ghost use Rattle.pv_words.specs.Lines.{without_returns};
-ghost use Rattle.pv_script.specs.Taking.{TakesPiece, MAX_LINE_BYTES as MAX_BYTES, nothing_held};
-ghost use Rattle.pv_script.specs.Taking.{begun_line};
+ghost use Rattle.pv_script.specs.TakenLines.{TakesPiece, MAX_LINE_BYTES as MAX_BYTES, nothing_held};
+ghost use Rattle.pv_script.specs.TakenLines.{begun_line};
 
 use memchr::memchr;
 use pv_chars::NoMemory;
@@ -34,7 +34,7 @@ pub struct Lines {
 
 impl Model for Lines {
     ghost use Rattle.std.specs.Prelude.{◌≤◌, vec_len, vec_capacity};
-    ghost use Rattle.pv_script.specs.Taking.{HeldLine, MAX_LINE_BYTES as MAX_BYTES};
+    ghost use Rattle.pv_script.specs.TakenLines.{HeldLine, MAX_LINE_BYTES as MAX_BYTES};
 
     ghost Value = { HeldLine };
 

@@ -171,7 +171,7 @@ fn push_names(text: &mut Vec<u8>, names: &[Bytes]) -> Result<(), AllocError>
     Ok(())
 }
 
-// Appends a reply that holds more than one line.
+// Appends the line of a completion, and the bytes of the completed document.
 fn push_completed(text: &mut Vec<u8>, inserted: u64, bytes: &[u8]) -> Result<(), AllocError>
     ensures { OnOk result (text.new.items ≡ text.old.items ++
         (with_feed (words (codes "completed" ∷ decimal inserted ∷ decimal (length bytes.now) ∷ []))

@@ -4,5 +4,5 @@ pub mod Steps
 pub mod Ways
 -- of this crate:
 pub mod LastItems
-pub mod WaysToOpened
+pub mod WaysToOpenedDocuments
 pub mod Moves

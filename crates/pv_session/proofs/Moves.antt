@@ -2,7 +2,7 @@
 use Rattle.std.proofs.Common.{List, [], ap, refl, subst, sym, ◌++◌, ◌∙◌, ◌∷◌, ◌≡◌, ℕ}
 use Rattle.std.specs.Prelude.{Err, None, Option, Some}
 use Rattle.std.specs.Option.{MatchOption}
-use Rattle.pv_cache.specs.Accepting.{IsAccepted, IsHoldable}
+use Rattle.pv_cache.specs.AcceptedEdits.{IsAccepted, IsHoldable}
 use Rattle.pv_cache.specs.MarkLaws.{HoldsByOtherMarks}
 use Rattle.pv_cache.specs.Moves.{HasBad, HasGround, HasOpen, IsEdited, IsReverted}
 use Rattle.pv_cache.specs.Stamps.{StampedDoc, doc_as, stamp_lists}
@@ -15,11 +15,11 @@ use Rattle.pv_edit.specs.declared.answers.EditAnswer.{EditAnswer}
 use Rattle.pv_edit.specs.declared.edits.Edit.{Edit}
 use Rattle.pv_edit.specs.declared.inverses.Inverse.{Inverse}
 use Rattle.pv_session.specs.Answers.{edit_answer}
-use Rattle.pv_session.specs.Keeping.{IsEditMade, IsSession, KeepsWays, LeadsOn, LeadsTo, opened_doc}
+use Rattle.pv_session.specs.SessionFacts.{IsEditMade, IsSession, KeepsWays, LeadsOn, LeadsTo, opened_doc}
 use Rattle.pv_session.specs.Sessions.{PlainSession, session_on, next_move, stamped_document}
 use Rattle.pv_session.specs.Steps.{IsEditStep, IsRedoStep, IsUndoStep, PlainAnswer, accepted, behind_move, is_done, lacks_history, no_past, redone, refusal_of, refused, undone}
 use Rattle.pv_session.proofs.LastItems.{HasLast, has_some}
-use Rattle.pv_session.proofs.WaysToOpened.{led_opened}
+use Rattle.pv_session.proofs.WaysToOpenedDocuments.{led_opened}
 use Rattle.pv_session.proofs.StampsAlone.{begun_doc, begun_unmarked, stamped_same}
 use Rattle.pv_session.proofs.Steps.{not_empty}
 use Rattle.pv_session.proofs.Ways.{IsLast, IsNext, both_empty, empty_both, goes_back, last_edit, leads_more, leads_on_more, next_undone, replays, same_before}

@@ -8,8 +8,8 @@ use Rattle.pv_edit.specs.Reasons.{edit_outcome, gives, outcome, reason_of}
 use Rattle.pv_edit.specs.declared.edits.Edit.{Edit}
 use Rattle.pv_edit.specs.declared.inverses.Inverse.{Inverse}
 use Rattle.pv_edit.specs.declared.reasons.Reason.{Reason}
-use Rattle.pv_cache.specs.Accepting.{IsAccepted, IsHoldable}
-use Rattle.pv_session.specs.Keeping.{IsEditMade, LeadsOn, LeadsTo}
+use Rattle.pv_cache.specs.AcceptedEdits.{IsAccepted, IsHoldable}
+use Rattle.pv_session.specs.SessionFacts.{IsEditMade, LeadsOn, LeadsTo}
 use Rattle.pv_session.specs.Sessions.{Replays}
 use Rattle.pv_tree.specs.Marks.{unmarked_doc}
 use Rattle.pv_tree.specs.Plain.{PlainDoc}

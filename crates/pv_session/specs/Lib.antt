@@ -1,7 +1,7 @@
 pub mod Sessions
 pub mod Steps
 pub mod Answers
-pub mod Keeping
+pub mod SessionFacts
 pub mod Codes
 pub mod PlainForms
 pub mod Laws

@@ -1,6 +1,6 @@
 -- The plain session that a session of the program is. The document that was opened is the one to
 -- which its ways back lead.
-use Rattle.pv_session.specs.Keeping.{KeepsWays, opened_doc}
+use Rattle.pv_session.specs.SessionFacts.{KeepsWays, opened_doc}
 use Rattle.pv_session.specs.Sessions.{PlainSession}
 use Rattle.pv_session.specs.declared.session.Session.TheInside.{Inside}
 use Rattle.pv_tree.specs.Marks.{unmarked_doc}

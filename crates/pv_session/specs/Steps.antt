@@ -1,7 +1,7 @@
 -- The steps of a session: what an edit, an undo or a redo is answered, and what the session is at
 -- after it.
 use Rattle.std.specs.Prelude.{◌≡◌, ◌++◌, List, None, Option, Some, [], length, ℕ, ◌∷◌}
-use Rattle.pv_cache.specs.Accepting.{IsAccepted}
+use Rattle.pv_cache.specs.AcceptedEdits.{IsAccepted}
 use Rattle.pv_cache.specs.Moves.{HasBad, HasGround, HasOpen}
 use Rattle.pv_cache.specs.Stamps.{stamp_lists}
 use Rattle.pv_edit.specs.ChangedLists.{changed_lists, makes, undoes}

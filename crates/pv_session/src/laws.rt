@@ -1,6 +1,6 @@
 //! Laws of sessions.
 
-ghost use Rattle.pv_session.specs.Keeping.{IsSession};
+ghost use Rattle.pv_session.specs.SessionFacts.{IsSession};
 ghost use Rattle.pv_session.specs.Laws.{ReplaysToOne, StepsHaveOneAnswer};
 
 use crate::session::Session;

@@ -5,8 +5,8 @@
 //! What a session is at is a `PlainSession` (specs/Sessions.antt): the document that was opened,
 //! the edits since, those that were undone, and the document now with a stamp beside each list.
 //! `IsAccepted` (of pv_cache) says which edits are accepted, and specs/Steps.antt what `edit`,
-//! `undo` and `redo` answer and leave after. What each session keeps stands in specs/Keeping.antt:
-//! in place of the opened document the ways back to it.
+//! `undo` and `redo` answer and leave after. What each session keeps stands in
+//! specs/SessionFacts.antt: in place of the opened document the ways back to it.
 #![tactic(auto)]
 
 mod answers;

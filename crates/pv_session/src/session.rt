@@ -3,7 +3,7 @@
 ghost use Rattle.std.specs.Prelude.{◌≡◌, ◌≤◌, ◌<◌, ◌+◌, None, IfOk, MatchOption, OnOk};
 ghost use Rattle.std.specs.Prelude.{vec_capacity, vec_len};
 ghost use Rattle.std.specs.List.{AllByRecursion};
-ghost use Rattle.pv_cache.specs.Accepting.{MAX_EDITED_NODES};
+ghost use Rattle.pv_cache.specs.AcceptedEdits.{MAX_EDITED_NODES};
 ghost use Rattle.pv_cache.specs.Moves.{HasBad, HasOpen};
 ghost use Rattle.pv_cache.specs.Rows.{AreRows, IsVerdictAt, TellVerdicts};
 ghost use Rattle.pv_cache.specs.Stamps.{stamps_of};
@@ -12,7 +12,7 @@ ghost use Rattle.pv_missing.specs.Verdicts.{HaveVerdicts};
 ghost use Rattle.pv_missing.specs.Widths.{IsListForVerdict};
 ghost use Rattle.pv_productive.specs.PlainForms.{dtd_of};
 ghost use Rattle.pv_session.specs.Answers.{back_answer, edit_answer};
-ghost use Rattle.pv_session.specs.Keeping.{IsSession};
+ghost use Rattle.pv_session.specs.SessionFacts.{IsSession};
 ghost use Rattle.pv_session.specs.Sessions.{session_on, next_move, stamped_document};
 ghost use Rattle.pv_session.specs.Steps.{IsEditStep, IsRedoStep, IsUndoStep};
 ghost use Rattle.pv_tree.specs.Lists.{lists_of};
@@ -26,7 +26,7 @@ use pv_cache::laws::{accepted_law, other_marks_law};
 use pv_cache::{Marked, PlannedGrammar};
 use pv_chars::{Bytes, NoMemory};
 use pv_edit::laws::leads_back_law;
-use pv_edit::{Done, Edit, EditAnswer, Inverse, VerdictRows};
+use pv_edit::{Ask, Done, Edit, EditAnswer, Inverse, VerdictRows};
 use pv_missing::Verdicts;
 use pv_productive::Grammar;
 use pv_steps::Steps;
@@ -45,10 +45,20 @@ use std::sync::ledger::Ledger;
 /// let verdicts = check_doc(alloc, &grammar, b"doc", &doc, &mut steps)?;
 /// let root = bytes_of(alloc, b"doc")?;
 /// let mut session = Session::begin(alloc, grammar, root, doc, verdicts)?;
-/// assert!(rt; session.open_count() == 1);
+/// assert!(rt; session.open_count() == 1 && session.root() == b"doc".as_slice());
 /// let path = Path::new(alloc, &[0])?;
 /// let edit = Edit::Wrap { path, from: 0, to: 1, name: bytes_of(alloc, b"head")? };
 /// assert!(rt; matches!(session.edit(&edit, &mut steps), Ok(done) if done.left == 0));
+/// assert!(rt; session.doc().nodes() == 3 && session.history().len() == 1);
+/// let at_head = Path::new(alloc, &[0, 0])?;
+/// assert!(rt; session.verdict_at(&at_head) == Some(Verdict::Valid));
+/// assert!(rt; session.verdict_rows()?.as_slice().len() == 3 && session.verdicts()?.len() == 3);
+/// // no other name of the root leads to a valid document
+/// let edit = Edit::Rename { path: Path::new(alloc, &[0])?, name: bytes_of(alloc, b"head")? };
+/// assert!(rt; matches!(session.edit(&edit, &mut steps), Err(EditAnswer::Impossible(_))));
+/// assert!(rt; session.undo(&mut steps).is_ok() && session.open_count() == 1);
+/// assert!(rt; matches!(session.undo(&mut steps), Err(BackAnswer::NoHistory)));
+/// assert!(rt; session.redo(&mut steps).is_ok() && session.bad_count() == 0);
 /// ```
 #[derive(Drop)]
 pub struct Session {
@@ -81,6 +91,8 @@ impl Session {
     /// The session on a document as it was opened. The verdicts are those of its lists; the
     /// document isn't copied. The call lays out the rules of the grammar; who has them laid out
     /// calls `begin_by`.
+    ///
+    /// See `Session`, whose example begins one.
     pub fn begin(
         alloc: Global,
         grammar: Grammar,
@@ -100,6 +112,8 @@ impl Session {
     }
 
     /// The session on a document as it was opened, by a grammar whose rules are laid out.
+    ///
+    /// `begin` calls it once it has laid the rules out.
     pub fn begin_by(
         alloc: Global,
         grammar: PlannedGrammar,
@@ -122,6 +136,16 @@ impl Session {
             ways_back: Vec::new(alloc),
             undone: Vec::new(alloc),
         }
+    }
+
+    /// Looks up what the names that an edit is asked of are tried by, and keeps it with the
+    /// document: then each is tried in less time. No answer depends on it.
+    ///
+    /// As before each `offer` of a script (test_rows, `scripts`).
+    pub fn keep_for(&mut self, ask: &Ask)
+        ensures { self.new ≡ self.old }
+    {
+        self.marked.keep_for(ask)
     }
 
     /// Makes an edit, where it is accepted. After a refusal the session is as it was.
@@ -237,6 +261,8 @@ impl Session {
     }
 
     /// The document as it is now, by which it can be asked what edits would be accepted.
+    ///
+    /// `offer` of pv_offer asks it which names an element may have.
     pub fn marked(&self) -> &Marked
         ensures { result.now ≡ stamped_document self.now }
     {
@@ -253,7 +279,7 @@ impl Session {
         self.marked.doc()
     }
 
-    /// The root's name.
+    /// The name that the document's root must have.
     ///
     /// That of a document `<doc>Hello</doc>` is `doc`.
     pub fn root(&self) -> &[u8]
@@ -263,6 +289,8 @@ impl Session {
     }
 
     /// The grammar that edits are judged by.
+    ///
+    /// It is the one that the session began with.
     pub fn grammar(&self) -> &Grammar
         ensures { dtd_of result.now ≡ self.now.dtd }
     {

@@ -59,7 +59,7 @@ module _ (t : Cell → ℕ) (one two i j : ℕ) where
     ];
   }
 
-  -- the same values give the same sums
+  -- where two tables agree on what the cuts are made of, so do their least cuts
   pub same_cuts : (o : Cell → ℕ) (k : ℕ) → ((m : ℕ) → i < m → m ≤ i + k → (t (cell one i m) ≡ o (cell one i m)) × (t (cell two m j) ≡ o (cell two m j))) →
       least_cut t one two i j k ≡ least_cut o one two i j k
   same_cuts o zero a = refl

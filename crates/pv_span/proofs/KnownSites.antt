@@ -11,7 +11,7 @@ use Rattle.pv_dtd.specs.Productive.{IsProductive}
 use Rattle.pv_rules.specs.Numbering.{part_at, rest_at}
 use Rattle.pv_rules.specs.Sites.{HasSite, PlainSite, content_site, name_site, part_site, rest_site}
 use Rattle.pv_productive.specs.PlainForms.{dtd_of}
-use Rattle.pv_missing.specs.Filling.{StandsFor}
+use Rattle.pv_missing.specs.FilledWords.{StandsFor}
 use Rattle.pv_missing.specs.PlainForms.{plain_of}
 use Rattle.pv_missing.specs.WordVerdicts.{IsPossibleAt}
 use Rattle.pv_span.specs.declared.owners.ListOwner.{ListOwner}

@@ -6,7 +6,7 @@ use Rattle.pv_rules.specs.Sites.{PlainSite}
 use Rattle.pv_tree.specs.declared.nodes.Verdict.TheVariants as verdict
 use Rattle.pv_missing.specs.LiveWords.{IsLiveWord}
 use Rattle.pv_missing.specs.WordVerdicts.{IsPossibleAt, IsVerdictByWord}
-use Rattle.pv_missing.proofs.LiveOnce.{one_live_word}
+use Rattle.pv_missing.proofs.OneLiveWord.{one_live_word}
 
 module _ (g : PlainDtd) (w live : List PlainToken) (s : PlainSite) (none : Bool) (is_live : IsLiveWord g w live) where
   pub impossible_judged : (IsPossibleAt g s live → ⊥) → IsVerdictByWord g (Some s) w none verdict.Impossible

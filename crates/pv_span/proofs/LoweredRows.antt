@@ -126,7 +126,7 @@ module _ (g : List PlainForm) (w : List PlainToken) (i j : ℕ) where
   one_settling old row s k false a lt l f =
       let d = f.kept refl in kept (At s) old (with_row old row) a (ap (λ r. with_row old r) d.1) (sum_settled old a s k l d.0)
 
-  -- the same, where only that the value is attained is known
+  -- an attained chart stays attained where a value is lowered to an attained one
   pub one_attained : (old : PlainChart) (row : List ℕ) (s k : ℕ) (b : Bool) → IsAttainedChart g w i j old → s < length old.row → IsOfRule g w (value_of old) (cell s i j) k →
       IsLowered old.row row s (capped k) b → IsAttainedChart g w i j (with_row old row)
   one_attained old row s k true a lt l f =

@@ -20,7 +20,7 @@ use Rattle.pv_span.specs.PlainForms.{DiffersInRow, IsAttainedSoFar, plain_chart}
 use Rattle.pv_span.specs.Repeats.{AreSameTokens, AreSameFrom, StandAgain}
 use Rattle.pv_span.specs.declared.charts.Chart.{Chart}
 use Rattle.pv_span.specs.declared.repeats.Repeats.{Repeats}
-use Rattle.pv_span.proofs.Across.{rows_count}
+use Rattle.pv_span.proofs.RowsAcrossColumns.{rows_count}
 use Rattle.pv_layout.proofs.ColumnFacts.{column_spans}
 use Rattle.pv_span.proofs.MovedDerivations.{derives_moved, value_moved}
 use Rattle.pv_span.proofs.LoweredRows.{all_attained, at_hand, resound}
@@ -95,14 +95,14 @@ module _ (f : List PlainForm) (w : List PlainToken) (i j q : ℕ) (t : PlainChar
         )
   ]
 
--- the same of the plain forms of tokens
+-- tokens that are the same at two places are so in their plain forms
 plain_same : (word : List Token) (p q n : ℕ) → AreSameFrom word p q n →
     AreSameFrom (map plain_token word) p q n
 plain_same word p q n same k l =
     slice_get-map plain_token word (p + k) ∙ ap (option_map plain_token) (same k l) ∙
     sym (slice_get-map plain_token word (q + k))
 
--- the same of charts of the program
+-- A row of a chart of the program that is taken from a span of the same tokens.
 module _ (f : List PlainForm) (word : List Token) (r : Repeats) (t new : Chart)
     (a : IsAttainedSoFar f (map plain_token word) t) (again : StandAgain r t)
     (same : AreSameTokens word r) (d : DiffersInRow t new)

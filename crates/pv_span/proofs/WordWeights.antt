@@ -2,7 +2,7 @@
 use Rattle.std.proofs.Common.{List, length, map, ◌<◌, ◌≡◌}
 use Rattle.pv_model.specs.PlainForms.{plain_token}
 use Rattle.pv_model.specs.declared.models.Token.{Token}
-use Rattle.pv_dtd.proofs.Proper.{proper}
+use Rattle.pv_dtd.proofs.ProperDtds.{proper}
 use Rattle.pv_productive.specs.PlainForms.{dtd_of}
 use Rattle.pv_rules.specs.Sites.{HasSite, PlainSite}
 use Rattle.pv_missing.specs.Widths.{FitsWeights}
@@ -15,7 +15,7 @@ use Rattle.pv_span.specs.declared.charts.Chart.{Chart}
 use Rattle.pv_layout.specs.declared.layout.ColumnLayout.{ColumnLayout}
 use Rattle.pv_layout.specs.declared.sites.SiteColumns.{SiteColumns}
 use Rattle.pv_layout.proofs.HeldFits.{layout_fits}
-use Rattle.pv_span.proofs.Known.{some_columns}
+use Rattle.pv_span.proofs.SitesWithColumns.{some_columns}
 use Rattle.pv_span.proofs.SiteWeights.{is_short, site_derives_something, site_weight}
 
 module _ (l : ColumnLayout) (word : List Token) (chart : Chart) (sites : SiteColumns) (s : plain_columns sites ≡ plain_sites l.sites) (fits : FitsWeights (dtd_of l.grammar.now) (length word))

@@ -315,12 +315,13 @@ fn spread(
     }
     waiting.clear();
     begin(forms, word, waiting, chart)?;
-    for _ in 0..u64::MAX {
+    // A column is taken at most once: its value doesn't fall after that.
+    for _ in 0..forms.len() {
         if !spread_next(forms, mentions, word, waiting, chart)? {
-            return Ok(waiting.is_empty());
+            break;
         }
     }
-    Ok(false)
+    Ok(waiting.is_empty())
 }
 
 /// Lowers the values over the span at hand until the rules lower none. So many columns, the first

@@ -7,12 +7,13 @@ ghost use Rattle.pv_model.specs.Plain.{empty};
 ghost use Rattle.pv_model.specs.PlainForms.{plain_model, plain_token};
 ghost use Rattle.pv_dtd.specs.Plain.{model_of};
 ghost use Rattle.pv_dtd.specs.Productive.{IsProductive};
-ghost use Rattle.pv_rules.specs.Sites.{content_site};
+ghost use Rattle.pv_rules.specs.Sites.{HasSite, content_site};
 ghost use Rattle.pv_productive.specs.PlainForms.{dtd_of};
-ghost use Rattle.pv_missing.specs.LiveWords.{IsLiveWord};
+ghost use Rattle.pv_missing.specs.LiveWords.{AreProductiveTokens, IsLiveWord};
 ghost use Rattle.pv_missing.specs.PlainForms.{plain_of};
 ghost use Rattle.pv_missing.specs.Widths.{FitsWeights};
-ghost use Rattle.pv_missing.specs.WordVerdicts.{IsValidAt, IsVerdictByWord, MayHaveKids};
+ghost use Rattle.pv_missing.specs.WordVerdicts.{IsPossibleAt, IsValidAt};
+ghost use Rattle.pv_missing.specs.WordVerdicts.{IsVerdictByWord, MayHaveKids};
 
 use crate::membership::derives;
 use crate::owners::{ListOwner, is_known_owner};
@@ -108,6 +109,22 @@ fn is_valid(
     }
 }
 
+/// Whether an owner that the grammar has may hold a list of this live word.
+fn is_possible(alloc: Global, grammar: &Grammar, of: Of, live: &[Token]) -> Result<bool, NoMemory>
+    requires known { HasSite (dtd_of grammar.now) (plain_of of) }
+    requires productive { AreProductiveTokens (dtd_of grammar.now) (map plain_token live.now) }
+    requires fits { FitsWeights (dtd_of grammar.now) (length live.now) }
+    ensures { IfOk result (λ b. IsTrue b ↔ IsPossibleAt (dtd_of grammar.now) (plain_of of)
+        (map plain_token live.now)) }
+{
+    let layout = lay_out(alloc, grammar)?;
+    let owner = ListOwner {
+        layout: &layout,
+        of,
+    };
+    derives(alloc, &owner, live)
+}
+
 /// The verdict of a list by its owner, its word with its live word, and whether it has no kids of
 /// any kind.
 pub(crate) fn judge(
@@ -130,12 +147,7 @@ pub(crate) fn judge(
     if !may_have_kids(grammar, of, is_bare) {
         return Ok(Verdict::Impossible);
     }
-    let layout = lay_out(alloc, grammar)?;
-    let owner = ListOwner {
-        layout: &layout,
-        of,
-    };
-    if !derives(alloc, &owner, live)? {
+    if !is_possible(alloc, grammar, of, live)? {
         return Ok(Verdict::Impossible);
     }
     if is_valid(alloc, grammar, of, word, is_bare)? {

@@ -6,7 +6,7 @@ use Rattle.std.proofs.lemmas.List.{map-append, reverse-append}
 use Rattle.pv_standoff.specs.Ranges.{IsRangeBefore, HaveSamePlace, NoneTwice, Cross, AreSorted, NoneCrossLater}
 use Rattle.pv_standoff.specs.declared.ranges.Range.{Range}
 use Rattle.pv_standoff.specs.PlainForms.{seen}
-use Rattle.pv_standoff.specs.Refused.{IsFirstCrossing}
+use Rattle.pv_standoff.specs.RefusedRanges.{IsFirstCrossing}
 use Rattle.pv_standoff.specs.Stacks.{AreStillOpen}
 use Rattle.pv_standoff.specs.PlainForms.{innermost_first}
 use Rattle.pv_standoff.proofs.Lists.{all-append, all-map, all-left, all-right}

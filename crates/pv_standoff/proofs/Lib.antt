@@ -2,18 +2,18 @@
 -- of this crate:
 pub mod Lists
 pub mod OneSortedOrder
-pub mod Same
-pub mod One
+pub mod SameForests
+pub mod OneDocument
 pub mod Pushes
 pub mod Stacks
 pub mod Order
 pub mod NoCrossing
 pub mod OpenRanges
-pub mod Exists
+pub mod SomeDocument
 pub mod SortedOrder
-pub mod Built
+pub mod BuiltDocuments
 pub mod FirstCrossing
-pub mod Exclusive
+pub mod OneMeaning
 pub mod TextLemmas
 pub mod Facts
 pub mod ReadingLemmas

@@ -4,7 +4,7 @@ use Rattle.pv_tree.specs.Plain.{Tree, element, text_node, cdata_node, misc_node,
 use Rattle.pv_tree.specs.declared.nodes.Mark.{Mark}
 use Rattle.pv_standoff.specs.Spans.{Span, units_of, units_of_all, spans_of, spans_of_all}
 use Rattle.pv_standoff.proofs.OneSortedOrder.{Among, all-among}
-use Rattle.pv_standoff.proofs.Same.{IsBetween, spans_of-between, spans_of_all-between}
+use Rattle.pv_standoff.proofs.SameForests.{IsBetween, spans_of-between, spans_of_all-between}
 
 pub among-append : {X : Type 0} (x : X) (a b : List X) → Among x (a ++ b) → Among x a ⊎ Among x b
 among-append x [] b m = inr m

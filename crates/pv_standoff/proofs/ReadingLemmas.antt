@@ -2,7 +2,6 @@
 use Rattle.std.proofs.Common.{◌≡◌, inl, inr, ℕ, ◌≤◌, List, [], ◌∷◌, ◌++◌, length, Bool, true, false, Option, Some, None, Ok, Err, refl, sym, ◌∙◌, ap}
 use Rattle.std.proofs.Common.{subst, arith, append_assoc, map, decimal, length-append}
 use Rattle.std.specs.Option.{option_and_then, option_map}
-use Rattle.std.proofs.lemmas.List.{append-nil}
 use Rattle.pv_chars.specs.Fronts.{ContainsBytes, EndsAt}
 use Rattle.pv_chars.specs.Names.{is_name}
 use Rattle.pv_chars.proofs.NameLemmas.{is_name-IsName, IsName-is_name}
@@ -13,7 +12,7 @@ use Rattle.pv_words.proofs.NumberWords.{decimal-free, number_spelled-decimal, nu
 use Rattle.pv_words.proofs.FirstWords.{Free, ends-free, none-free, first_word-free, first_word-none, first_word-whole}
 use Rattle.pv_words.proofs.RawLines.{ends_line, raw_lines_of-part}
 use Rattle.pv_standoff.specs.Laws.{OneReading}
-use Rattle.pv_standoff.specs.Lines.{SpellsRange, IsNoRange, SpellRanges, IsFirstNoRange, HasTooMany, RangesMean, number_at, range_with, range_of}
+use Rattle.pv_standoff.specs.Lines.{SpellsRange, IsNoRange, SpellRanges, IsFirstNoRange, HasTooMany, number_at, range_with, range_of}
 use Rattle.pv_standoff.specs.Ranges.{AreNamed, MAX_RANGES}
 use Rattle.pv_standoff.specs.declared.errors.RangesError.TheVariants.{Syntax, Limit, NoMemory}
 use Rattle.pv_standoff.specs.declared.ranges.Range.{Range}
@@ -112,9 +111,6 @@ pub record HasRead (bytes : List ℕ) (ranges : List Range) (rest : List ℕ) : 
   pub are_ranges : SpellRanges before ranges
   pub few : length ranges ≤ MAX_RANGES
 
-pub read-none : (bytes : List ℕ) → HasRead bytes [] bytes
-read-none bytes = record { before = []; is_split = refl; are_ranges = tt; few = omega arith }
-
 pub spell-push : (lines : List (List ℕ)) (rs : List Range) (line : List ℕ) (r : Range) → SpellRanges lines rs → SpellsRange line r → SpellRanges (lines ++ line ∷ []) (rs ++ r ∷ [])
 spell-push [] [] line r s t = (t, tt)
 spell-push [] (q ∷ rs) line r s t = absurd s
@@ -160,9 +156,6 @@ read-too_many bytes ranges rest line more h e n = record {
   are_ranges = h.are_ranges;
   full = spell-length h.before ranges h.are_ranges ∙ n;
 }
-
-pub read-all : (bytes : List ℕ) (ranges : List Range) (rest : List ℕ) → HasRead bytes ranges rest → lines_of rest ≡ [] → RangesMean bytes (Ok ranges)
-read-all bytes ranges rest h e = (subst (λ z. SpellRanges z ranges) (sym (h.is_split ∙ ap (λ l. h.before ++ l) e ∙ append-nil h.before)) h.are_ranges, h.few)
 
 spell-names : (lines : List (List ℕ)) (rs : List Range) → SpellRanges lines rs → AreNamed rs
 spell-names [] [] s = tt

@@ -10,17 +10,17 @@ use Rattle.pv_tree.specs.Plain.{PlainDoc, depth_of}
 use Rattle.pv_tree.specs.declared.nodes.Mark.{Mark}
 use Rattle.pv_standoff.specs.Laws.{SomeMeaning, SomeReading}
 use Rattle.pv_standoff.specs.Lines.{RangesMean, SpellRanges, range_of}
-use Rattle.pv_standoff.specs.Nested.{Nests, NestMeans}
+use Rattle.pv_standoff.specs.NestOutcomes.{Nests, NestMeans}
 use Rattle.pv_standoff.specs.Ranges.{AreSorted, Cross, IsRangeBefore, IsInsideText, IsSortedFrom, MAX_RANGES, NoneCross, NoneCrossLater, NoneTwice}
-use Rattle.pv_standoff.specs.Refused.{IsFirstCrossing, IsFirstOutside, IsFirstTwice}
+use Rattle.pv_standoff.specs.RefusedRanges.{IsFirstCrossing, IsFirstOutside, IsFirstTwice}
 use Rattle.pv_standoff.specs.declared.errors.NestError.{NestError}
 use Rattle.pv_standoff.specs.declared.errors.NestError.TheVariants as error
 use Rattle.pv_standoff.specs.declared.errors.RangesError.{RangesError}
 use Rattle.pv_standoff.specs.declared.errors.RangesError.TheVariants.{Limit, Syntax}
 use Rattle.pv_standoff.specs.declared.ranges.Range.{Range}
 use Rattle.pv_standoff.proofs.FirstCrossing.{none_cross_push, once_push}
-use Rattle.pv_standoff.proofs.Exclusive.{all_full}
-use Rattle.pv_standoff.proofs.Exists.{has_one}
+use Rattle.pv_standoff.proofs.OneMeaning.{all_full}
+use Rattle.pv_standoff.proofs.SomeDocument.{has_one}
 use Rattle.pv_standoff.proofs.Order.{sorted_from}
 use Rattle.pv_standoff.proofs.ReadingLemmas.{no_range, spell-length, spell-push, spelled-range_of}
 use Rattle.pv_standoff.proofs.OneSortedOrder.{Among, all-among, contains-among, none_twice-permutation, place_cases}

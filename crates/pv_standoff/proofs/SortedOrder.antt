@@ -9,7 +9,7 @@ use Rattle.std.proofs.lemmas.Bool.{cases_order, false_from_ne_true, true≢false
 use Rattle.std.proofs.lemmas.List.Sorted.{sorted_far}
 use Rattle.pv_standoff.specs.Ranges.{IsRangeBefore, AreSorted}
 use Rattle.pv_standoff.specs.declared.ranges.Range.{Range}
-use Rattle.pv_standoff.specs.Compared.{is_before}
+use Rattle.pv_standoff.specs.RangeOrder.{is_before}
 use Rattle.pv_standoff.proofs.OneSortedOrder.{before_once}
 use Rattle.pv_standoff.proofs.Order.{not_before}
 

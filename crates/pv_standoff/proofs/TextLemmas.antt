@@ -153,9 +153,6 @@ text_means bytes us some s = inr (some, subst (λ l. TextRestMeans [] l (Ok us))
 pub text_only : (bytes : List ℕ) (us vs : List (List ℕ)) → bytes ≢ [] → SpellsUnits bytes us → TextMeans bytes (Ok vs) → vs ≡ us
 text_only bytes us vs some s m = let e = text_means_only bytes (Ok vs) (Ok us) m (text_means bytes us some s) in cc
 
-pub text_no_error : (bytes : List ℕ) (us : List (List ℕ)) (e : TextError) → bytes ≢ [] → SpellsUnits bytes us → TextMeans bytes (Err e) → ⊥
-text_no_error bytes us e some s m = let f = text_means_only bytes (Err e) (Ok us) m (text_means bytes us some s) in cc
-
 -- the units that are meant, after these
 abbrev Unmarked : List (List ℕ) → List ℕ → Result (List (List ℕ)) TextError → Type 0
 Unmarked before rest (Ok us) = (vs : List (List ℕ)) × (us ≡ before ++ vs) × (rest ≡ joined vs) × (holds_close_mark vs ≡ false)

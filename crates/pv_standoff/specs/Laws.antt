@@ -7,7 +7,7 @@ use Rattle.pv_chars.specs.Units.{TextMeans}
 use Rattle.pv_tree.specs.Plain.{PlainDoc}
 use Rattle.pv_tree.specs.declared.nodes.Mark.{Mark}
 use Rattle.pv_standoff.specs.Lines.{RangesMean}
-use Rattle.pv_standoff.specs.Nested.{NestMeans}
+use Rattle.pv_standoff.specs.NestOutcomes.{NestMeans}
 use Rattle.pv_standoff.specs.Ranges.{NoneTwice, NoneCross}
 use Rattle.pv_standoff.specs.Spans.{StandsForRanges}
 use Rattle.pv_standoff.specs.declared.errors.NestError.{NestError}
@@ -39,7 +39,7 @@ abbrev pub SomeMeaning : Type 0
 SomeMeaning = (root : List ℕ) (text : List (List ℕ)) (ranges : List Range) →
     (o : Result (PlainDoc Mark) NestError) × NestMeans root text ranges o
 
--- the same ranges in another order mean the same, but for the number of a range outside
+-- what ranges mean doesn't depend on their order, but for the number of a range outside
 abbrev pub SameForAnyOrder : Type 0
 SameForAnyOrder = (root : List ℕ) (text : List (List ℕ)) (ranges others : List Range)
     (o : Result (PlainDoc Mark) NestError) → IsPermutation ranges others →

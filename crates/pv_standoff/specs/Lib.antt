@@ -1,9 +1,9 @@
 pub mod Ranges
 pub mod Lines
-pub mod Compared
+pub mod RangeOrder
 pub mod Spans
-pub mod Refused
-pub mod Nested
+pub mod RefusedRanges
+pub mod NestOutcomes
 pub mod Stacks
 pub mod PlainForms
 pub mod Texts

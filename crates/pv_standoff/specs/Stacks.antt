@@ -50,8 +50,13 @@ tree_of f = element f.name [] (tagged []) (forest_of f.kids) blank_mark
 abbrev pub add : PlainOpen → Tree Mark → PlainOpen
 add g t = record { from = g.from; to = g.to; name = g.name; kids = g.kids ++ t ∷ [] }
 
+-- an element of a range, with nothing in it yet
 abbrev pub opened : Range → PlainOpen
 opened r = record { from = r.from; to = r.to; name = r.name; kids = [] }
+
+-- the root of a document of so many units, with nothing in it yet
+abbrev pub bare_root : List ℕ → ℕ → PlainOpen
+bare_root root count = record { from = 0; to = count; name = root; kids = [] }
 
 -- These kids hold the text, and their spans are those of the ranges.
 pub record HoldRanges (text : List (List ℕ)) (done : List Range) (kids : Forest Mark) : Type 0 where

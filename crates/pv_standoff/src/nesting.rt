@@ -6,7 +6,7 @@ ghost use Rattle.pv_chars.specs.Texts.{holds_close_mark};
 ghost use Rattle.pv_chars.specs.Units.{AllUnits};
 ghost use Rattle.pv_tree.specs.PlainDocs.{plain_doc};
 ghost use Rattle.pv_standoff.specs.Ranges.{AreNamed, MAX_RANGES as MAX_RANGE_COUNT};
-ghost use Rattle.pv_standoff.specs.Nested.{NestMeans};
+ghost use Rattle.pv_standoff.specs.NestOutcomes.{NestMeans};
 ghost use Rattle.pv_standoff.specs.Spans.{document_of_root};
 ghost use Rattle.pv_tree.specs.PlainForms.{plain};
 

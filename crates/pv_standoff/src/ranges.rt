@@ -1,4 +1,4 @@
-//! Ranges.
+//! Ranges of units of a text, one for each element that is to stand there.
 
 use pv_chars::{Bytes, List};
 
@@ -12,5 +12,5 @@ pub struct Range {
     pub name: Bytes,
 }
 
-/// Ranges in a list.
+/// The ranges of a text, in any order.
 pub type Ranges = List<Range>;

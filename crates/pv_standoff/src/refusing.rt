@@ -5,7 +5,7 @@ ghost use Rattle.std.specs.List.{AllByRecursion};
 ghost use Rattle.pv_standoff.specs.Ranges.{IsInsideText, HaveSamePlace, AreSorted, NoneTwice};
 ghost use Rattle.pv_standoff.specs.Ranges.{NoneCrossLater};
 ghost use Rattle.pv_standoff.specs.PlainForms.{seen, innermost_first};
-ghost use Rattle.pv_standoff.specs.Refused.{IsFirstOutside, IsFirstTwice, IsFirstCrossing};
+ghost use Rattle.pv_standoff.specs.RefusedRanges.{IsFirstOutside, IsFirstTwice, IsFirstCrossing};
 ghost use Rattle.pv_standoff.specs.Stacks.{AreStillOpen};
 ghost use Rattle.pv_standoff.specs.declared.ranges.Range.{Range};
 

@@ -2,7 +2,7 @@
 
 ghost use Rattle.std.specs.Prelude.{◌≡◌, IfOk, map};
 ghost use Rattle.pv_standoff.specs.Ranges.{IsSortedFrom};
-ghost use Rattle.pv_standoff.specs.Compared.{place_cmp};
+ghost use Rattle.pv_standoff.specs.RangeOrder.{place_cmp};
 ghost use Rattle.pv_standoff.specs.PlainForms.{seen};
 
 use crate::ranges::Range;

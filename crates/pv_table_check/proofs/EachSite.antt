@@ -15,8 +15,8 @@ use Rattle.pv_tables.specs.Values.{listed_value}
 use Rattle.pv_tables.specs.declared.tables.Entry.{Entry}
 use Rattle.pv_table_check.specs.ClosedEntries.{AreOver, AreClosedAt}
 use Rattle.pv_table_check.specs.ClosedForms.{KeepsNames, WeighsAsOne}
-use Rattle.pv_table_check.proofs.AtSites.{kept_from, name_from, name_to}
-use Rattle.pv_table_check.proofs.ByForms.{known_or_heavy}
+use Rattle.pv_table_check.proofs.EntriesAtSites.{kept_from, name_from, name_to}
+use Rattle.pv_table_check.proofs.ClosureByForms.{known_or_heavy}
 
 some_of : {A : Type 0} (o : Option A) → IsSome o → (a : A) × (o ≡ Some a)
 some_of None h = absurd cc

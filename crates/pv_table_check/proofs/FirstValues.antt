@@ -1,7 +1,5 @@
 -- The first of some entries that has a goal.
-use Rattle.std.proofs.Common.{Bool, List, arith, drop, drop-cons, false, get_or, length, refl, suc, true, ℕ, ◌+◌, ◌<◌, ◌∙◌, ◌∷◌, ◌≡◌, ◌≤◌}
-use Rattle.std.proofs.lemmas.List.{drop_all}
-use Rattle.pv_rules.specs.Derivations.{heaviest}
+use Rattle.std.proofs.Common.{Bool, List, arith, drop, drop-cons, false, get_or, length, refl, suc, true, ℕ, ◌+◌, ◌<◌, ◌∙◌, ◌∷◌, ◌≡◌}
 use Rattle.pv_rules.specs.Rules.{Goal}
 use Rattle.pv_tables.specs.TableLaws.{GoalsAreTold}
 use Rattle.pv_tables.specs.Values.{are_same_goals, goal_of, listed_value}
@@ -12,9 +10,6 @@ module _ (x : Goal) where
   pub record IsAhead (es : List Entry) (i : ℕ) : Type 0 where
     pub same : listed_value es x ≡ listed_value (drop i es) x
 
-  pub ahead_all : (es : List Entry) → IsAhead es 0
-  ahead_all es = record { same = refl }
-
   head_value : GoalsAreTold → (e : Entry) (es : List Entry) → goal_of e ≡ x → listed_value (e ∷ es) x ≡ e.value
   head_value told e es g = let t : are_same_goals (goal_of e) x ≡ true = (told (goal_of e) x).1 g in rw t refl
 
@@ -23,9 +18,6 @@ module _ (x : Goal) where
   other_value told e es false t n = rw t refl
 
   module _ (es : List Entry) (i : ℕ) (a : IsAhead es i) where
-    pub value_behind : length es ≤ i → listed_value es x ≡ heaviest
-    value_behind le = let s = a.same in rw (drop_all i es le) at s
-
     module _ (few : i < length es) (d : Entry) where
       split : drop i es ≡ get_or es i d ∷ drop (suc i) es
       split = drop-cons es i d few

@@ -1,8 +1,8 @@
 -- of this crate:
-pub mod AddedUp
+pub mod RemainingTotals
 pub mod AscendingLists
-pub mod AtSites
-pub mod ByForms
+pub mod EntriesAtSites
+pub mod ClosureByForms
 pub mod ClosedSites
 pub mod EachSite
 pub mod EntryOrder

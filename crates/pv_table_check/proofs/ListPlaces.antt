@@ -9,7 +9,7 @@ use Rattle.pv_tree.specs.Lists.{Listed, Owner, an_element, lists_of, the_documen
 use Rattle.pv_tree.specs.Places.{IsListAt, Spot, at_node, list_at, list_of, node_below, owner_of, spot_at}
 use Rattle.pv_tree.specs.Plain.{Forest, PlainDoc, Tree, cdata_node, element, forest_of, misc_node, no_trees, nodes_in, nodes_in_all, text_node, tree, trees_of}
 use Rattle.pv_tree.proofs.Levels.{forest-trees, trees-forest}
-use Rattle.pv_missing.specs.Weighing.{site_of}
+use Rattle.pv_missing.specs.ListWeights.{site_of}
 use Rattle.pv_table_check.specs.ClosedTables.{IsListOf}
 
 owner_found : (f : Owner → Option PlainSite) (s : PlainSite) (o : Option Owner) → Some s ≡ option_and_then f o → (w : Owner) × (o ≡ Some w) × (f w ≡ Some s)

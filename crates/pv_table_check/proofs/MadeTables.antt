@@ -12,11 +12,11 @@ use Rattle.pv_tree.specs.PathOrder.{IsListBefore, IsPathBefore}
 use Rattle.pv_tree.specs.Plain.{Forest}
 use Rattle.pv_tree.specs.Words.{word_of}
 use Rattle.pv_tree.specs.declared.nodes.Verdict.TheVariants as verdict
-use Rattle.pv_tree.proofs.Every.{contains_first, contains_later}
+use Rattle.pv_tree.proofs.JoinedLists.{contains_first, contains_later}
 use Rattle.pv_rules.specs.Sites.{PlainSite, content_site, name_site}
 use Rattle.pv_missing.specs.ListLaws.{KnownWord}
 use Rattle.pv_missing.specs.Verdicts.{IsLiveBy, IsVerdict}
-use Rattle.pv_missing.specs.Weighing.{site_of}
+use Rattle.pv_missing.specs.ListWeights.{site_of}
 use Rattle.pv_tables.specs.TableLaws.{EntriesAreClosed}
 use Rattle.pv_tables.specs.Tables.{AreAllEntries, AreTables, IsEntry, IsTableOf, no_list, other_list, possible_list}
 use Rattle.pv_tables.specs.WeightLaws.{LiveIsWord}

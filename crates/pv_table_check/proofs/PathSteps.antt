@@ -24,16 +24,6 @@ module _ (p q : List ℕ) (x y : ℕ) (ps qs : List ℕ) (e : p ≡ x ∷ ps) (f
       by_case (inl lt) = absurd (omega arith)
       by_case (inr (same, more)) = more
 
-  cons_less : x < y → IsPathBefore p q
-  cons_less lt = rw (e, f) (inl lt)
-
-  cons_more : y < x → IsPathBefore p q → ⊥
-  cons_more lt h = by_case (steps h)
-    where
-      by_case : (x < y) ⊎ ((x ≡ y) × IsPathBefore ps qs) → ⊥
-      by_case (inl less) = omega arith
-      by_case (inr (same, more)) = omega arith
-
 none_before : (p q : List ℕ) → q ≡ [] → IsPathBefore p q → ⊥
 none_before [] q e h = rw e at h
 none_before (x ∷ ps) q e h = rw e at h
@@ -64,12 +54,6 @@ module _ (one other : List ℕ) where
           where
             next : i + 1 ≡ suc i
             next = omega arith
-
-        pub less_step : get_or one i 0 < get_or other i 0 → IsPathBefore one other
-        less_step lt = l.to (cons_less (drop i one) (drop i other) (get_or one i 0) (get_or other i 0) (drop (suc i) one) (drop (suc i) other) head behind lt)
-
-        pub more_step : get_or other i 0 < get_or one i 0 → IsPathBefore one other → ⊥
-        more_step lt h = cons_more (drop i one) (drop i other) (get_or one i 0) (get_or other i 0) (drop (suc i) one) (drop (suc i) other) head behind lt (l.from h)
 
     -- this path ends here
     pub one_ends : length one ≤ i → i < length other → IsPathBefore one other

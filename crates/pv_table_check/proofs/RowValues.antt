@@ -2,7 +2,6 @@
 use Rattle.std.proofs.Common.{◌≡◌, ◌<◌, ◌≤◌, ◌+◌, ◌-◌, ◌⊎◌, Bool, true, false, ℕ, List, Some, refl, inl, inr, suc, sym, ap, subst, min, length}
 use Rattle.std.proofs.Common.{slice_get, get_or, drop, length-drop, arith, ◌∙◌, [], ◌∷◌, ◌++◌, zero, if◌then◌else◌}
 use Rattle.std.proofs.lemmas.Bool.{cases_lt}
-use Rattle.std.proofs.lemmas.List.Elements.{All-contains}
 use Rattle.std.proofs.lemmas.List.{get_or-drop, get_or_push, length_push}
 use Rattle.std.proofs.lemmas.Option.{slice_get-get_or}
 use Rattle.pv_rules.specs.Derivations.{heaviest}
@@ -11,21 +10,10 @@ use Rattle.pv_rules.specs.Sites.{PlainSite}
 use Rattle.pv_tables.specs.TableLaws.{ListedOrNot}
 use Rattle.pv_tables.specs.Values.{IsListed, IsUnlisted, listed_value}
 use Rattle.pv_tables.specs.declared.tables.Entry.{Entry}
-use Rattle.pv_table_check.specs.ClosedEntries.{IsEntryOver}
 use Rattle.pv_table_check.specs.ClosedForms.{WeighsBehind}
 use Rattle.pv_table_check.specs.Rows.{AreOverPlaces, AreValueRows, AreValuesFrom}
-use Rattle.pv_table_check.specs.Tested.{CanBeTested, dtd_in, word_in}
 use Rattle.pv_table_check.specs.declared.rows.Row.{Row}
-use Rattle.pv_table_check.specs.declared.tested.Tested.{Tested}
-use Rattle.pv_table_check.proofs.ByForms.{in_order}
 use Rattle.pv_table_check.proofs.ClosedSites.{is_light}
-use Rattle.pv_table_check.proofs.Words.{as_long}
-
-pub over_places : ListedOrNot → (t : Tested) → CanBeTested t → AreOverPlaces t.entries.now (length t.word.now)
-over_places cases t can = record {
-  order = in_order cases (dtd_in t) (word_in t) t.entries.now can.over;
-  span = λ e m. let o = All-contains (IsEntryOver (dtd_in t) (word_in t)) t.entries.now e can.over.each m in let s = o.is_span in let l = as_long t in (s.0, (let x = s.1 in omega arith));
-}
 
 module _ (cases : ListedOrNot) (es : List Entry) (most : ℕ) (o : AreOverPlaces es most) where
   pub within_or_heavy : (s : PlainSite) (k j : ℕ) → ((k ≤ j) × (j ≤ most)) ⊎ (listed_value es (over s k j) ≡ heaviest)

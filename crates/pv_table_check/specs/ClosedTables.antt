@@ -10,7 +10,7 @@ use Rattle.pv_tree.specs.Words.{word_of}
 use Rattle.pv_rules.specs.Derivations.{IsClosed}
 use Rattle.pv_rules.specs.Rules.{Rule}
 use Rattle.pv_rules.specs.Sites.{PlainSite}
-use Rattle.pv_missing.specs.Weighing.{site_of}
+use Rattle.pv_missing.specs.ListWeights.{site_of}
 use Rattle.pv_missing.specs.Widths.{IsListForWeights}
 use Rattle.pv_tables.specs.Values.{listed_value}
 use Rattle.pv_tables.specs.declared.tables.Table.{Table}

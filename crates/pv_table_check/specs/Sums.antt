@@ -10,6 +10,7 @@ abbrev pub IsNoLess : List Entry → Pair → Entry → Type 0
 IsNoLess es p e = (p.outer ≡ true → e.from < e.to) →
     WeighsBehind es es (plain_site p.left) e.from e.to e.value (plain_site p.second) p.inner
 
--- the same of each of some entries
+-- the left site weighs no more than any of these entries of a first one and the second site after
+-- it
 abbrev pub AreNoLess : List Entry → Pair → List Entry → Type 0
 AreNoLess es p firsts = (k : ℕ) (d : Entry) → k < length firsts → IsNoLess es p (get_or firsts k d)

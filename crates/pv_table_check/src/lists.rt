@@ -14,7 +14,7 @@ ghost use Rattle.pv_tree.specs.Plain.{nodes_in_all};
 ghost use Rattle.pv_tree.specs.PlainDocs.{plain_doc, plain_found};
 ghost use Rattle.pv_tree.specs.PlainForms.{forest, plain};
 ghost use Rattle.pv_tree.specs.declared.nodes.Mark.{Mark};
-ghost use Rattle.pv_missing.specs.Weighing.{site_of};
+ghost use Rattle.pv_missing.specs.ListWeights.{site_of};
 ghost use Rattle.pv_table_check.specs.ClosedTables.{IsListOf};
 
 use pv_dtd::Dtd;

@@ -1,5 +1,5 @@
 -- for other crates:
-pub mod AddingUp
+pub mod TableTotals
 pub mod WeightSums
 pub mod Values
 -- of this crate:

@@ -6,7 +6,7 @@ use Rattle.pv_model.specs.Plain.{PlainToken}
 use Rattle.pv_dtd.specs.Plain.{PlainDtd}
 use Rattle.pv_tree.specs.Lists.{Listed}
 use Rattle.pv_tree.specs.Words.{word_of}
-use Rattle.pv_tree.proofs.Every.{contains_cases, contains_first, contains_later}
+use Rattle.pv_tree.proofs.JoinedLists.{contains_cases, contains_first, contains_later}
 use Rattle.pv_tree.specs.declared.nodes.Verdict.TheVariants as verdict
 use Rattle.pv_missing.specs.Verdicts.{IsVerdict}
 use Rattle.pv_missing.specs.WordLaws.{OneLiveWord}

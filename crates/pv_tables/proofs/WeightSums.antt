@@ -15,7 +15,7 @@ use Rattle.pv_missing.specs.LiveWords.{IsLiveWord}
 use Rattle.pv_missing.specs.Verdicts.{AreVerdicts, IsLive, IsLiveBy, IsVerdict}
 use Rattle.pv_missing.specs.DocumentLaws.{IsPotentiallyValidByLists, WeightsAddUp}
 use Rattle.pv_missing.specs.ListLaws.{ValidMissesNone}
-use Rattle.pv_missing.specs.Weighing.{WeighInAll, Weighs, whole}
+use Rattle.pv_missing.specs.ListWeights.{WeighInAll, Weighs, whole}
 use Rattle.pv_missing.specs.WordLaws.{LiveFollows, OneLiveWord}
 use Rattle.pv_tables.specs.WeightLaws.{LiveWeighs, PossibleWeigh, PossibleWeightsAddUp}
 

@@ -11,10 +11,10 @@ use Rattle.pv_tree.specs.declared.nodes.Verdict.{Verdict}
 use Rattle.pv_rules.specs.Derivations.{IsClosed, IsWeight}
 use Rattle.pv_rules.specs.Rules.{Goal, IsKnownWord, IsSpan, Rule, over}
 use Rattle.pv_rules.specs.Sites.{HasSite, PlainSite}
-use Rattle.pv_missing.specs.Completing.{IsPotentiallyValid}
+use Rattle.pv_missing.specs.Completions.{IsPotentiallyValid}
 use Rattle.pv_missing.specs.Proper.{IsProperDoc}
 use Rattle.pv_missing.specs.Verdicts.{AreVerdicts}
-use Rattle.pv_missing.specs.Weighing.{SumIsLeast}
+use Rattle.pv_missing.specs.ListWeights.{SumIsLeast}
 use Rattle.pv_tables.specs.Tables.{AreAllEntries, AreTables, kind_rank, site_number}
 use Rattle.pv_tables.specs.Values.{HaveTotal, IsListed, IsUnlisted, are_same_goals, listed_value}
 use Rattle.pv_tables.specs.declared.tables.Entry.{Entry}

@@ -8,7 +8,7 @@ use Rattle.pv_rules.specs.Derivations.{heaviest}
 use Rattle.pv_rules.specs.PlainForms.{plain_site}
 use Rattle.pv_rules.specs.Rules.{Goal, over}
 use Rattle.pv_rules.specs.Sites.{PlainSite}
-use Rattle.pv_missing.specs.Weighing.{site_of, whole}
+use Rattle.pv_missing.specs.ListWeights.{site_of, whole}
 use Rattle.pv_tables.specs.Tables.{kind_rank, site_number}
 use Rattle.pv_tables.specs.declared.tables.Entry.{Entry}
 use Rattle.pv_tables.specs.declared.tables.Table.{Table}

@@ -12,11 +12,11 @@ use Rattle.pv_tree.specs.declared.nodes.Verdict.TheVariants as verdict
 use Rattle.pv_rules.specs.Derivations.{IsWeight}
 use Rattle.pv_rules.specs.Rules.{Rule}
 use Rattle.pv_rules.specs.Sites.{PlainSite}
-use Rattle.pv_missing.specs.Completing.{IsPotentiallyValid}
+use Rattle.pv_missing.specs.Completions.{IsPotentiallyValid}
 use Rattle.pv_missing.specs.LiveWords.{IsLiveWord}
 use Rattle.pv_missing.specs.Proper.{IsProperDoc}
 use Rattle.pv_missing.specs.Verdicts.{AreVerdicts, IsLive}
-use Rattle.pv_missing.specs.Weighing.{SumIsLeast, Weighs, site_of, whole}
+use Rattle.pv_missing.specs.ListWeights.{SumIsLeast, Weighs, site_of, whole}
 
 -- the weight of the list's whole live word
 abbrev pub LiveWeighs : {M : Type 0} → PlainDtd → List ℕ → Listed M → ℕ → Type 0

@@ -8,9 +8,9 @@ use Rattle.pv_dtd.specs.Hedge.{IsValid}
 use Rattle.pv_tree.specs.Units.{HasUnits}
 use Rattle.pv_tree.specs.Lists.{the_document, IsValidList, IsFirstNot, IsRootElement, lists_at, lists_of}
 use Rattle.pv_tree.specs.View.{view}
-use Rattle.pv_tree.proofs.Every.{all_right}
+use Rattle.pv_tree.proofs.JoinedLists.{all_right}
 use Rattle.pv_tree.proofs.ValidLists.{valid_lists}
-use Rattle.pv_tree.proofs.Firsts.{first_behind}
+use Rattle.pv_tree.proofs.FirstLists.{first_behind}
 
 -- a document with an invalid list isn't valid
 pub not_valid : {M : Type 0} (g : PlainDtd) (root path : List ℕ) (doc : PlainDoc M) → HasUnits doc.root → IsFirstNot (IsValidList g root) (lists_of doc) path → IsValid g root (view doc.root) → ⊥

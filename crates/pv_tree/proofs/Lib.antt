@@ -1,20 +1,19 @@
 -- for other crates:
-pub mod Every
-pub mod Firsts
+pub mod JoinedLists
+pub mod FirstLists
 pub mod Levels
 pub mod Forests
 pub mod Owners
 pub mod PathOrder
-pub mod NodePlaces
 pub mod ListSearches
 pub mod Marks
 pub mod Walks
 pub mod ValidLists
 pub mod FirstInvalid
 pub mod CharacterData
-pub mod Decidable
+pub mod Decisions
 pub mod DecidedForms
 -- of this crate:
-pub mod AtPaths
-pub mod Alike
-pub mod Spread
+pub mod ListsAtPaths
+pub mod AlikeWords
+pub mod ShownWords

@@ -4,8 +4,8 @@ use Rattle.std.specs.Prelude.{IsTrue, ◌↔◌}
 use Rattle.std.specs.List.{AllByRecursion}
 use Rattle.pv_tree.specs.Lists.{Listed, IsFirstNot}
 use Rattle.pv_tree.specs.Search.{Tells}
-use Rattle.pv_tree.proofs.Every.{all_joined}
-use Rattle.pv_tree.proofs.Firsts.{first_before, first_behind}
+use Rattle.pv_tree.proofs.JoinedLists.{all_joined}
+use Rattle.pv_tree.proofs.FirstLists.{first_before, first_behind}
 
 -- Of these lists those before the ones that are left have passed, and those are awaited.
 pub record HasPassed {M : Type 0} (P : Listed M → Type 0) (A : List (Listed M) → Type 0) (lists left : List (Listed M)) : Type 0 where

@@ -8,9 +8,9 @@ use Rattle.pv_tree.specs.Lists.{IsOwnValid, IsValidList, IsRootElement, lists_at
 use Rattle.pv_tree.specs.Units.{HasUnits, HaveUnits}
 use Rattle.pv_tree.specs.View.{spread, view_before, view_all, view}
 use Rattle.pv_tree.specs.Words.{word_of}
-use Rattle.pv_tree.proofs.Every.{all_left, all_right, all_joined}
-use Rattle.pv_tree.proofs.Alike.{alike_back, allows_alike}
-use Rattle.pv_tree.proofs.Spread.{word_alike}
+use Rattle.pv_tree.proofs.JoinedLists.{all_left, all_right, all_joined}
+use Rattle.pv_tree.proofs.AlikeWords.{alike_back, allows_alike}
+use Rattle.pv_tree.proofs.ShownWords.{word_alike}
 
 -- where each text has a unit, nothing is seen only where nothing is there
 view_none : {M : Type 0} (kids : Forest M) → HaveUnits kids → view_all kids ≡ done → kids ≡ no_trees

@@ -60,11 +60,8 @@ abbrev mutual
 
 -- the units of the texts that stand at the front, one beside another
 abbrev pub front_units : {M : Type 0} → Forest M → List (List ℕ)
-front_units no_trees = []
-front_units (tree (element x attrs ending kids mark) rest) = []
 front_units (tree (text_node units) rest) = units ++ front_units rest
-front_units (tree (cdata_node bytes) rest) = []
-front_units (tree (misc_node bytes) rest) = []
+front_units _ = []
 
 -- `]]>` stands at the front of none of the ends of these units before the last so many
 abbrev pub is_open : List (List ℕ) → List (List ℕ) → Bool

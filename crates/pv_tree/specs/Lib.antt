@@ -6,7 +6,7 @@ pub mod Tokens
 pub mod Lists
 pub mod MarkedLists
 pub mod Walks
-pub mod Walking
+pub mod ListWalks
 pub mod Search
 pub mod Places
 pub mod PathOrder

@@ -20,7 +20,7 @@ abbrev pub list_given : List ℕ → DocList → Listed Mark
 list_given path given =
     record { path = path; owner = owner_named given.owner; kids = forest given.kids.now }
 
--- the same with its mark
+-- a list of the program, at a path, with its mark
 abbrev pub marked_list : List ℕ → DocList → MarkedList Mark
 marked_list path given = record { list = list_given path given; mark = given.mark }
 

@@ -1,4 +1,4 @@
-//! A document.
+//! A document: its root, and the bytes before and after it.
 
 ghost use Rattle.std.specs.Prelude.{◌≡◌, ◌≤◌, ℕ, List, IsTrue, IfOk};
 ghost use Rattle.pv_tree.specs.Plain.{depth_of, nodes_in, is_element};
@@ -45,7 +45,8 @@ impl Doc {
     ghost use Rattle.pv_tree.specs.Places.{list_at, spot_at};
     ghost use Rattle.pv_tree.specs.PlainDocs.{plain_doc, plain_found};
 
-    /// What stands at a path.
+    /// What stands at a path: the document node or a node of the tree, and nothing where the path
+    /// leads past the tree.
     ///
     /// ```rust
     /// let doc = read_doc(alloc, b"<a> <b/>x</a>", b"a")?;

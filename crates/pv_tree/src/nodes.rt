@@ -20,6 +20,15 @@ use std::alloc::Global;
 /// With `<!ELEMENT doc (head, sec+)>`, where `head` holds text, the list of `doc` is Valid in
 /// `<doc><head/><sec/></doc>`, Possible in `<doc>Hello</doc>`, which a `head` around the text and a
 /// `sec` after it make valid, and Impossible in `<doc><sec/><head/></doc>`.
+///
+/// ```rust
+/// let dtd = read_dtd(alloc, b"<!ELEMENT doc (head)><!ELEMENT head (#PCDATA)>")?;
+/// let grammar = build(alloc, dtd)?;
+/// let doc = read_doc(alloc, b"<doc>Hello</doc>", b"doc")?;
+/// let verdicts = check_doc(alloc, &grammar, b"doc", &doc, &mut steps)?;
+/// assert!(rt; verdicts.at(0) == Some(Verdict::Valid)); // of the document node's list
+/// assert!(rt; verdicts.at(1) == Some(Verdict::Possible)); // of that of `doc`
+/// ```
 #[derive(Clone, Copy, Debug, PartialEq, Eq)]
 pub enum Verdict {
     /// The list isn't `Impossible`, and it is valid by itself.
@@ -48,6 +57,10 @@ pub struct Mark {
 
 impl Mark {
     /// The mark of an element that nothing is known of.
+    ///
+    /// ```rust
+    /// assert!(rt; Mark::BLANK.verdict == Verdict::Valid && Mark::BLANK.stamp == 0);
+    /// ```
     pub const BLANK: Mark = Mark {
         verdict: Verdict::Valid,
         stamp: 0,
@@ -59,6 +72,14 @@ impl Mark {
 /// How an element ends.
 ///
 /// `<a/>` is `Short`, and `<a></a >` is `Tagged`, with one blank.
+///
+/// ```rust
+/// let short = read_doc(alloc, b"<a/>", b"a")?;
+/// assert!(rt; matches!(&short.root, Node::Elem { end: End::Short, .. }));
+/// let tagged = read_doc(alloc, b"<a></a >", b"a")?;
+/// assert!(rt; matches!(&tagged.root, Node::Elem { end: End::Tagged(gap), .. }
+///     if gap.as_slice() == b" ".as_slice()));
+/// ```
 #[derive(Debug, Drop)]
 pub enum End {
     /// By the `/>` of an empty-element tag.
@@ -67,10 +88,17 @@ pub enum End {
     Tagged(Bytes),
 }
 
-/// Nodes side by side.
+/// Nodes side by side, in document order: the kids of an element.
+///
+/// ```rust
+/// let comment = Node::Misc(bytes_of(alloc, b"<!--n-->")?);
+/// let nodes: Nodes = vec![in alloc; comment]?;
+/// assert!(rt; nodes.len() == 1 && !nodes[0].has_token());
+/// ```
 pub type Nodes = Vec<Node>;
 
-/// A node of a document.
+/// A node of a document: an element, a run of text, a CDATA section, or a comment or processing
+/// instruction (XML 1.0, sections 2.4 to 2.7 and 3.1).
 ///
 /// ```rust
 /// let doc = read_doc(alloc, b"<a id='1'><b/>x</a >", b"a")?;

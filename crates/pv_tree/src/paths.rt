@@ -1,4 +1,4 @@
-//! Places in a document.
+//! Paths, which say where nodes and lists stand in a document.
 
 ghost use Rattle.std.specs.Prelude.{◌≡◌, IfOk};
 
@@ -28,7 +28,12 @@ impl Model for Path {
 }
 
 impl Path {
-    /// The path of these numbers.
+    /// The path of these numbers, from the document node down. Each is the number of a kid in its
+    /// list, counted from 0.
+    ///
+    /// ```rust
+    /// assert!(rt; Path::new(alloc, &[])?.places().is_empty()); // the document node
+    /// ```
     pub fn new(alloc: Global, places: &[u32]) -> Result<Path, NoMemory>
         ensures { IfOk result (λ p. p ≡ places.now) }
     {
@@ -38,6 +43,11 @@ impl Path {
     }
 
     /// The numbers, from the document node down.
+    ///
+    /// ```rust
+    /// let path = Path::new(alloc, &[0, 2])?;
+    /// assert!(rt; path.places().len() == 2 && path.places()[1] == 2);
+    /// ```
     pub fn places(&self) -> &[u32]
         ensures { result.now ≡ self.now }
     {

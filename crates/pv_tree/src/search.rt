@@ -17,6 +17,8 @@ use std::alloc::Global;
 
 /// A test of a document's lists, asked of one after another in document order. `passes` is what it
 /// tests of a list, by the name of the root, and `awaits` that these lists come next.
+///
+/// `first_invalid` asks of each list by such a test whether it is valid by itself.
 pub trait ListTest {
     /// What is kept from one list to the next.
     type State;
@@ -33,6 +35,8 @@ pub trait ListTest {
 }
 
 /// The path of the first list, in document order, that doesn't pass.
+///
+/// See `first_invalid`, whose example finds the first list that isn't valid by itself.
 pub fn first_list<T: ListTest>(
     alloc: Global,
     test: &T,

@@ -13,9 +13,16 @@ use crate::paths::Path;
 use pv_chars::NoMemory;
 use std::alloc::Global;
 
-/// Whose list it is.
+/// Whose list it is: the document node's, or an element's.
 ///
 /// In `<a><b/></a>` the owners are the document node, `a` and `b`, in this order.
+///
+/// ```rust
+/// let doc = read_doc(alloc, b"<a><b/></a>", b"a")?;
+/// let mut lists = Lists::of(alloc, &doc);
+/// assert!(rt; matches!(lists.next()?, Some(DocList { owner: OwnerName::Document, .. })));
+/// assert!(rt; matches!(lists.next()?, Some(DocList { owner: OwnerName::Element(b"a"), .. })));
+/// ```
 #[derive(Clone, Copy, Debug)]
 pub enum OwnerName<'a> {
     /// That of the document node.
@@ -24,9 +31,16 @@ pub enum OwnerName<'a> {
     Element(&'a [u8]),
 }
 
-/// A list of a document.
+/// A list of a document: whose it is, its nodes in order, and the mark of its owner.
 ///
 /// In `<a> <b/>x</a>` that of `a` has three kids: a text, `b` and a text.
+///
+/// ```rust
+/// let doc = read_doc(alloc, b"<a> <b/>x</a>", b"a")?;
+/// let mut lists = Lists::of(alloc, &doc);
+/// assert!(rt; matches!(lists.next()?, Some(list) if list.kids.len() == 1)); // the root alone
+/// assert!(rt; matches!(lists.next()?, Some(list) if list.kids.len() == 3)); // the kids of `a`
+/// ```
 #[derive(Clone, Copy, Debug)]
 pub struct DocList<'a> {
     pub owner: OwnerName<'a>,
@@ -114,9 +128,16 @@ pub struct Lists<'a> {
 }
 
 impl<'a> Lists<'a> {
-    ghost use Rattle.pv_tree.specs.Walking.{ComesToNext, lists_left, path_come_to};
+    ghost use Rattle.pv_tree.specs.ListWalks.{ComesToNext, lists_left, path_come_to};
 
-    /// The walk at its beginning.
+    /// The walk over the lists of a document before it has come to any. The first is the document
+    /// node's.
+    ///
+    /// ```rust
+    /// let doc = read_doc(alloc, b"<a/>", b"a")?;
+    /// let mut lists = Lists::of(alloc, &doc);
+    /// assert!(rt; matches!(lists.next()?, Some(DocList { owner: OwnerName::Document, .. })));
+    /// ```
     pub fn of(alloc: Global, doc: &'a Doc) -> Lists<'a>
         ensures marked { lists_left result ≡ marked_of (plain_doc doc.now) }
         ensures lists { map list_alone (lists_left result) ≡ lists_of (plain_doc doc.now) }
@@ -133,7 +154,16 @@ impl<'a> Lists<'a> {
         }
     }
 
-    /// Goes to the next list.
+    /// Goes to the next list in document order, and returns it, or `None` after the last one. After
+    /// an error nothing is known of the walk.
+    ///
+    /// ```rust
+    /// let doc = read_doc(alloc, b"<a/>", b"a")?;
+    /// let mut lists = Lists::of(alloc, &doc);
+    /// assert!(rt; lists.next()?.is_some()); // the document node's
+    /// assert!(rt; lists.next()?.is_some()); // that of `a`
+    /// assert!(rt; lists.next()?.is_none());
+    /// ```
     pub fn next(&mut self) -> Result<Option<DocList<'a>>, NoMemory>
         ensures given { IfOk result (ComesToNext self.old self.new) }
         ensures few { IfOk result (λ given. IfSome given (λ list.
@@ -150,6 +180,15 @@ impl<'a> Lists<'a> {
     }
 
     /// The path of the list that the walk came to last.
+    ///
+    /// ```rust
+    /// let doc = read_doc(alloc, b"<a> <b/>x</a>", b"a")?;
+    /// let mut lists = Lists::of(alloc, &doc);
+    /// assert!(rt; lists.next()?.is_some());
+    /// assert!(rt; lists.next()?.is_some());
+    /// assert!(rt; lists.next()?.is_some()); // that of `b`
+    /// assert!(rt; lists.path(alloc)?.places() == [0, 1].as_slice());
+    /// ```
     pub fn path(&self, alloc: Global) -> Result<Path, NoMemory>
         ensures { IfOk result (λ path. path ≡ path_come_to self.now) }
     {

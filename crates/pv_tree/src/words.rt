@@ -16,7 +16,12 @@ use pv_dtd::Dtd;
 use pv_model::Token;
 use std::alloc::Global;
 
-/// A list of tokens.
+/// Tokens in order: the word of a list.
+///
+/// ```rust
+/// let tokens = Tokens::of(vec![in alloc; Token::Text, Token::Other]?);
+/// assert!(rt; tokens.as_slice().len() == 2);
+/// ```
 pub type Tokens = List<Token>;
 
 /// The word of some nodes: an element by its name, data for a text with a data unit and for a

@@ -1,4 +1,4 @@
 -- of this crate:
 pub mod EmptyElements
 pub mod Tokens
-pub mod Whole
+pub mod WholeRoots

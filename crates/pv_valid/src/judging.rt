@@ -6,7 +6,7 @@ ghost use Rattle.pv_dtd.specs.PlainForms.{plain_dtd};
 ghost use Rattle.pv_tree.specs.Lists.{IsOwnValid};
 ghost use Rattle.pv_tree.specs.Plain.{Tree, forest_of};
 ghost use Rattle.pv_tree.specs.declared.nodes.Mark.{Mark};
-ghost use Rattle.pv_lists.specs.Judging.{IsEnded};
+ghost use Rattle.pv_lists.specs.Judgements.{IsEnded};
 
 use crate::fitting::{fits, model_by};
 use pv_chars::NoMemory;

@@ -13,7 +13,7 @@ ghost use Rattle.pv_read.specs.Errors.{Refuses};
 ghost use Rattle.pv_read.specs.Meaning.{DocumentMeans, DocumentMeansWithin, Outcome, is_document};
 ghost use Rattle.pv_read.specs.PlainForms.{Answers};
 ghost use Rattle.pv_lists.specs.Answers.{limits_of};
-ghost use Rattle.pv_lists.specs.Judging.{MAX_KIDS};
+ghost use Rattle.pv_lists.specs.Judgements.{MAX_KIDS};
 
 use crate::judging::Validity;
 use pv_chars::NoMemory;

@@ -8,15 +8,15 @@ use Rattle.pv_model.specs.PlainForms.{plain_token}
 use Rattle.pv_model.specs.declared.models.Token.{Token}
 use Rattle.pv_dtd.specs.Plain.{PlainDtd}
 use Rattle.pv_dtd.specs.Proper.{IsProperDtd}
-use Rattle.pv_rules.specs.Deriving.{DerivesAt}
+use Rattle.pv_rules.specs.SiteDerivations.{DerivesAt}
 use Rattle.pv_rules.specs.Sites.{content_site}
 use Rattle.pv_missing.proofs.PossibleSites.{content_possible}
-use Rattle.pv_missing.specs.Filling.{IsPossible}
+use Rattle.pv_missing.specs.FilledWords.{IsPossible}
 use Rattle.pv_missing.specs.LiveWords.{AreProductiveTokens}
-use Rattle.pv_reach.specs.Taking.{ContentTakes, IsFreeContent}
+use Rattle.pv_reach.specs.TokensTaken.{ContentTakes, IsFreeContent}
 use Rattle.pv_rematch.specs.Counts.{AreWithout}
 use Rattle.pv_rematch.proofs.TokenNumbers.{all_of_none, none_of_all}
-use Rattle.pv_verdicts.specs.Counting.{IsTakenToken}
+use Rattle.pv_verdicts.specs.TokenCounts.{IsTakenToken}
 
 -- tokens that are taken are those of productive names that the content takes
 all_takes : (g : PlainDtd) (x : ℕ) (w : List PlainToken) → AllByRecursion (IsTakenToken g x) w →

@@ -4,7 +4,7 @@ use Rattle.pv_model.specs.Plain.{PlainModel, PlainToken}
 use Rattle.pv_rematch.specs.WordMatches.{IsWordMatch, IsTurn}
 use Rattle.pv_dtd.specs.Plain.{PlainDtd, declared, model_of}
 use Rattle.pv_rules.specs.Sites.{PlainSite, content_site, name_site, part_site, rest_site}
-use Rattle.pv_verdicts.specs.Counting.{AreCounts}
+use Rattle.pv_verdicts.specs.TokenCounts.{AreCounts}
 use Rattle.pv_verdicts.specs.declared.judged.Judged.{Judged}
 use Rattle.pv_verdicts.specs.declared.judged.Kept.{Kept}
 use Rattle.pv_verdicts.specs.declared.judged.KeptTurn.{KeptTurn}

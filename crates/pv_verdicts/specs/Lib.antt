@@ -1,4 +1,4 @@
-pub mod Counting
+pub mod TokenCounts
 pub mod Judged
-pub mod Last
+pub mod LastJudgedWord
 pub mod Owners

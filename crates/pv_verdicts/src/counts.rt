@@ -6,8 +6,8 @@ ghost use Rattle.pv_rematch.specs.Counts.{AreWithout};
 ghost use Rattle.pv_model.specs.PlainForms.{plain_token};
 ghost use Rattle.pv_productive.specs.PlainForms.{dtd_of};
 ghost use Rattle.pv_missing.specs.LiveWords.{IsProductiveToken};
-ghost use Rattle.pv_reach.specs.Taking.{IsFreeContent};
-ghost use Rattle.pv_verdicts.specs.Counting.{IsTakenToken};
+ghost use Rattle.pv_reach.specs.TokensTaken.{IsFreeContent};
+ghost use Rattle.pv_verdicts.specs.TokenCounts.{IsTakenToken};
 
 use pv_missing::are_productive;
 use pv_model::{NameId, Token};
@@ -107,7 +107,7 @@ fn untaken_of(judge: &Judge<'_>, id: NameId, word: &[Token]) -> Option<usize>
 }
 
 impl Counts {
-    ghost use Rattle.pv_verdicts.specs.Counting.{AreCounts};
+    ghost use Rattle.pv_verdicts.specs.TokenCounts.{AreCounts};
 
     /// The counts of a word for the content of a name.
     pub(crate) fn of(judge: &Judge<'_>, id: NameId, word: &[Token]) -> Counts

@@ -6,14 +6,14 @@ ghost use Rattle.pv_model.specs.Models.{Allows};
 ghost use Rattle.pv_model.specs.Plain.{empty};
 ghost use Rattle.pv_model.specs.PlainForms.{plain_model, plain_token};
 ghost use Rattle.pv_dtd.specs.Plain.{declared};
-ghost use Rattle.pv_rules.specs.Deriving.{DerivesAt};
+ghost use Rattle.pv_rules.specs.SiteDerivations.{DerivesAt};
 ghost use Rattle.pv_rules.specs.Sites.{content_site};
 ghost use Rattle.pv_productive.specs.PlainForms.{dtd_of};
 ghost use Rattle.pv_missing.specs.LiveWords.{AreProductiveTokens};
 ghost use Rattle.pv_missing.specs.Widths.{FitsVerdict};
 ghost use Rattle.pv_missing.specs.declared.owners.Of.TheVariants.{Elem as element};
 ghost use Rattle.pv_missing.specs.WordVerdicts.{IsVerdictByWord};
-ghost use Rattle.pv_verdicts.specs.Counting.{AreCounts};
+ghost use Rattle.pv_verdicts.specs.TokenCounts.{AreCounts};
 ghost use Rattle.pv_verdicts.specs.Owners.{IsOpenContent};
 
 use crate::counts::Counts;

@@ -36,7 +36,7 @@ impl LastWord {
     ghost use Rattle.pv_model.specs.PlainForms.{plain_token};
     ghost use Rattle.pv_productive.specs.PlainForms.{dtd_of};
     ghost use Rattle.pv_reach.specs.declared.errors.ReachError.TheVariants.{TooWide as too_wide};
-    ghost use Rattle.pv_verdicts.specs.Last.{IsLast};
+    ghost use Rattle.pv_verdicts.specs.LastJudgedWord.{IsLast};
 
     /// What is kept of a list's word.
     pub fn of(judge: &Judge<'_>, owner: Option<Of>, word: &[Token]) -> Result<LastWord, NoMemory>

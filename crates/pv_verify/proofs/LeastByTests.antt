@@ -12,10 +12,10 @@ use Rattle.pv_tree.specs.Lists.{Listed, lists_of}
 use Rattle.pv_tree.specs.PathOrder.{IsPathBefore}
 use Rattle.pv_tree.specs.View.{view}
 use Rattle.pv_tree.specs.Words.{word_of}
-use Rattle.pv_missing.specs.Completing.{Completes, HasCompletion}
+use Rattle.pv_missing.specs.Completions.{Completes, HasCompletion}
 use Rattle.pv_missing.specs.DocumentLaws.{SomeBounds, TagsExtend}
 use Rattle.pv_missing.specs.ListLaws.{ClosedIsBound}
-use Rattle.pv_missing.specs.Weighing.{AscendBounds, BoundAt, IsBound, IsBoundAt, sum_of_bounds}
+use Rattle.pv_missing.specs.ListWeights.{AscendBounds, BoundAt, IsBound, IsBoundAt, sum_of_bounds}
 use Rattle.pv_tables.specs.TableLaws.{OneListAtPath}
 use Rattle.pv_tables.specs.Values.{HasWholeValue, HaveTotal, listed_value}
 use Rattle.pv_tables.specs.declared.tables.Table.{Table}

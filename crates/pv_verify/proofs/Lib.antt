@@ -1,7 +1,7 @@
 -- of this crate:
 pub mod LeastByTests
-pub mod InOrder
+pub mod EarlierTests
 pub mod MadePack
-pub mod NoText
+pub mod RefusedBodies
 pub mod OneAnswer
 pub mod Refusals

@@ -6,7 +6,7 @@ use Rattle.pv_tree.specs.Plain.{PlainDoc}
 use Rattle.pv_tree.specs.declared.nodes.Mark.{Mark}
 use Rattle.pv_read.specs.DocumentLaws.{DocumentsMeanOne}
 use Rattle.pv_read.specs.Meaning.{is_document}
-use Rattle.pv_flat.specs.Coming.{flat_limits}
+use Rattle.pv_flat.specs.ComingEvents.{flat_limits}
 use Rattle.pv_compare.specs.Kept.{IsBodyText}
 use Rattle.pv_cert.specs.declared.packs.Pack.{Pack}
 use Rattle.pv_verify.specs.Laws.{OneAnswer}

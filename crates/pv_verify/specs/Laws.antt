@@ -8,7 +8,7 @@ use Rattle.pv_tree.specs.View.{view}
 use Rattle.pv_tree.specs.declared.nodes.Mark.{Mark}
 use Rattle.pv_tree.specs.declared.nodes.Verdict.{Verdict}
 use Rattle.pv_rules.specs.Derivations.{heaviest}
-use Rattle.pv_missing.specs.Completing.{Completes, IsLeast}
+use Rattle.pv_missing.specs.Completions.{Completes, IsLeast}
 use Rattle.pv_missing.specs.Proper.{IsProperDoc}
 use Rattle.pv_missing.specs.Verdicts.{AreVerdicts}
 use Rattle.pv_tables.specs.Tables.{AreTables}

@@ -1,4 +1,4 @@
 pub mod Tests
 pub mod Laws
 pub mod Answers
-pub mod Reading
+pub mod ReadBodies

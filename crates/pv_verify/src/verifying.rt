@@ -10,7 +10,7 @@ ghost use Rattle.pv_tree.specs.declared.nodes.Mark.{Mark};
 ghost use Rattle.pv_compare.specs.Kept.{IsBodyText};
 ghost use Rattle.pv_verify.specs.Answers.{IsAnswer, RefusesRead};
 ghost use Rattle.pv_verify.specs.Tests.{PassesAllTests, IsRejected};
-ghost use Rattle.pv_verify.specs.Reading.{IsMeant, IsReadBeside, IsSomeBodyText};
+ghost use Rattle.pv_verify.specs.ReadBodies.{IsMeant, IsReadBeside, IsSomeBodyText};
 
 use crate::answers::{Answer, Why};
 use crate::errors::VerifyError;

@@ -111,9 +111,6 @@ past-number-line word most bytes digits rest m test small line is past n behind 
     let equal : m ≡ n = cc in
     omega (arith, l.within, equal)
 
-pub number-line : (word : List ℕ) (most : ℕ) (bytes digits rest : List ℕ) (m : ℕ) → IsLineOf word bytes digits rest → digits ≡ decimal m → m ≤ most → IsNumberLine word most bytes m rest
-number-line word most bytes digits rest m line is small = record { within = small; whole = line.whole ∙ ap (λ l. with_feed (word ++ l) ++ rest) is }
-
 pub shorter : (word bytes args rest : List ℕ) → IsLineOf word bytes args rest → length rest < length bytes
 shorter word bytes args rest l =
     let e = ap length (l.whole ∙ feed-behind (word ++ args) rest) in

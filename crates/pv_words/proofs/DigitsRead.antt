@@ -204,14 +204,6 @@ one-behind bytes n m x y a other =
 stop-behind : (stop : ℕ) → (IsAsciiDigit stop → ⊥) → (bytes : List ℕ) (n : ℕ) (rest : List ℕ) → IsNumberThen stop bytes n rest → IsNumberAt bytes n (stop ∷ rest)
 stop-behind stop other bytes n rest b = record { within = b.within; whole = b.whole; ended = other }
 
-pub number-then : (stop : ℕ) (bytes : List ℕ) (n : ℕ) (behind rest : List ℕ) → IsNumberAt bytes n behind → behind ≡ stop ∷ rest → IsNumberThen stop bytes n rest
-number-then stop bytes n behind rest a is = record { within = a.within; whole = a.whole ∙ ap (λ l. decimal n ++ l) is }
-
-pub no-number-then : (stop : ℕ) → (IsAsciiDigit stop → ⊥) → (bytes : List ℕ) →
-    ((n : ℕ) (behind : List ℕ) → IsNumberAt bytes n behind → ⊥) → (n : ℕ) (rest : List ℕ) →
-    IsNumberThen stop bytes n rest → ⊥
-no-number-then stop other bytes none n rest b = none n (stop ∷ rest) (stop-behind stop other bytes n rest b)
-
 pub no-stop-behind : (stop : ℕ) → (IsAsciiDigit stop → ⊥) → (bytes : List ℕ) (n : ℕ) (behind : List ℕ) → IsNumberAt bytes n behind → ((rest : List ℕ) → behind ≡ stop ∷ rest → ⊥) →
     (m : ℕ) (rest : List ℕ) → IsNumberThen stop bytes m rest → ⊥
 no-stop-behind stop other bytes n behind a none m rest b = none rest (one-behind bytes n m behind (stop ∷ rest) a (stop-behind stop other bytes m rest b))

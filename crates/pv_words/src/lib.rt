@@ -4,7 +4,8 @@
 //! (`specs/Paths.antt`), and a line words with blanks between (`specs/Words.antt`). Each is written
 //! at the end of a text, and read from the front of some bytes (`specs/Fronts.antt`). What the
 //! lines of some bytes are is `specs/Lines.antt`. Scripts, packs, denials, ranges and what a
-//! program prints are written with these.
+//! program prints are written with these. A call that appends fails for want of memory alone, and
+//! may have appended a part of what it was to.
 #![tactic(auto)]
 
 pub mod laws;

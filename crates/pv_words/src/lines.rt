@@ -52,7 +52,7 @@ pub fn number_line_at<'a>(word: &[u8], most: u32, bytes: &'a [u8]) -> Option<(u3
     Some((number, rest))
 }
 
-/// Appends a line of a word and a number.
+/// Appends a line of a word and a number, as `total 3`, with its LF.
 pub fn push_number_line(text: &mut Vec<u8>, word: &[u8], number: u64) -> Result<(), AllocError>
     ensures { OnOk result (text.new.items ≡
         text.old.items ++ with_feed (words (word.now ∷ decimal number ∷ []))) }

@@ -9,7 +9,7 @@ ghost use Rattle.pv_words.specs.Numbers.{IsNumberThen, MAX_NUMBER, number_spelle
 use itoa::Buffer;
 use std::alloc::AllocError;
 
-/// Appends a number in decimal digits.
+/// Appends a number in decimal digits, without leading zeros.
 pub fn push_number(text: &mut Vec<u8>, number: u64) -> Result<(), AllocError>
     ensures { OnOk result (text.new.items ≡ text.old.items ++ decimal number) }
 {
@@ -26,7 +26,7 @@ pub fn push_next_number(text: &mut Vec<u8>, number: u64) -> Result<(), AllocErro
     push_number(text, number)
 }
 
-/// Appends numbers, each after a blank.
+/// Appends numbers, each after a blank, as ` 1 20`.
 pub fn push_numbers(text: &mut Vec<u8>, numbers: &[u32]) -> Result<(), AllocError>
     ensures { OnOk result (text.new.items ≡ text.old.items ++ numbers_text numbers.now) }
 {
@@ -123,7 +123,8 @@ fn number_then(stop: u8, bytes: &[u8]) -> Option<(u32, &[u8])>
     Some((number, rest))
 }
 
-/// The number before the first blank, and what stands after the blank.
+/// The number before the first blank, at most 4294967295 and without leading zeros, and what stands
+/// after the blank.
 pub fn next_number(bytes: &[u8]) -> Option<(u32, &[u8])>
     ensures { MatchOption result
         ((n : ℕ) (rest : List ℕ) → IsNumberBefore bytes.now n rest → ⊥)
@@ -132,7 +133,8 @@ pub fn next_number(bytes: &[u8]) -> Option<(u32, &[u8])>
     number_then(b' ', bytes)
 }
 
-/// The number before the first LF, and what stands after the LF.
+/// The number before the first LF, at most 4294967295 and without leading zeros, and what stands
+/// after the LF.
 pub fn last_number(bytes: &[u8]) -> Option<(u32, &[u8])>
     ensures { MatchOption result
         ((n : ℕ) (rest : List ℕ) → IsNumberThen 10 bytes.now n rest → ⊥)
@@ -141,7 +143,7 @@ pub fn last_number(bytes: &[u8]) -> Option<(u32, &[u8])>
     number_then(b'\n', bytes)
 }
 
-/// The number that a word is: its decimal digits, at most 4294967295.
+/// The number that a word is: its decimal digits, at most 4294967295 and without leading zeros.
 pub fn written_number(word: &[u8]) -> Option<u32>
     ensures { number_spelled word.now ≡ result }
 {

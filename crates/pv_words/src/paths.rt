@@ -1,4 +1,4 @@
-//! Paths as text.
+//! Paths as words, written and read.
 
 ghost use Rattle.std.specs.Prelude.{◌≡◌, ◌++◌, IfOk, OnOk};
 ghost use Rattle.pv_words.specs.Paths.{path_spelled, path_text, places_text};
@@ -20,7 +20,7 @@ fn push_places(text: &mut Vec<u8>, places: &[u32]) -> Result<(), AllocError>
     Ok(())
 }
 
-/// Appends a path.
+/// Appends a path: its places with dots between, as `0.2.1`, and `.` for the document node.
 pub fn push_path(text: &mut Vec<u8>, places: &[u32]) -> Result<(), AllocError>
     ensures { OnOk result (text.new.items ≡ text.old.items ++ path_text places.now) }
 {
@@ -36,7 +36,8 @@ pub fn push_path(text: &mut Vec<u8>, places: &[u32]) -> Result<(), AllocError>
     }
 }
 
-/// The path that a word is: `.`, or the numbers of its places with dots between.
+/// The path that a word is: `.`, or the numbers of its places with dots between, or `None` where it
+/// is no path.
 pub fn written_path(alloc: Global, word: &[u8]) -> Result<Option<Path>, NoMemory>
     ensures { IfOk result (λ path. path_spelled word.now ≡ path) }
 {

@@ -1,4 +1,4 @@
-//! Words with blanks between.
+//! Words with blanks between, written and read.
 
 ghost use Rattle.std.specs.Prelude.{◌≡◌, ◌++◌, Some, None, MatchOption, OnOk, codes};
 ghost use Rattle.pv_words.specs.Words.{first_word};

@@ -9,7 +9,7 @@ use Rattle.pv_tree.specs.Plain.{short, tagged, Tree, element, text_node, cdata_n
 use Rattle.pv_tree.specs.Legal.{has_names, have_names, fits_kids, is_formed, are_formed, IsLegal, AreLegal, front_units, is_open, has_no_close_mark, have_no_close_mark, starts_no_close_mark}
 use Rattle.pv_tree.specs.Units.{HasUnits, HaveUnits}
 use Rattle.pv_tree.specs.Prolog.{IsProlog, IsEpilog}
-use Rattle.pv_tree.proofs.Decidable.{had}
+use Rattle.pv_tree.proofs.Decisions.{had}
 use Rattle.pv_tree.proofs.DecidedForms.{epilog, legal}
 use Rattle.pv_dtd.specs.Hedge.{done}
 use Rattle.pv_read.specs.Grammar.{SpellsNode, SpellsContent, IsElement}

@@ -1,3 +1,8 @@
 pub mod Text
 pub mod Writes
 pub mod Laws
+pub mod Events
+pub mod Pieces
+pub mod PieceForms
+pub mod TaggedTexts
+pub mod WritingForms

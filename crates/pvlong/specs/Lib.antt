@@ -1,4 +1,5 @@
-pub mod Answering
+pub mod RequestAnswers
 pub mod Exits
 pub mod Requests
-pub mod Telling
+pub mod Possibility
+pub mod ToldNumbers

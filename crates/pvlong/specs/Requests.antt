@@ -4,7 +4,7 @@ use Rattle.std.specs.Prelude.{option_map}
 use Rattle.std.specs.Str.{bytes_eq}
 use Rattle.pv_chars.specs.Names.{is_name}
 use Rattle.pvlong.specs.declared.requests.Question.{Question}
-use Rattle.pvlong.specs.declared.requests.Question.TheVariants.{Complete, Need}
+use Rattle.pvlong.specs.declared.requests.Question.TheVariants.{Check, Complete, Need}
 use Rattle.pvlong.specs.declared.requests.Request.{Request}
 
 -- a question of a document: its word is followed by DTD, ROOT and DOC
@@ -14,7 +14,8 @@ pub data PlainRequest : Type 0 where
 -- the question that a word is
 abbrev pub question_of : List ℕ → Option Question
 question_of word =
-    if bytes_eq word (codes "need") then Some Need
+    if bytes_eq word (codes "check") then Some Check
+    else if bytes_eq word (codes "need") then Some Need
     else if bytes_eq word (codes "complete") then Some Complete
     else None
 

@@ -1,27 +1,76 @@
-//! Answers a request: opens its files, and tells what is missing in the document.
+//! Answers a request: opens its files, and tells what is asked of the document.
 
-ghost use Rattle.std.specs.Prelude.{Contains, Some, ◌≡◌};
+ghost use Rattle.std.specs.Prelude.{Contains, Some, false, ◌≡◌};
 ghost use Rattle.pv_dtd.specs.PlainForms.{plain_dtd};
 ghost use Rattle.pv_tree.specs.Marks.{blank_mark};
 ghost use Rattle.pv_tree.specs.PlainDocs.{plain_doc};
+ghost use Rattle.pv_productive.specs.PlainForms.{dtd_of};
 ghost use Rattle.pv_read.specs.Meaning.{DocumentMeans, is_document};
 ghost use Rattle.pv_opening.specs.Returns.{TakesCourse, TellsBy, plain_fetched};
-ghost use Rattle.pvlong.specs.Answering.{FindsAnswer, AnswersFetched};
+ghost use Rattle.pvlong.specs.RequestAnswers.{FindsAnswer, AnswersFetched};
 ghost use Rattle.pvlong.specs.Requests.{plain_request};
-ghost use Rattle.pvlong.specs.Telling.{TellsFor, not_least_in, response_in};
+ghost use Rattle.pvlong.specs.ToldNumbers.{TellsDocument, TellsFor, TellsNumber, not_least_in};
+ghost use Rattle.pvlong.specs.ToldNumbers.{response_in};
 
+use crate::possibility::check;
 use crate::requests::{Question, Request};
-use crate::telling::{Told, refuse_missing, response_to};
+use crate::telling::{Told, document_of, number_line, refuse_missing};
 use pv_dtd::Dtd;
 use pv_io::Shelf;
 use pv_long::missing;
-use pv_opening::{Fetched, Opened, Stop, fetch_files, open_document};
-use pv_productive::build;
+use pv_opening::{Fetched, Opened, Response, Stop, fetch_files, open_document};
+use pv_productive::{Grammar, build};
 use pv_tree::Doc;
 use std::alloc::Global;
 use std::mem::forget;
 
-// Tells what is missing in a document, which these bytes are.
+// How many elements are missing in a document, which these bytes are.
+fn tell_number(
+    alloc: Global,
+    grammar: &Grammar,
+    root: &[u8],
+    doc: &Doc,
+    bytes: &[u8],
+) -> Result<Response, Stop>
+    requires { DocumentMeans blank_mark root.now bytes.now (is_document (plain_doc doc.now)) }
+    ensures { TellsBy (TellsNumber root.now (dtd_of grammar.now) (plain_doc doc.now)) result }
+{
+    match missing(alloc, grammar, root, doc, bytes) {
+        Ok(found) => Ok(number_line(alloc, &found)?),
+        Err(error) => Err(refuse_missing(alloc, error)),
+    }
+}
+
+// A completion of a document, which these bytes are.
+fn tell_document(
+    alloc: Global,
+    grammar: &Grammar,
+    root: &[u8],
+    doc: &Doc,
+    bytes: &[u8],
+) -> Result<Told, Stop>
+    requires { DocumentMeans blank_mark root.now bytes.now (is_document (plain_doc doc.now)) }
+    ensures { TellsBy (TellsDocument root.now (dtd_of grammar.now) (plain_doc doc.now) bytes.now
+        (not_least_in result)) (response_in result) }
+{
+    match missing(alloc, grammar, root, doc, bytes) {
+        Ok(found) => Ok(document_of(found)),
+        Err(error) => Err(refuse_missing(alloc, error)),
+    }
+}
+
+// A response that is no document.
+fn told_of(response: Result<Response, Stop>) -> Result<Told, Stop>
+    ensures response { response_in result ≡ response }
+    ensures least { not_least_in result ≡ false }
+{
+    match response {
+        Ok(response) => Ok(Told::of(response)),
+        Err(stop) => Err(stop),
+    }
+}
+
+// What a question about a document is answered, which these bytes are.
 fn tell(
     alloc: Global,
     question: Question,
@@ -35,13 +84,14 @@ fn tell(
         (not_least_in result)) (response_in result) }
 {
     let grammar = build(alloc, dtd)?;
-    match missing(alloc, &grammar, root, doc, bytes) {
-        Ok(found) => Ok(response_to(alloc, question, found)?),
-        Err(error) => Err(refuse_missing(alloc, error)),
+    match question {
+        Question::Check => told_of(check(alloc, &grammar, root, bytes)),
+        Question::Need => told_of(tell_number(alloc, &grammar, root, doc, bytes)),
+        Question::Complete => tell_document(alloc, &grammar, root, doc, bytes),
     }
 }
 
-// Reads the document, and tells what is missing in it. It is never freed.
+// Reads the document, and tells what is asked of it. It is never freed.
 fn answer_fetched(
     alloc: Global,
     question: Question,

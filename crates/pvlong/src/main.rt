@@ -1,13 +1,14 @@
 //! The program over the machine's files and its output: `run` ends with the exit status of what
 //! `pvlong` answers, whatever the devices are. It tells how many elements are missing in a
 //! document, also where a list is too wide to weigh, and prints a completed document
-//! (`specs/Telling.antt`): by two bounds, which mostly meet (of `pv_long`). By its words it opens
-//! the files in the order of work (of `pv_opening`); `specs/Answering.antt` says what comes of
-//! them, and `specs/Exits.antt` with which status it ends.
+//! (`specs/ToldNumbers.antt`): by two bounds, which mostly meet (of `pv_long`). By its words it
+//! opens the files in the order of work (of `pv_opening`); `specs/RequestAnswers.antt` says what
+//! comes of them, and `specs/Exits.antt` with which status it ends.
 #![tactic(auto)]
 
 mod answering;
 mod exits;
+mod possibility;
 mod program;
 mod requests;
 mod telling;
@@ -16,7 +17,7 @@ ghost use Rattle.std.specs.Prelude.{◌≡◌, true};
 ghost use Rattle.std.specs.Process.{exit_status};
 ghost use Rattle.pv_io.specs.Files.{byte_lists, fetch_names};
 ghost use Rattle.pv_opening.specs.Devices.{output_at};
-ghost use Rattle.pvlong.specs.Answering.{AnswersHere, AnswersWords};
+ghost use Rattle.pvlong.specs.RequestAnswers.{AnswersHere, AnswersWords};
 ghost use Rattle.pvlong.specs.Exits.{exit_code};
 
 use crate::exits::Exit;

@@ -6,9 +6,9 @@ ghost use Rattle.pv_opening.specs.Devices.{output_at};
 ghost use Rattle.pv_opening.specs.Response.{with_line};
 ghost use Rattle.pv_opening.specs.Returns.{TellsBy};
 ghost use Rattle.pv_opening.specs.declared.status.Status.TheVariants.{Usage};
-ghost use Rattle.pvlong.specs.Answering.{AnswersWords, EndsWith};
+ghost use Rattle.pvlong.specs.RequestAnswers.{AnswersWords, EndsWith};
 ghost use Rattle.pvlong.specs.Requests.{files_asked, request_of};
-ghost use Rattle.pvlong.specs.Telling.{response_in};
+ghost use Rattle.pvlong.specs.ToldNumbers.{response_in};
 
 use crate::answering::answer;
 use crate::exits::Exit;

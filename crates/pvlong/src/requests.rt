@@ -12,6 +12,8 @@ use pv_opening::Named;
 /// What is asked of a document.
 #[derive(Clone, Copy, Debug, PartialEq, Eq)]
 pub enum Question {
+    /// Whether inserting elements can make it valid.
+    Check,
     /// How many elements are missing in it.
     Need,
     /// A document that is this one with elements inserted, and valid.
@@ -29,7 +31,9 @@ pub struct Request<'a> {
 pub fn question_of(word: &str) -> Option<Question>
     ensures { result ≡ question_of word.now }
 {
-    if word == "need" {
+    if word == "check" {
+        Some(Question::Check)
+    } else if word == "need" {
         Some(Question::Need)
     } else if word == "complete" {
         Some(Question::Complete)

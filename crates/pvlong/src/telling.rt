@@ -4,14 +4,13 @@ ghost use Rattle.std.specs.Prelude.{IfOk, List, ℕ, ◌≡◌, false};
 ghost use Rattle.pv_dtd.specs.Plain.{PlainDtd};
 ghost use Rattle.pv_tree.specs.Plain.{PlainDoc};
 ghost use Rattle.pv_tree.specs.declared.nodes.Mark.{Mark};
-ghost use Rattle.pv_long.specs.Told.{IsMissing, TellsNone};
+ghost use Rattle.pv_long.specs.BoundAnswers.{IsMissing, TellsNone};
 ghost use Rattle.pv_opening.specs.Response.{plain_response, with_line};
 ghost use Rattle.pv_opening.specs.Returns.{RefusesWith};
 ghost use Rattle.pv_opening.specs.declared.status.Status.TheVariants.{Done};
-ghost use Rattle.pvlong.specs.Telling.{TellsDocument, TellsFor, TellsNothing, TellsNumber};
-ghost use Rattle.pvlong.specs.Telling.{bounds_text};
+ghost use Rattle.pvlong.specs.ToldNumbers.{TellsDocument, TellsNothing, TellsNumber};
+ghost use Rattle.pvlong.specs.ToldNumbers.{bounds_text};
 
-use crate::requests::Question;
 use pv_long::{Completion, LongError, Missing};
 use pv_opening::{Response, Status, Stop, refuse, refuse_path};
 use pv_words::push_number;
@@ -61,8 +60,8 @@ fn bounds_line(alloc: Global, least: u32, most: u32) -> Result<Response, AllocEr
     Response::with_line(alloc, Status::Done, &line)
 }
 
-// The line of what is told.
-fn number_line(alloc: Global, missing: &Missing) -> Result<Response, AllocError>
+/// The line of what is told.
+pub fn number_line(alloc: Global, missing: &Missing) -> Result<Response, AllocError>
     ensures { (root bytes : List ℕ) (g : PlainDtd) (doc : PlainDoc Mark) →
         IsMissing g root doc bytes missing.now →
         IfOk result (λ r. TellsNumber root g doc (plain_response r)) }
@@ -75,8 +74,8 @@ fn number_line(alloc: Global, missing: &Missing) -> Result<Response, AllocError>
     }
 }
 
-// The completed document.
-fn document_of(missing: Missing) -> Told
+/// The completed document.
+pub fn document_of(missing: Missing) -> Told
     ensures { (root bytes : List ℕ) (g : PlainDtd) (doc : PlainDoc Mark) →
         IsMissing g root doc bytes missing →
         TellsDocument root g doc bytes result.not_least (plain_response result.response) }
@@ -84,19 +83,6 @@ fn document_of(missing: Missing) -> Told
     match missing {
         Missing::Exactly(Completion { body, .. }) => Told::document(body, false),
         Missing::Between(_, Completion { body, .. }) => Told::document(body, true),
-    }
-}
-
-/// What a question is answered by what is told.
-pub fn response_to(alloc: Global, question: Question, missing: Missing) -> Result<Told, AllocError>
-    ensures { (root bytes : List ℕ) (g : PlainDtd) (doc : PlainDoc Mark) →
-        IsMissing g root doc bytes missing →
-        IfOk result (λ t. TellsFor question root g doc bytes t.not_least
-        (plain_response t.response)) }
-{
-    match question {
-        Question::Need => Ok(Told::of(number_line(alloc, &missing)?)),
-        Question::Complete => Ok(document_of(missing)),
     }
 }
 

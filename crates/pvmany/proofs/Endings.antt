@@ -3,7 +3,7 @@ use Rattle.std.proofs.Common.{ℕ, List, Option, Some, None, refl}
 use Rattle.pv_many.specs.Many.{AnswersAsked}
 use Rattle.pv_many.specs.Requests.{ManyRequest}
 use Rattle.pv_opening.specs.Devices.{InputNow, OutputNow, ShelfNow}
-use Rattle.pv_opening.specs.Showing.{TakesInput}
+use Rattle.pv_opening.specs.ShownCourses.{TakesInput}
 use Rattle.pv_opening.specs.declared.status.Status.{Status}
 use Rattle.pvmany.specs.Here.{input_told}
 

@@ -3,7 +3,7 @@ use Rattle.std.proofs.Common.{ℕ, List, Option, Some, None, refl}
 use Rattle.pv_cli.specs.CommandLine.{PlainCommandLine}
 use Rattle.pv_opening.specs.Devices.{Devices, InputNow}
 use Rattle.pv_cli.specs.Program.{Runs}
-use Rattle.pv_opening.specs.Showing.{TakesInput}
+use Rattle.pv_opening.specs.ShownCourses.{TakesInput}
 use Rattle.pv_opening.specs.declared.status.Status.{Status}
 use Rattle.pvtag.specs.Here.{all_told_of, told_of}
 

@@ -1,1 +1,1 @@
-mod Before
+mod EarlierWords

@@ -2,13 +2,13 @@
 
 ghost use Rattle.std.specs.Prelude.{◌≡◌, ◌≤◌, ◌<◌, ◌+◌, ◌*◌, ◌++◌, ◌%◌, IfOk};
 ghost use Rattle.std.specs.Prelude.{OnOk, decimal, length};
-ghost use Rattle.pv_cli.specs.Checking.{CountsDrill, judging_drill_stage};
+ghost use Rattle.pv_cli.specs.RunCounts.{CountsDrill, judging_drill_stage};
 ghost use Rattle.pv_cli.specs.CommandLine.{IsDrillSize};
 ghost use Rattle.pv_cli.specs.Drill.{CountsLine, CountsReplies, IsCountOf};
 ghost use Rattle.pv_cli.specs.Drill.{IsDrillCourse, TellsCounts, counts_text, counts_with};
 ghost use Rattle.pv_cli.specs.Drill.{drill_stage, no_counts};
 ghost use Rattle.pv_opening.specs.Response.{plain_response, with_line};
-ghost use Rattle.pv_opening.specs.Judging.{CountsOpening, lists_judged};
+ghost use Rattle.pv_opening.specs.JudgedCounts.{CountsOpening, lists_judged};
 ghost use Rattle.pv_opening.specs.Returns.{TakesCourse, Returns, TellsBy, ending_of};
 ghost use Rattle.pv_opening.specs.declared.status.Status.TheVariants.{Done as AllDone};
 ghost use Rattle.pv_drill.specs.Drill.{drill_lines, section_line, section_lines};

@@ -3,7 +3,7 @@
 ghost use Rattle.std.specs.Prelude.{◌≡◌, true};
 ghost use Rattle.pv_opening.specs.Devices.{input_at, output_at};
 ghost use Rattle.pv_cli.specs.Returns.{DoesRest, session_stage};
-ghost use Rattle.pv_opening.specs.Judging.{CountsOpening, judging_stage, lists_judged};
+ghost use Rattle.pv_opening.specs.JudgedCounts.{CountsOpening, judging_stage, lists_judged};
 ghost use Rattle.pv_opening.specs.Returns.{Returns, plain_fetched};
 ghost use Rattle.pv_cli.specs.declared.verb.Verb.TheVariants.{Session as session_verb};
 

@@ -4,7 +4,7 @@ ghost use Rattle.std.specs.Prelude.{IfErr, IfOk};
 ghost use Rattle.pv_productive.specs.PlainForms.{dtd_of};
 ghost use Rattle.pv_tree.specs.PlainDocs.{plain_doc};
 ghost use Rattle.pv_complete.specs.KnownWeights.{AreKnown};
-ghost use Rattle.pv_complete.specs.Needing.{AreLiveVerdicts, Needs};
+ghost use Rattle.pv_complete.specs.NeededElements.{AreLiveVerdicts, Needs};
 ghost use Rattle.pv_complete.specs.Tables.{HasTables, HasTablesCause};
 
 use crate::errors::NeedError;

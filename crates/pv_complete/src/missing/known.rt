@@ -2,12 +2,12 @@
 
 ghost use Rattle.std.specs.Prelude.{◌≡◌, IsTrue};
 
-use crate::words::pieces::Piece;
 use pv_chars::List;
 use pv_missing::Of;
 use pv_model::Token;
 use pv_span::{Entries, Entry};
 use pv_tree::Tokens;
+use pv_write::Piece;
 use std::alloc::Global;
 
 /// How many slots there are, a power of two.
@@ -179,13 +179,13 @@ impl KnownWeights {
     ghost use Rattle.pv_dtd.specs.Plain.{PlainDtd};
     ghost use Rattle.pv_model.specs.PlainForms.{plain_token};
     ghost use Rattle.pv_missing.specs.PlainForms.{plain_of};
-    ghost use Rattle.pv_missing.specs.Weighing.{whole};
+    ghost use Rattle.pv_missing.specs.ListWeights.{whole};
     ghost use Rattle.pv_missing.specs.Widths.{FitsWeights};
     ghost use Rattle.pv_rules.specs.Derivations.{IsWeight};
     ghost use Rattle.pv_rules.specs.Rules.{Rule};
     ghost use Rattle.pv_tables.specs.Tables.{AreAllEntries};
     ghost use Rattle.pv_complete.specs.KnownWeights.{AreKnown, IsWeighedWord, IsWordWeight};
-    ghost use Rattle.pv_complete.specs.PieceForms.{plain_pieces};
+    ghost use Rattle.pv_write.specs.PieceForms.{plain_pieces};
     ghost use Rattle.pv_complete.specs.Pieces.{WritesAt};
 
     /// No weight is known. Of what is kept beside weights there may be so much.

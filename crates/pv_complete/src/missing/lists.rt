@@ -11,7 +11,7 @@ ghost use Rattle.pv_tree.specs.PlainForms.{forest};
 ghost use Rattle.pv_tree.specs.Words.{word_of};
 ghost use Rattle.pv_missing.specs.LiveWords.{AreProductiveTokens, IsLiveWord};
 ghost use Rattle.pv_missing.specs.PlainForms.{plain_of};
-ghost use Rattle.pv_missing.specs.Weighing.{whole};
+ghost use Rattle.pv_missing.specs.ListWeights.{whole};
 ghost use Rattle.pv_missing.specs.Widths.{FitsWeights};
 ghost use Rattle.pv_span.specs.Weights.{AreWeights, weight_of};
 ghost use Rattle.pv_span.specs.declared.errors.SpanError.TheVariants.{TooWide as too_wide};
@@ -20,13 +20,13 @@ ghost use Rattle.pv_complete.specs.KnownWeights.{AreKnown, AreKnownEntries, AreK
 use crate::listings::entries::entries_of;
 use crate::missing::known::KnownWeights;
 use crate::words::completing::{spell, weight_by};
-use crate::words::pieces::Piece;
 use pv_chars::{List, NoMemory};
 use pv_missing::live_word;
 use pv_model::Token;
 use pv_rules::HEAVIEST;
 use pv_span::{Entries, ListOwner, SpanError, Spans, weights_by};
 use pv_tree::{Node, Tokens};
+use pv_write::Piece;
 use std::alloc::Global;
 
 /// What a word weighs, and where they are wanted the pieces of a completion, and the entries of its

@@ -4,7 +4,7 @@ ghost use Rattle.std.specs.Prelude.{◌≡◌, ◌<◌, IfErr, IfOk};
 ghost use Rattle.pv_productive.specs.PlainForms.{dtd_of};
 ghost use Rattle.pv_tree.specs.PlainDocs.{plain_doc};
 ghost use Rattle.pv_complete.specs.KnownWeights.{AreKnown};
-ghost use Rattle.pv_complete.specs.Needing.{AreLiveVerdicts, HasCause, Needs, WeighsIn};
+ghost use Rattle.pv_complete.specs.NeededElements.{AreLiveVerdicts, HasCause, Needs, WeighsIn};
 
 use crate::errors::NeedError;
 use crate::missing::known::KnownWeights;

@@ -3,8 +3,8 @@
 ghost use Rattle.std.specs.Prelude.{IfErr, IfOk};
 ghost use Rattle.pv_productive.specs.PlainForms.{dtd_of};
 ghost use Rattle.pv_tree.specs.PlainDocs.{plain_doc};
-ghost use Rattle.pv_complete.specs.Needing.{AreLiveVerdicts, HasCause, Needs};
-ghost use Rattle.pv_complete.specs.Remembering.{Remembers};
+ghost use Rattle.pv_complete.specs.NeededElements.{AreLiveVerdicts, HasCause, Needs};
+ghost use Rattle.pv_complete.specs.RememberedGrammar.{Remembers};
 
 use crate::errors::NeedError;
 use crate::missing::known::KnownWeights;
@@ -28,7 +28,7 @@ impl Remembered {
     ghost use Rattle.std.specs.Prelude.{◌≡◌, IfOk};
     ghost use Rattle.pv_dtd.specs.Plain.{PlainDtd};
     ghost use Rattle.pv_productive.specs.PlainForms.{dtd_of};
-    ghost use Rattle.pv_complete.specs.Remembering.{Remembers};
+    ghost use Rattle.pv_complete.specs.RememberedGrammar.{Remembers};
 
     /// Nothing so far.
     pub fn nothing(alloc: Global) -> Remembered

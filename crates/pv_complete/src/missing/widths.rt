@@ -12,7 +12,7 @@ ghost use Rattle.pv_tree.specs.Words.{word_of};
 ghost use Rattle.pv_tree.specs.declared.nodes.Mark.{Mark};
 ghost use Rattle.pv_missing.specs.Verdicts.{AreVerdicts};
 ghost use Rattle.pv_missing.specs.Widths.{FitsWeights};
-ghost use Rattle.pv_complete.specs.Needing.{CanWeigh};
+ghost use Rattle.pv_complete.specs.NeededElements.{CanWeigh};
 ghost use Rattle.pv_complete.specs.WideLists.{HaveVerdictsFrom};
 
 use crate::missing::load::next_is_possible;

@@ -7,14 +7,13 @@ ghost use Rattle.pv_rules.specs.Rules.{Rule};
 ghost use Rattle.pv_productive.specs.PlainForms.{dtd_of};
 ghost use Rattle.pv_missing.specs.LiveWords.{AreProductiveTokens};
 ghost use Rattle.pv_missing.specs.PlainForms.{plain_of};
-ghost use Rattle.pv_missing.specs.Weighing.{whole};
+ghost use Rattle.pv_missing.specs.ListWeights.{whole};
 ghost use Rattle.pv_missing.specs.Widths.{FitsWeights};
 ghost use Rattle.pv_span.specs.Weights.{AreWeights, weight_of};
 ghost use Rattle.pv_span.specs.declared.errors.SpanError.TheVariants.{TooWide as too_wide};
-ghost use Rattle.pv_complete.specs.PieceForms.{plain_pieces};
+ghost use Rattle.pv_write.specs.PieceForms.{plain_pieces};
 ghost use Rattle.pv_complete.specs.Pieces.{WritesAt};
 
-use crate::words::pieces::Piece;
 use crate::words::spelling::pieces_of;
 use crate::words::spot::Spot;
 use crate::words::word_weights::WordWeights;
@@ -22,6 +21,7 @@ use pv_chars::NoMemory;
 use pv_model::Token;
 use pv_rules::HEAVIEST;
 use pv_span::{ListOwner, SpanError, Spans, weights_by};
+use pv_write::Piece;
 use std::alloc::Global;
 
 /// What a whole word weighs at its owner's site, by the weights of all sites over its spans.

@@ -1,18 +1,7 @@
-//! The pieces of a list's completion.
+//! How the pieces of a list's completion are put together.
 
 use pv_model::NameId;
 use pv_rules::Site;
-
-/// A piece of a completion of a list.
-#[derive(Clone, Copy, Debug, PartialEq, Eq)]
-pub enum Piece {
-    /// The node of the next token, with what stands before it that is no token.
-    Kept,
-    /// The start tag of a new element.
-    Start(NameId),
-    /// Its end tag.
-    End(NameId),
-}
 
 /// How the pieces of a site over a span are put together.
 #[derive(Clone, Copy, Debug, PartialEq, Eq)]

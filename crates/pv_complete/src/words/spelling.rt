@@ -9,16 +9,17 @@ ghost use Rattle.pv_rules.specs.Rules.{Goal, over};
 ghost use Rattle.pv_productive.specs.PlainForms.{dtd_of};
 ghost use Rattle.pv_span.specs.Weights.{weight_of};
 ghost use Rattle.pv_complete.specs.Moves.{IsMove};
-ghost use Rattle.pv_complete.specs.PieceForms.{plain_pieces};
+ghost use Rattle.pv_write.specs.PieceForms.{plain_pieces};
 ghost use Rattle.pv_complete.specs.Spelling.{SpellsSpan};
 ghost use Rattle.pv_complete.specs.Works.{Goes, IsNearer, CanSpell, goal_work};
 
 use crate::words::moves::move_of;
-use crate::words::pieces::{Move, Piece, Work};
+use crate::words::pieces::{Move, Work};
 use crate::words::spot::Spot;
 use crate::words::word_weights::WordWeights;
 use pv_chars::NoMemory;
 use pv_rules::Site;
+use pv_write::Piece;
 use std::alloc::Global;
 
 /// Makes a move of a site over a span: its pieces come next, and what it leads to is put on the

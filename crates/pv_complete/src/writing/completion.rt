@@ -1,19 +1,19 @@
 //! A least completion of a document.
 
-ghost use Rattle.std.specs.Prelude.{IfErr, IfOk};
+ghost use Rattle.std.specs.Prelude.{IfErr, IfOk, ◌<◌, ◌≡◌, ◌^◌};
+ghost use Rattle.std.specs.List.{All};
 ghost use Rattle.pv_productive.specs.PlainForms.{dtd_of};
 ghost use Rattle.pv_tree.specs.PlainDocs.{plain_doc};
 ghost use Rattle.pv_tree.specs.Prolog.{IsProlog};
-ghost use Rattle.pv_complete.specs.Completing.{IsLeastCompletion};
-ghost use Rattle.pv_complete.specs.Growing.{IsBounded, IsGrownText};
+ghost use Rattle.pv_complete.specs.LeastCompletions.{IsLeastCompletion};
+ghost use Rattle.pv_complete.specs.GrownTrees.{IsBounded, IsGrownText};
 ghost use Rattle.pv_complete.specs.KnownWeights.{AreKnown};
-ghost use Rattle.pv_complete.specs.Needing.{AreLiveVerdicts, HasCause, Needs};
+ghost use Rattle.pv_complete.specs.NeededElements.{AreLiveVerdicts, HasCause, Needs};
 
 use crate::errors::NeedError;
 use crate::missing::known::KnownWeights;
 use crate::missing::needing::need_under;
-use crate::writing::text::numbers_of;
-use crate::writing::walk::write_doc;
+use crate::writing::by_verdict::pieces_of_lists;
 use pv_chars::{Bytes, NoMemory, Numbers};
 use pv_dtd::laws::proper_dtd_law;
 use pv_missing::Verdicts;
@@ -24,6 +24,7 @@ use pv_productive::Grammar;
 use pv_span::{ColumnLayout, lay_out};
 use pv_tables::laws::{live_weight_law, possible_weights_law};
 use pv_tree::{Doc, Mark};
+use pv_write::doc_with_tags;
 use pv_write::laws::every_view_is_written_law;
 use std::alloc::Global;
 
@@ -38,15 +39,56 @@ pub struct Completion {
     pub body: Bytes,
 }
 
+// The numbers, which are as few as those of elements.
+fn numbers_of(alloc: Global, marks: &[u64]) -> Result<Vec<u32>, NoMemory>
+    requires { All (λ mark. mark < 2 ^ 32) marks.now }
+    ensures { IfOk result (λ numbers. numbers.items ≡ marks.now) }
+{
+    let mut numbers = Vec::with_capacity(alloc, marks.len())?;
+    for mark in marks {
+        numbers.push(*mark as u32)?;
+    }
+    Ok(numbers)
+}
+
+/// A least completion of a document under a grammar that is laid out, by the verdicts of its lists.
+fn complete_under(
+    alloc: Global,
+    layout: &ColumnLayout<'_>,
+    root: &[u8],
+    doc: &Doc,
+    verdicts: &Verdicts,
+    known: &mut KnownWeights,
+) -> Result<Completion, NeedError>
+    requires known { AreKnown (dtd_of layout.now.grammar.now) known.old }
+    requires names { IsProlog root.now (plain_doc doc.now).before }
+    requires verdicts { ∥ AreLiveVerdicts (dtd_of layout.now.grammar.now) root.now
+        (plain_doc doc.now) verdicts.now.verdicts ∥₁ }
+    ensures completed { IfOk result (λ c. AreLiveVerdicts (dtd_of layout.now.grammar.now) root.now
+        (plain_doc doc.now) verdicts.now.verdicts →
+        IsLeastCompletion (dtd_of layout.now.grammar.now) root.now (plain_doc doc.now) c.count
+        c.marks c.body) }
+    ensures written { IfOk result (λ c. AreLiveVerdicts (dtd_of layout.now.grammar.now) root.now
+        (plain_doc doc.now) verdicts.now.verdicts → IsGrownText (plain_doc doc.now) c.body) }
+    ensures bounded { IfOk result (λ c. AreLiveVerdicts (dtd_of layout.now.grammar.now) root.now
+        (plain_doc doc.now) verdicts.now.verdicts → IsBounded (plain_doc doc.now) c.count c.body) }
+    ensures refused { IfErr result (λ error. AreLiveVerdicts (dtd_of layout.now.grammar.now)
+        root.now (plain_doc doc.now) verdicts.now.verdicts →
+        HasCause (dtd_of layout.now.grammar.now) root.now (plain_doc doc.now) error) }
+{
+    let count = need_under(alloc, layout, root, doc, verdicts, known)?;
+    let completion = completion_under(alloc, layout, root, doc, verdicts, known, count)?;
+    Ok(completion)
+}
+
 /// A least completion of a document, by the verdicts of its lists, none of which is Impossible or
 /// too wide for one: the text of a valid document that is this one with as few elements as can be
 /// inserted. The document stays as it is.
 ///
 /// New elements are written as `<NAME>` and `</NAME>`, and all else as it is, but that an
 /// empty-element tag that gets content becomes a pair of tags. The body is at most twice as long as
-/// the document, and 517 bytes for each new element. The refusals are those of
-/// `need_remembering`. One walk
-/// weighs the lists, and one writes them.
+/// the document, and 517 bytes for each new element. The refusals are those of `need_remembering`.
+/// One walk weighs the lists, one finds their pieces, and one writes them.
 pub fn complete_by(
     alloc: Global,
     grammar: &Grammar,
@@ -71,9 +113,7 @@ pub fn complete_by(
 {
     let layout = lay_out(alloc, grammar)?;
     let mut known = KnownWeights::with_pieces(alloc);
-    let count = need_under(alloc, &layout, root, doc, verdicts, &mut known)?;
-    let completion = completion_under(alloc, &layout, root, doc, verdicts, &known, count)?;
-    Ok(completion)
+    complete_under(alloc, &layout, root, doc, verdicts, &mut known)
 }
 
 /// A least completion of a document that misses so many elements, under a grammar that is laid out,
@@ -112,7 +152,8 @@ pub(crate) fn completion_under(
     locality_law::<Mark>();
     proper_dtd_law(layout.grammar.dtd());
     proper_doc_law(doc);
-    let text = write_doc(alloc, layout, root, doc, verdicts, known)?;
+    let lists = pieces_of_lists(alloc, layout, root, doc, verdicts, known)?;
+    let text = doc_with_tags(alloc, layout.grammar.dtd(), &lists, doc)?;
     let marks = numbers_of(alloc, text.marks.as_slice())?;
     Ok(Completion {
         count,

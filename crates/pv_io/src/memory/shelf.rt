@@ -14,7 +14,7 @@ use pv_chars::NoMemory;
 use std::alloc::{AllocError, Global};
 use std::marker::Model;
 
-/// Files in memory.
+/// Files in memory, of which any call may be made to fail.
 #[derive(Drop)]
 pub struct MemShelf {
     names: Vec<String>,

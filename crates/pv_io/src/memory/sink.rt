@@ -13,7 +13,7 @@ use pv_chars::NoMemory;
 use std::alloc::Global;
 use std::marker::Model;
 
-/// Bytes kept in memory, up to so many.
+/// A sink that keeps at most so many bytes in memory, and of which any call may be made to fail.
 #[derive(Drop)]
 pub struct MemSink {
     bytes: Vec<u8>,

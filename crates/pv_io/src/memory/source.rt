@@ -13,7 +13,7 @@ use pv_chars::NoMemory;
 use std::alloc::Global;
 use std::marker::Model;
 
-/// Bytes in memory, given a few at a time.
+/// A source of bytes in memory, a few at a time, of which any call may be made to fail.
 #[derive(Drop)]
 pub struct MemSource {
     bytes: Vec<u8>,

@@ -7,13 +7,16 @@ use crate::making::empties::{cheapest_of, cost_at};
 use crate::making::filling::Filled;
 use crate::making::fronts::reach_to;
 use crate::making::goals::{Span, Wanted};
-use crate::pieces::Piece;
 use pv_bounds::Fronts;
 use pv_chars::NoMemory;
 use pv_layout::Form;
 use pv_model::NameId;
 use pv_rules::HEAVIEST;
+use pv_write::Piece;
 use std::alloc::Global;
+
+/// So many columns may be wanted for the pieces of a list, which are fewer bytes than a text may have.
+const MOST_WANTED: u64 = 1_099_511_627_776;
 
 /// The pieces of a list so far, and what more are wanted for, the next at the end.
 #[derive(Drop)]
@@ -172,7 +175,7 @@ fn build_span(ground: Ground<'_>, built: &mut Built, wanted: Span) -> Result<boo
     let Some(form) = ground.forms.get(wanted.column as usize) else {
         return Ok(false);
     };
-    let front = ground.fronts.at(wanted.column, wanted.from);
+    let front = ground.fronts.at(wanted.column, wanted.from).near;
     let mut span = wanted;
     if let Some(reach) = reach_to(front, wanted.to) {
         span.number = reach.via.min(wanted.number);
@@ -240,7 +243,7 @@ pub fn build(
     if tokens == 0 {
         built.want_empty(column)?;
     } else {
-        let Some(reach) = reach_to(fronts.at(column, 0), tokens) else {
+        let Some(reach) = reach_to(fronts.at(column, 0).near, tokens) else {
             return Err(MakeError::Unproved);
         };
         built.wanted.push(Wanted::Tokens(Span {
@@ -250,13 +253,13 @@ pub fn build(
             to: tokens,
         }))?;
     }
-    for _wanted in 0..usize::MAX {
+    for _wanted in 0..MOST_WANTED {
         let Some(wanted) = built.wanted.pop() else {
-            break;
+            return Ok(built.pieces);
         };
         if !build_next(ground, &mut built, wanted)? {
             return Err(MakeError::Unproved);
         }
     }
-    Ok(built.pieces)
+    Err(MakeError::TooMany)
 }

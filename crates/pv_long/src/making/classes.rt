@@ -274,6 +274,11 @@ impl Classes {
         self.of.is_empty()
     }
 
+    /// The class of each column; none where each column has its own.
+    pub fn numbers(&self) -> &[u32] {
+        self.of.as_slice()
+    }
+
     /// How many classes there are.
     pub fn count(&self) -> usize {
         self.count

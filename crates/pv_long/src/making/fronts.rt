@@ -47,17 +47,22 @@ fn cost_to(front: &[Reach], end: u32) -> u32 {
     }
 }
 
-/// How much more a front costs than another one, as far as that goes.
-pub fn more_than(front: &[Reach], other: &[Reach]) -> u32 {
+/// How much more a front costs than another one, as far as that goes, up to a limit.
+pub fn more_than(front: &[Reach], other: &[Reach], limit: u32) -> u32 {
     match other.last() {
-        Some(last) => u32::saturating_sub(cost_to(front, last.end), last.cost),
+        Some(last) => {
+            let end = last.end.min(limit);
+            u32::saturating_sub(cost_to(front, end), cost_to(other, end))
+        }
         None => 0,
     }
 }
 
-/// Whether a front costs at most so much more than another one, as far as that goes.
-pub fn costs_at_most(front: &[Reach], other: &[Reach], more: u32) -> bool {
-    other.iter().all(|reach| cost_to(front, reach.end) <= u32::saturating_add(reach.cost, more))
+/// Whether a front costs at most so much more than another one, as far as that goes, up to a limit.
+pub fn costs_at_most(front: &[Reach], other: &[Reach], more: u32, limit: u32) -> bool {
+    other.iter().all(|reach| {
+        cost_to(front, reach.end.min(limit)) <= u32::saturating_add(reach.cost, more)
+    })
 }
 
 /// Whether a front costs as much more at least, as far as it goes past a place.

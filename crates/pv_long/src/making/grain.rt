@@ -1,5 +1,7 @@
 //! Which ends of reaches are told apart, where a list has too many.
 
+use pv_bounds::Reach;
+
 /// What becomes of the reaches whose ends aren't told apart.
 #[derive(Clone, Copy, Debug, PartialEq, Eq)]
 pub enum Way {
@@ -7,8 +9,11 @@ pub enum Way {
     Further,
     /// Of those up to one of these ends, the cheapest and the furthest are kept.
     Fewer,
-    /// The same, and others may be missing too.
+    /// Of those up to one of these ends, the cheapest and the furthest are kept, and others may be
+    /// missing too.
     Fewest,
+    /// Each that goes further ends there.
+    Window,
 }
 
 /// Ends that are up to so many places away are told apart; further on those at each second place,
@@ -37,8 +42,33 @@ fn up_to(number: u32, step: u32) -> u32 {
 const PART: u64 = 8;
 
 impl Grain {
+    /// How far a reach from a place may go.
+    pub fn limit(&self, place: u32) -> u32 {
+        match self.way {
+            Way::Window => u32::saturating_add(place, self.near).min(self.tokens),
+            Way::Further => self.tokens,
+            Way::Fewer => self.tokens,
+            Way::Fewest => self.tokens,
+        }
+    }
+
+    /// Up to where a reach from a place goes that is offered up to an end.
+    pub fn end_of(&self, place: u32, end: u32) -> u32 {
+        match self.way {
+            Way::Further => self.told(place, end),
+            Way::Fewer => end,
+            Way::Fewest => end,
+            Way::Window => end.min(self.limit(place)),
+        }
+    }
+
+    /// Whether some reaches are left out.
+    pub fn is_thin(&self) -> bool {
+        self.way == Way::Fewer || self.way == Way::Fewest
+    }
+
     /// The first end at this one or after it that is told apart from a place.
-    pub fn told(&self, place: u32, end: u32) -> u32 {
+    fn told(&self, place: u32, end: u32) -> u32 {
         let mut told = end;
         let mut step = 1u32;
         let mut reach = self.near;
@@ -51,6 +81,19 @@ impl Grain {
             told = up_to(told, step);
         }
         told.min(self.tokens)
+    }
+
+    /// Takes off the last reach of a front, where a reach up to this end comes after it and they and
+    /// the one before them aren't told apart.
+    pub fn thin(&self, front: &mut Vec<Reach>, place: u32, end: u32) {
+        let Some(number) = usize::checked_sub(front.len(), 2) else {
+            return;
+        };
+        if let Some(before) = front.get(number) {
+            if self.told(place, before.end) == self.told(place, end) {
+                front.pop();
+            }
+        }
     }
 
     /// Fewer ends, where there were too many reaches from the last places, which are so many.

@@ -9,7 +9,7 @@ use pv_rules::HEAVIEST;
 use std::alloc::Global;
 
 /// How many costs are told apart at a time.
-const COSTS: usize = 1_024;
+pub const COSTS: usize = 1_024;
 
 /// A reach of a column from which others may follow, with its derivation.
 #[derive(Clone, Copy, Debug)]
@@ -41,7 +41,7 @@ struct Column {
     front: Vec<Reach>,
     /// What is offered and waits, by what it costs beyond `Here::least`.
     offers: Vec<Offer>,
-    /// The least cost at which the last token is reached, among all that was offered.
+    /// The least cost up to how far a reach may go, among all that was offered.
     whole: u32,
     /// The cuts up to this place have been tried.
     tried: u32,
@@ -66,19 +66,6 @@ pub struct Here {
     /// The columns that wait, by the cost of what is offered beyond `least`.
     waiting: Vec<Vec<u32>>,
     dear: Vec<Dear>,
-}
-
-// Takes off the last reach of a front, where a reach up to this end comes after it and they and the
-// one before them aren't told apart.
-fn thin(front: &mut Vec<Reach>, grain: Grain, place: u32, end: u32) {
-    let Some(number) = usize::checked_sub(front.len(), 2) else {
-        return;
-    };
-    if let Some(before) = front.get(number) {
-        if grain.told(place, before.end) == grain.told(place, end) {
-            front.pop();
-        }
-    }
 }
 
 impl Column {
@@ -156,6 +143,11 @@ impl Here {
         }
     }
 
+    /// How far a reach from the place at hand may go.
+    pub fn limit(&self) -> u32 {
+        self.grain.limit(self.place)
+    }
+
     /// Counts reaches that are looked at.
     pub fn look(&mut self, reaches: usize) {
         let reaches = u64::try_from(reaches).unwrap_or(u64::MAX);
@@ -220,7 +212,7 @@ impl Here {
         }
     }
 
-    /// The least cost that is of no use to a column: at this cost or less it reaches the last token.
+    /// The least cost that is of no use to a column: at this cost or less it goes as far as it may.
     pub fn whole(&self, column: u32) -> u32 {
         match self.columns.get(column as usize) {
             Some(known) => known.whole,
@@ -249,19 +241,15 @@ impl Here {
     ) -> Result<(), NoMemory> {
         self.work = u64::saturating_add(self.work, 1);
         let beyond = u32::saturating_sub(cost, self.least) as usize;
-        let tokens = self.grain.tokens;
-        let end = match self.grain.way {
-            Way::Further => self.grain.told(self.place, end),
-            Way::Fewer => end,
-            Way::Fewest => end,
-        };
+        let limit = self.limit();
+        let end = self.grain.end_of(self.place, end);
         let Some(known) = self.columns.get_mut(column as usize) else {
             return Ok(());
         };
         if cost >= known.whole || end_of(known.front.as_slice()) >= end {
             return Ok(());
         }
-        if end >= tokens {
+        if end >= limit {
             known.whole = cost;
         }
         let offer = Offer { end, rule };
@@ -290,6 +278,14 @@ impl Here {
         Ok(())
     }
 
+    // How many columns wait at a cost beyond the least.
+    fn waiting_at(&self, beyond: usize) -> usize {
+        match self.waiting.get(beyond) {
+            Some(waiting) => waiting.len(),
+            None => 0,
+        }
+    }
+
     // The next column that waits at a cost beyond the least.
     fn next(&mut self, beyond: usize) -> Option<u32> {
         self.waiting.get_mut(beyond)?.pop()
@@ -308,7 +304,7 @@ impl Here {
         derivations: &mut Derivations,
     ) -> Result<Option<Step>, NoMemory> {
         let cost = u32::saturating_add(self.least, u32::try_from(beyond).unwrap_or(u32::MAX));
-        for _offer in 0..usize::MAX {
+        for _offer in 0..self.waiting_at(beyond) {
             let Some(column) = self.next(beyond) else {
                 break;
             };
@@ -336,8 +332,8 @@ impl Here {
         if end_of(known.front.as_slice()) >= end {
             return Ok(None);
         }
-        if self.grain.way != Way::Further {
-            thin(&mut known.front, self.grain, self.place, end);
+        if self.grain.is_thin() {
+            self.grain.thin(&mut known.front, self.place, end);
         }
         let number = derivations.add(Derivation { end, rule })?;
         put(
@@ -358,14 +354,13 @@ impl Here {
 
     /// Tells greater costs apart, once no offer waits any more, and tells whether there are any.
     pub fn go_dearer(&mut self, alloc: Global) -> Result<bool, NoMemory> {
-        let mut least = HEAVIEST;
-        for dear in self.dear.iter() {
-            least = least.min(dear.cost);
-        }
         if self.dear.is_empty() {
             return Ok(false);
         }
-        self.least = least;
+        self.least = HEAVIEST;
+        for dear in self.dear.iter() {
+            self.least = self.least.min(dear.cost);
+        }
         let mut dear = Vec::new(alloc);
         std::mem::swap(&mut dear, &mut self.dear);
         for Dear {
@@ -386,8 +381,9 @@ impl Here {
         cost: u32,
         offer: Offer,
     ) -> Result<(), NoMemory> {
+        let limit = self.limit();
         if let Some(known) = self.columns.get_mut(column as usize) {
-            if offer.end >= self.grain.tokens && known.whole == cost {
+            if offer.end >= limit && known.whole == cost {
                 known.whole = HEAVIEST;
             }
         }

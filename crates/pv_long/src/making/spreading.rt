@@ -4,11 +4,12 @@ use crate::making::classes::Classes;
 use crate::making::derivations::{Derivation, Derivations, Rule};
 use crate::making::empties::{cost_at, sum_of};
 use crate::making::fronts::{beyond, costs_at_least, costs_at_most, end_of, more_than, reach_to};
-use crate::making::here::{Here, Step};
-use crate::making::plan::Plan;
+use crate::making::here::{COSTS, Here, Step};
+use crate::making::known_columns::KnownColumns;
 use pv_bounds::{Reach, Row};
 use pv_chars::NoMemory;
 use pv_layout::Form;
+use pv_rules::HEAVIEST;
 use std::alloc::Global;
 
 /// How far on all cuts are tried.
@@ -19,7 +20,7 @@ const NEAR: u32 = 4;
 #[derive(Clone, Copy)]
 pub struct Known<'a> {
     pub alloc: Global,
-    pub plan: &'a Plan<'a>,
+    pub known: &'a KnownColumns<'a>,
     pub classes: &'a Classes,
     pub rows: &'a [Row],
     pub tokens: u32,
@@ -29,13 +30,13 @@ impl<'a> Known<'a> {
     /// What stands in a column of a class.
     pub fn form(&self, class: u32) -> Option<&'a Form> {
         let first = self.classes.first(class);
-        self.plan.layout.forms().get(first as usize)
+        self.known.layout.forms().get(first as usize)
     }
 
     /// The classes that mention a class.
     fn above(&self, class: u32) -> &'a [u32] {
         if self.classes.are_apart() {
-            self.plan.layout.mentions.above(class)
+            self.known.layout.mentions.above(class)
         } else {
             self.classes.above(class)
         }
@@ -43,7 +44,7 @@ impl<'a> Known<'a> {
 
     /// What a class costs over no tokens.
     fn empty(&self, class: u32) -> u32 {
-        cost_at(self.plan.empty.as_slice(), self.classes.first(class))
+        cost_at(self.known.empty.as_slice(), self.classes.first(class))
     }
 
     /// The reaches of a class at a place further on.
@@ -176,8 +177,9 @@ fn follow(
 fn is_like(known: Known<'_>, here: &Here, user: u32, first: u32, shift: u32) -> bool {
     let place = u32::saturating_add(here.place, shift);
     let there = known.reaches(place, user);
-    let more = more_than(here.front(user), there);
-    costs_at_most(here.front(user), there, more)
+    let limit = here.limit();
+    let more = more_than(here.front(user), there, limit);
+    costs_at_most(here.front(user), there, more, limit)
         && costs_at_least(here.front(first), known.reaches(place, first), more, place)
 }
 
@@ -290,15 +292,15 @@ fn derive(
     }
 }
 
-// Offers what follows from all reaches of a cost beyond the least, and tells whether there were
-// any.
+// Offers what follows from all reaches of a cost beyond the least. Each takes a class further.
 fn settle_cost(
     known: Known<'_>,
     here: &mut Here,
     derivations: &mut Derivations,
     beyond: usize,
 ) -> Result<(), NoMemory> {
-    for _step in 0..usize::MAX {
+    let ends = usize::saturating_add(known.tokens as usize, 1);
+    for _step in 0..usize::saturating_mul(known.classes.count(), ends) {
         let Some(step) = here.settle(beyond, derivations)? else {
             break;
         };
@@ -309,14 +311,15 @@ fn settle_cost(
     Ok(())
 }
 
-/// Offers what follows from all reaches that wait, the cheap ones first, until none does.
+/// Offers what follows from all reaches that wait, the cheap ones first, until none does. The least
+/// cost grows with each round.
 pub fn settle(
     known: Known<'_>,
     here: &mut Here,
     derivations: &mut Derivations,
 ) -> Result<(), NoMemory> {
-    for _round in 0..usize::MAX {
-        for beyond in 0..usize::MAX {
+    for _round in 0..HEAVIEST {
+        for beyond in 0..COSTS {
             if beyond >= here.costs() {
                 break;
             }

@@ -9,7 +9,7 @@
 
 ghost use Rattle.std.specs.Prelude.{◌≡◌, ◌+◌, ◌<◌, ◌^◌, ℕ, Contains, IfOk, IfSome, OnOk, get_or};
 ghost use Rattle.std.specs.Prelude.{length, map, slice_get};
-ghost use Rattle.pv_reach.specs.Adding.{AddsRule};
+ghost use Rattle.pv_reach.specs.AddedRules.{AddsRule};
 ghost use Rattle.pv_reach.specs.Merging.{AddsMerged, AreMerged, HasMerged, IsMerging};
 ghost use Rattle.pv_reach.specs.Merging.{MayStandBehind, column_head, column_heads};
 

@@ -3,7 +3,7 @@
 ghost use Rattle.std.specs.Prelude.{◌≡◌, ◌<◌, ℕ, IfOk, List, get_or, length};
 ghost use Rattle.pv_columns.specs.Marks.{AreNullable};
 ghost use Rattle.pv_columns.specs.declared.rules.ColumnRule.{ColumnRule as PlainRule};
-ghost use Rattle.pv_reach.specs.Leading.{AreAlike, AreHeads, AreRightEdges, IsHead, Turned};
+ghost use Rattle.pv_reach.specs.LeadingColumns.{AreAlike, AreHeads, AreRightEdges, IsHead, Turned};
 
 use crate::graph::chains::Chains;
 use crate::graph::edges::{edges_of, turned_edges};

@@ -5,7 +5,7 @@
 
 ghost use Rattle.std.specs.Prelude.{◌≡◌, ◌⊎◌, ℕ, Contains, IfOk};
 ghost use Rattle.pv_columns.specs.Marks.{AreNullable};
-ghost use Rattle.pv_reach.specs.Leading.{AreRightEdges, IsRightEdgeOf, Turned};
+ghost use Rattle.pv_reach.specs.LeadingColumns.{AreRightEdges, IsRightEdgeOf, Turned};
 
 use pv_columns::{ColumnRule, Edge, is_open};
 use std::alloc::{AllocError, Global};

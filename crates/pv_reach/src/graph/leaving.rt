@@ -1,8 +1,7 @@
 //! The order in which a search along edges leaves columns.
 
 use crate::graph::chains::Chains;
-use crate::graph::flags::set_flag;
-use pv_columns::{Edge, is_marked};
+use pv_columns::Edge;
 use std::alloc::{AllocError, Global};
 
 /// A column whose edges are gone through, and the number of the next one.
@@ -16,19 +15,24 @@ struct Visit {
 /// and those that were left, in order.
 #[derive(Debug, Drop)]
 struct Visits {
-    open: Vec<Visit>,
+    trail: Vec<Visit>,
     entered: Vec<bool>,
     left: Vec<usize>,
 }
 
 impl Visits {
+    ghost use Rattle.std.specs.Prelude.{◌+◌, ◌<◌, ◌≤◌, OnOk};
+    ghost use Rattle.pv_reach.specs.Searches.{steps_left, steps_of};
+
     /// Begins with a column, where it has not been among them.
-    fn enter(&mut self, chains: &Chains, column: usize) -> Result<(), AllocError> {
-        if is_marked(&self.entered, column) {
+    fn enter(&mut self, chains: &Chains, column: usize) -> Result<(), AllocError>
+        ensures { OnOk result (steps_left chains.now self.new ≤ steps_left chains.now self.old) }
+    {
+        if column >= self.entered.len() || self.entered[column] {
             return Ok(());
         }
-        set_flag(&mut self.entered, column);
-        self.open.push(Visit {
+        self.entered[column] = true;
+        self.trail.push(Visit {
             column,
             next: chains.first(column),
         })?;
@@ -37,18 +41,22 @@ impl Visits {
 
     /// Goes on after the next edge of a column, and enters the column that it leads to; or leaves
     /// the column.
-    fn go_on(&mut self, edges: &[Edge], chains: &Chains, visit: Visit) -> Result<(), AllocError> {
+    fn go_on(&mut self, edges: &[Edge], chains: &Chains, visit: Visit) -> Result<(), AllocError>
+        ensures { OnOk result (steps_left chains.now self.new <
+            steps_left chains.now self.old + steps_of chains.now visit) }
+    {
         let Some(number) = visit.next else {
             self.left.push(visit.column)?;
             return Ok(());
         };
-        self.open.push(Visit {
+        self.trail.push(Visit {
             next: chains.next(number),
             ..visit
         })?;
-        if number < edges.len() {
-            self.enter(chains, edges[number].to)?;
+        if number >= edges.len() {
+            return Ok(());
         }
+        self.enter(chains, edges[number].to)?;
         Ok(())
     }
 }
@@ -61,10 +69,7 @@ fn leave_from(
     visits: &mut Visits,
 ) -> Result<(), AllocError> {
     visits.enter(chains, column)?;
-    for _ in 0..u64::MAX {
-        let Some(visit) = visits.open.pop() else {
-            break;
-        };
+    while let Some(visit) = visits.trail.pop() {
         visits.go_on(edges, chains, visit)?;
     }
     Ok(())
@@ -78,7 +83,7 @@ pub fn leaving_order(
     width: usize,
 ) -> Result<Vec<usize>, AllocError> {
     let mut visits = Visits {
-        open: Vec::new(alloc),
+        trail: Vec::new(alloc),
         entered: vec![in alloc; false; width]?,
         left: Vec::new(alloc),
     };

@@ -2,7 +2,7 @@
 
 ghost use Rattle.std.specs.Prelude.{◌≡◌, ◌<◌, ℕ, List, IfOk, OnOk, get_or, length};
 ghost use Rattle.pv_columns.specs.declared.layers.Edge.{Edge as PlainEdge};
-ghost use Rattle.pv_reach.specs.Leading.{AreLed};
+ghost use Rattle.pv_reach.specs.LeadingColumns.{AreLed};
 
 use crate::graph::chains::Chains;
 use crate::graph::flags::set_flag;

@@ -2,7 +2,7 @@
 
 ghost use Rattle.std.specs.Prelude.{◌≡◌, IfOk};
 ghost use Rattle.pv_productive.specs.PlainForms.{dtd_of};
-ghost use Rattle.pv_reach.specs.Adding.{AddsRule};
+ghost use Rattle.pv_reach.specs.AddedRules.{AddsRule};
 ghost use Rattle.pv_reach.specs.Columns.{any_column, part_column};
 
 use pv_columns::ColumnRule;

@@ -4,7 +4,7 @@ ghost use Rattle.std.specs.Prelude.{◌≡◌, ℕ, false, true, IfOk, Some};
 ghost use Rattle.pv_model.specs.Plain.{any};
 ghost use Rattle.pv_dtd.specs.Plain.{declared, model_of};
 ghost use Rattle.pv_productive.specs.PlainForms.{dtd_of};
-ghost use Rattle.pv_reach.specs.Adding.{AddsDeclared, IsRuleOfAny, LaysOut};
+ghost use Rattle.pv_reach.specs.AddedRules.{AddsDeclared, IsRuleOfAny, LaysOut};
 ghost use Rattle.pv_reach.specs.Columns.{any_column};
 
 use crate::rules::adding::{add, any_column};

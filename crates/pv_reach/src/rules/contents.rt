@@ -7,8 +7,8 @@ ghost use Rattle.pv_dtd.specs.Plain.{declared, model_of};
 ghost use Rattle.pv_rules.specs.Flat.{flat_contents};
 ghost use Rattle.pv_rules.specs.declared.flat.ContentKind.TheVariants.{Mixed as mixed_kind};
 ghost use Rattle.pv_productive.specs.PlainForms.{dtd_of};
-ghost use Rattle.pv_reach.specs.Adding.{AddsListed, IsRuleOfContent, LaysOut, LaysOutNames};
-ghost use Rattle.pv_reach.specs.Adding.{LaysOutParts};
+ghost use Rattle.pv_reach.specs.AddedRules.{AddsListed, IsRuleOfContent, LaysOut, LaysOutNames};
+ghost use Rattle.pv_reach.specs.AddedRules.{LaysOutParts};
 ghost use Rattle.pv_reach.specs.Columns.{IsAnyRule, any_column};
 
 use crate::rules::adding::{add, any_column, part_column};

@@ -3,7 +3,7 @@
 ghost use Rattle.std.specs.Prelude.{IfOk};
 ghost use Rattle.pv_dtd.specs.Plain.{IsDeclared};
 ghost use Rattle.pv_productive.specs.PlainForms.{dtd_of};
-ghost use Rattle.pv_reach.specs.Adding.{LaysOutNames};
+ghost use Rattle.pv_reach.specs.AddedRules.{LaysOutNames};
 ghost use Rattle.pv_reach.specs.Columns.{AreRules};
 
 use crate::rules::any::add_any;

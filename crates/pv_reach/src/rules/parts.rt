@@ -5,7 +5,7 @@ ghost use Rattle.pv_model.specs.Plain.{PlainPart, PlainParts, choice, opt, plus,
 ghost use Rattle.pv_model.specs.Plain as plain;
 ghost use Rattle.pv_rules.specs.Numbering.{IsChoiceAt, part_at, rest_at};
 ghost use Rattle.pv_productive.specs.PlainForms.{dtd_of};
-ghost use Rattle.pv_reach.specs.Adding.{IsRuleOfPart, LaysOut};
+ghost use Rattle.pv_reach.specs.AddedRules.{IsRuleOfPart, LaysOut};
 ghost use Rattle.pv_reach.specs.Columns.{member_columns, part_column};
 ghost use Rattle.pv_reach.specs.Parts.{next_number};
 

@@ -24,7 +24,7 @@ pub struct Ends {
 
 impl Ends {
     ghost use Rattle.std.specs.Prelude.{◌≡◌, ◌+◌, slice_get};
-    ghost use Rattle.pv_reach.specs.Reached.{kept_past, past_column};
+    ghost use Rattle.pv_reach.specs.ReachedPlaces.{kept_past, past_column};
 
     /// One past the furthest place of a column, or 0.
     fn column_past(&self, column: usize, from: u32) -> u32

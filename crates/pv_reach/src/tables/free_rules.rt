@@ -5,7 +5,7 @@ ghost use Rattle.std.specs.Prelude.{length, true};
 ghost use Rattle.pv_columns.specs.FreeSets.{IsFreeOver};
 ghost use Rattle.pv_columns.specs.Tokens.{IsInRow};
 ghost use Rattle.pv_columns.specs.declared.rules.ColumnRule.{ColumnRule as PlainRule};
-ghost use Rattle.pv_reach.specs.Adding.{RulesGrow};
+ghost use Rattle.pv_reach.specs.AddedRules.{RulesGrow};
 ghost use Rattle.pv_reach.specs.Columns.{Has};
 ghost use Rattle.pv_reach.specs.Cuts.{AddsCut, AreCutRules, AreOwnSets, AreTokensOf, HasCut};
 ghost use Rattle.pv_reach.specs.Merging.{column_head};

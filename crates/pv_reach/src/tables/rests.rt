@@ -5,7 +5,7 @@ ghost use Rattle.pv_model.specs.Plain.{PlainParts};
 ghost use Rattle.pv_dtd.specs.Plain.{parts_in_models};
 ghost use Rattle.pv_rules.specs.Numbering.{rest_at};
 ghost use Rattle.pv_productive.specs.PlainForms.{dtd_of};
-ghost use Rattle.pv_reach.specs.Reached.{AreRests, past_members, past_rest};
+ghost use Rattle.pv_reach.specs.ReachedPlaces.{AreRests, past_members, past_rest};
 ghost use Rattle.pv_reach.specs.Tables.{IsTable};
 
 use crate::tables::ends::Ends;

@@ -176,7 +176,12 @@ fn furthest_place(
     }
 }
 
-/// Whether a column reaches the end of the word from its beginning.
+// So many cells a table has at most, of four bytes each: more than one takes for a list that isn't
+// too wide for a verdict, whose columns are twice the parts and names of its DTD at most.
+const MAX_CELLS: usize = 268_435_456;
+
+/// Whether a column reaches the end of the word from its beginning. There is too little memory for
+/// a table of more than `MAX_CELLS`.
 pub fn reaches_end(
     alloc: Global,
     front: &[ColumnRule],
@@ -193,6 +198,9 @@ pub fn reaches_end(
     ensures { IfOk result (λ b. IsTrue b ↔
         ReadThrough (front.now ++ rules.now) word.now (column ∷ []) 0 (length word.now)) }
 {
+    if (word.len() + 1) * width > MAX_CELLS {
+        return Err(AllocError);
+    }
     let table = fill(alloc, front, rules, word, width)?;
     let furthest = furthest_place(front, rules, &[column], 0, word, width, &table);
     Ok(furthest == Some(word.len()))

@@ -41,7 +41,8 @@ fn the_greatest_depth(rt: HostRuntime) -> Result<(), Fail> {
     Ok(())
 }
 
-// The same of a wrap of the root.
+// How many elements stand one inside another, the line of a wrap of the root, and the first reason
+// to refuse it.
 static DEEP_ROOTS: [(usize, &str, Option<Reason>); 4] = [
     (511, "wrap . 0 1 doc", None),
     (512, "wrap . 0 1 doc", Some(Reason::Deep)),

@@ -27,7 +27,7 @@ const ROWS: &[Line] = &[
     (Site::Rest(2), [1, 1, 2]),
 ];
 
-/// The same rows but the first.
+/// The rows of `ROWS` but the first.
 const ONE_LEFT_OUT: &[Line] = &[
     (Site::Content(NameId(1)), [0, 1, 2]),
     (Site::Content(NameId(2)), [0, 1, 2]),

@@ -16,7 +16,7 @@ fn reaches_over(alloc: Global, grammar: &Grammar, word: &[Token]) -> Result<Reac
     Ok(furthest(alloc, grammar, word)?)
 }
 
-/// The same by the plan of a grammar.
+/// The furthest places of all sites over a word, by a plan of the grammar.
 fn planned_reaches(alloc: Global, grammar: &Grammar, word: &[Token]) -> Result<Reaches, Fail> {
     if !are_productive(grammar, word) {
         return Err(Fail::new("a name isn't productive"));
@@ -38,7 +38,7 @@ fn end_of(
     Ok(reaches_over(alloc, &grammar, word)?.at(site, place))
 }
 
-/// The same by the plan of the grammar.
+/// The furthest place of a site from a place of a word, by a plan of the grammar.
 fn planned_end(
     alloc: Global,
     dtd: &str,

@@ -1,7 +1,7 @@
 //! What is judged of an edit, against what is answered where it is made.
 
 ghost use Rattle.std.specs.Prelude.{◌≡◌, ◌<◌, ◌≤◌};
-ghost use Rattle.pv_cache.specs.Accepting.{MAX_EDITED_NODES};
+ghost use Rattle.pv_cache.specs.AcceptedEdits.{MAX_EDITED_NODES};
 ghost use Rattle.pv_tree.specs.Plain.{nodes_in};
 ghost use Rattle.pv_tree.specs.PlainDocs.{plain_doc};
 
@@ -44,7 +44,8 @@ fn marked_on<L: Ledger>(
     Ok(Marked::build(alloc, grammar, root, doc, verdicts)?)
 }
 
-// The same of the text of a document, for the root doc.
+// The document of a text with its verdicts, for the root doc, by a plan that is laid out before or
+// with them.
 fn marked<L: Ledger>(
     alloc: Global,
     text: &str,
@@ -160,7 +161,7 @@ static JUDGED: [(&str, &str, Wanted); 7] = [
     ),
 ];
 
-// What is wanted of the edit of this line.
+// Tries the edit of a line on a document, against what is wanted of it.
 fn judge_line<L: Ledger>(
     alloc: Global,
     document: &mut Marked,
@@ -177,7 +178,7 @@ fn judge_line<L: Ledger>(
     }
 }
 
-// The same of a line for a document.
+// Tries the edit of a line on the document of a text, against what is wanted of it.
 fn judge_text<L: Ledger>(
     alloc: Global,
     text: &str,

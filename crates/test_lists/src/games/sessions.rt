@@ -1,7 +1,7 @@
 //! Sessions and their moves.
 
 ghost use Rattle.std.specs.Prelude.{◌≤◌};
-ghost use Rattle.pv_cache.specs.Accepting.{MAX_EDITED_NODES};
+ghost use Rattle.pv_cache.specs.AcceptedEdits.{MAX_EDITED_NODES};
 ghost use Rattle.pv_tree.specs.Plain.{nodes_in};
 ghost use Rattle.pv_tree.specs.PlainDocs.{plain_doc};
 

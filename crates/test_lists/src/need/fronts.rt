@@ -2,7 +2,7 @@
 
 use crate::need::calls::grammar_of;
 use pv_bounds::laws::below_sites_law;
-use pv_bounds::{Fronts, Reach, Row, are_closed, bound};
+use pv_bounds::{Far, Fronts, Reach, Row, are_closed, bound};
 use pv_chars::NoMemory;
 use pv_layout::laws::columns_derive_law;
 use pv_layout::{ColumnLayout, Form, lay_out};
@@ -46,10 +46,35 @@ fn fronts_over(alloc: Global, cost: u32) -> Result<Fronts, NoMemory> {
     rows.push(Row {
         starts: Vec::from_slice(alloc, &[0, 1, 2, 2, 2])?,
         reaches: Vec::from_slice(alloc, &[reach(cost), reach(0)])?,
+        fars: Vec::new(alloc),
     })?;
     Ok(Fronts {
         empty: Vec::from_slice(alloc, &EMPTY)?,
+        classes: Vec::new(alloc),
         rows,
+        ends: Vec::new(alloc),
+    })
+}
+
+// Fronts of two columns of one class, which go on from their own reach to the last two of these
+// ends.
+fn shared_fronts(alloc: Global) -> Result<Fronts, NoMemory> {
+    let far = Far {
+        from: 1,
+        to: 3,
+        cost: 5,
+    };
+    let mut rows = Vec::new(alloc);
+    rows.push(Row {
+        starts: Vec::from_slice(alloc, &[0, 1])?,
+        reaches: Vec::from_slice(alloc, &[reach(0)])?,
+        fars: Vec::from_slice(alloc, &[far])?,
+    })?;
+    Ok(Fronts {
+        empty: Vec::new(alloc),
+        classes: Vec::from_slice(alloc, &[0, 0])?,
+        rows,
+        ends: Vec::from_slice(alloc, &[9, 2, 4])?,
     })
 }
 
@@ -128,7 +153,7 @@ fn cost_over(alloc: Global, column: u32, from: u32, to: u32) -> Result<u32, Fail
 // Whether both a row and its fronts have these reaches of a column.
 fn are_reaches(fronts: &Fronts, column: u32, reaches: &[Reach]) -> bool {
     match fronts.rows.get(0) {
-        Some(row) => row.at(column) == reaches && fronts.at(column, 0) == reaches,
+        Some(row) => row.at(column) == reaches && fronts.at(column, 0).near == reaches,
         None => false,
     }
 }
@@ -140,7 +165,7 @@ fn has_reaches(alloc: Global) -> Result<bool, Fail> {
             && are_reaches(&fronts, 1, &[reach(0)])
             && are_reaches(&fronts, 2, &[])
             && are_reaches(&fronts, 4, &[])
-            && fronts.at(0, 1).is_empty(),
+            && fronts.at(0, 1).len() == 0,
     )
 }
 
@@ -157,5 +182,46 @@ fn costs(rt: HostRuntime) -> Result<(), Fail> {
         let found = cost_over(rt.alloc(), *column, *from, *to)?;
         assert_eq!(rt; found, *wanted, "{column} from {from} up to {to}");
     }
+    Ok(())
+}
+
+// Columns, how far they are to reach, and what that costs where they share ends.
+static SHARED: [(u32, u32, u32); 7] = [
+    (0, 1, 0),
+    (0, 2, 5),
+    (0, 3, 6),
+    (0, 4, 6),
+    (0, 5, 1_000_001),
+    (1, 2, 5),
+    (2, 1, 1_000_001),
+];
+
+fn shared_cost(alloc: Global, column: u32, to: u32) -> Result<u32, Fail> {
+    Ok(shared_fronts(alloc)?.cost(column, 0, to))
+}
+
+// The second reach of a front that shares ends.
+fn second_reach(alloc: Global) -> Result<Option<Reach>, Fail> {
+    let fronts = shared_fronts(alloc)?;
+    let front = fronts.at(1, 0);
+    if front.len() == 3 {
+        Ok(Some(front.get(1)))
+    } else {
+        Ok(None)
+    }
+}
+
+#[test]
+fn shared_ends(rt: HostRuntime) -> Result<(), Fail> {
+    for (column, to, wanted) in &SHARED {
+        let found = shared_cost(rt.alloc(), *column, *to)?;
+        assert_eq!(rt; found, *wanted, "{column} up to {to}");
+    }
+    let wanted = Reach {
+        cost: 5,
+        end: 2,
+        via: 0,
+    };
+    assert_eq!(rt; second_reach(rt.alloc())?, Some(wanted));
     Ok(())
 }

@@ -38,7 +38,7 @@ fn keeps(alloc: Global, doc: &str, body: &str, marks: &[u32]) -> Result<bool, Fa
     Ok(is_kept(alloc, b"a", doc.as_bytes(), body.as_bytes(), marks)?)
 }
 
-// The same by the document's tree.
+// Whether a body without the tags of its marked elements is a document that was read into a tree.
 fn keeps_tree(alloc: Global, doc: &str, body: &str, marks: &[u32]) -> Result<bool, Fail> {
     let tree = read_doc(alloc, doc.as_bytes(), b"a")?;
     Ok(read_body(alloc, b"a", &tree, body.as_bytes(), marks)?.kept)

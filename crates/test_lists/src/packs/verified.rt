@@ -35,7 +35,7 @@ fn answer_to(alloc: Global, texts: Texts, pack: &Pack) -> Result<Answer, Fail> {
     Ok(verify(alloc, &dtd, root, doc, pack)?)
 }
 
-// The same against the document's tree.
+// What a pack is answered against the tree of a document.
 fn answer_to_read(alloc: Global, texts: Texts, pack: &Pack) -> Result<Answer, Fail> {
     let (dtd, root, doc) = texts;
     let dtd = read_dtd(alloc, dtd)?;
@@ -104,7 +104,7 @@ fn answer_to_parts(alloc: Global, head: &str, body: &str, tables: &str) -> Resul
     answer_to(alloc, (PAIR, b"a", b"<a/>"), &pack)
 }
 
-// The same against the document's tree.
+// What a pack of these parts is answered against the tree of `<a/>`.
 fn answer_to_read_parts(
     alloc: Global,
     head: &str,

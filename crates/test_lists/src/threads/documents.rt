@@ -94,7 +94,7 @@ pub fn by_threads<G: Gate + Sync, L: Ledger>(
     Ok(check_doc_par(rt, alloc, grammar, b"doc", doc, gate, &mut steps)?)
 }
 
-// The same by a plan that was laid out before.
+// The verdicts that several threads find, with this gate, by a plan that was laid out before.
 fn by_plan<G: Gate + Sync, L: Ledger>(
     rt: &(impl Threads + Sync),
     judge: &Judge<'_>,

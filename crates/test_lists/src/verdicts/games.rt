@@ -96,7 +96,7 @@ fn play_all<L: Ledger>(
     Ok(())
 }
 
-/// The same by a grammar, with its rules laid out and without.
+/// Plays words of all owners by a grammar, with its rules laid out and without.
 fn play_by<L: Ledger>(alloc: Global, grammar: &Grammar, blank: Blank) -> Result<(), Fail>
     requires name { blank.name ≡ L.name }
     requires parts { blank.parts ≡ L.parts }

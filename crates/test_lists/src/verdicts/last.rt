@@ -2,7 +2,7 @@
 
 ghost use Rattle.std.specs.Prelude.{IfOk};
 ghost use Rattle.pv_productive.specs.PlainForms.{dtd_of};
-ghost use Rattle.pv_verdicts.specs.Last.{IsLast};
+ghost use Rattle.pv_verdicts.specs.LastJudgedWord.{IsLast};
 
 use pv_missing::Of;
 use pv_reach::{Judge, word_verdict};

@@ -1,7 +1,7 @@
 //! What is offered, against each declared name tried as an edit and taken back.
 
 ghost use Rattle.std.specs.Prelude.{◌≡◌, ◌≤◌, ◌<◌};
-ghost use Rattle.pv_cache.specs.Accepting.{MAX_EDITED_NODES};
+ghost use Rattle.pv_cache.specs.AcceptedEdits.{MAX_EDITED_NODES};
 ghost use Rattle.pv_tree.specs.Plain.{nodes_in};
 ghost use Rattle.pv_tree.specs.PlainDocs.{plain_doc};
 
@@ -215,7 +215,7 @@ fn check_offered<R: AllocGlobal + Threads + Sync, L: Ledger>(
     try_each(alloc, session, row.2, names, steps)
 }
 
-// The same of a session on the row's document.
+// What a session on the row's document offers, against each name.
 fn check_row<R: AllocGlobal + Threads + Sync, L: Ledger>(
     rt: &R,
     row: &Row,

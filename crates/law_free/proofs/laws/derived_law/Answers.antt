@@ -1,4 +1,4 @@
-use Rattle.law_free.proofs.Taken.{derived_are_taken}
+use Rattle.law_free.proofs.DerivedTokens.{derived_are_taken}
 use Rattle.law_free.proofs.laws.derived_law.Goals as goal
 
 pub returns : goal.returns

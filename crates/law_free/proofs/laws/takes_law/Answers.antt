@@ -1,4 +1,4 @@
-use Rattle.law_free.proofs.Taken.{takes_derives_one}
+use Rattle.law_free.proofs.DerivedTokens.{takes_derives_one}
 use Rattle.law_free.proofs.laws.takes_law.Goals as goal
 
 pub returns : goal.returns

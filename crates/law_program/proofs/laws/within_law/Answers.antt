@@ -1,4 +1,4 @@
-use Rattle.law_program.proofs.Within.{answers_within}
+use Rattle.law_program.proofs.AnswersWithinLimits.{answers_within}
 use Rattle.law_program.proofs.laws.within_law.Goals as goal
 
 pub returns : goal.returns

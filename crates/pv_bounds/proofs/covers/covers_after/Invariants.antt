@@ -1,11 +1,12 @@
 use Rattle.std.specs.Prelude.{min}
 use Rattle.std.proofs.Common.{get_or, ℕ, ◌+◌, ◌<◌, ◌≤◌}
 use Rattle.pv_rules.specs.Derivations.{heaviest}
-use Rattle.pv_bounds.specs.Fronts.{least_to}
+use Rattle.pv_bounds.specs.Fronts.{front_list, least_to}
 use Rattle.pv_bounds.specs.declared.fronts.Reach.{Reach}
 use Rattle.pv_bounds.proofs.covers.covers_after.Given as goal
 
 abbrev pub invariant-loop-index : goal.invariant-loop-index
-invariant-loop-index l = (m : ℕ) (d : Reach) → m < l.index → l.place < (get_or l.others m d).end →
-    min heaviest (l.extra + least_to (get_or l.others m d).end l.ones) ≤
-    (get_or l.others m d).cost
+invariant-loop-index l = (m : ℕ) (d : Reach) → m < l.index →
+    l.place < (get_or (front_list l.others) m d).end →
+    min heaviest (l.extra + least_to (get_or (front_list l.others) m d).end (front_list l.ones)) ≤
+    (get_or (front_list l.others) m d).cost

@@ -33,7 +33,7 @@ loop-place-preserved-else-not-cuts_at c =
     let claim = c.args.claim.now in
     let some = c.loop-place-test.true in
     let told = c.in_ok-tell_from.ensures in
-    let window : IsWindow claim.fronts.now.rows.items c.args.pair.second (suc (p - 1)) claim.tokens
+    let window : IsWindow claim.fronts.now c.args.pair.second (suc (p - 1)) claim.tokens
     c.deref.result.now = rw c.deref.ensures.value told.window in record {
       falling = told.falling;
       window = λ k le lt. told.window k (omega arith) lt;

@@ -8,7 +8,7 @@ use Rattle.pv_bounds.proofs.cuts.cuts_hold.Given as goal
 abbrev pub invariant-loop-place : goal.invariant-loop-place
 invariant-loop-place l = record {
   falling : AllFalling l.levels.items;
-  window : IsWindow l.claim.fronts.now.rows.items l.pair.second l.told l.claim.tokens
+  window : IsWindow l.claim.fronts.now l.pair.second l.told l.claim.tokens
       l.levels.items;
   held : (i : ℕ) → l.place ≤ i → i < l.claim.tokens →
       CutsHold (map plain_token l.claim.word.now) (empty_cost l.claim.fronts.now.empty.items)

@@ -1,5 +1,5 @@
 use Rattle.std.proofs.Common.{arith, ◌-◌}
-use Rattle.pv_bounds.proofs.Told.{window_more}
+use Rattle.pv_bounds.proofs.ChangedLevels.{window_more}
 use Rattle.pv_bounds.proofs.cuts.tell_from.Goals as goal
 
 pub loop-next-preserved : goal.loop-next-preserved
@@ -9,9 +9,9 @@ loop-next-preserved c =
     let claim = c.args.claim.now in
     let some = c.loop-next-test.true in record {
       falling = c.in_ok-tell_all.ensures.falling;
-      window = window_more claim.fronts.now.rows.items c.args.column (p - 1) p claim.tokens
+      window = window_more claim.fronts.now c.args.column (p - 1) p claim.tokens
           c.loop-next.levels.items c.tell_all.new.levels.items i.window (omega arith)
-          c.in_ok-tell_all.ensures.kept (rw c.at.ensures at c.in_ok-tell_all.ensures.told);
+          c.in_ok-tell_all.ensures.kept (rw c.at.ensures.reaches at c.in_ok-tell_all.ensures.told);
     }
 
 pub returns-clause-window : goal.returns-clause-window

@@ -1,5 +1,5 @@
 use Rattle.std.proofs.Common.{arith}
-use Rattle.pv_bounds.proofs.Leasts.{least_light}
+use Rattle.pv_bounds.proofs.LeastCosts.{least_light}
 use Rattle.pv_bounds.proofs.fronts.least_to.Goals as goal
 
 pub loop-index-init : goal.loop-index-init

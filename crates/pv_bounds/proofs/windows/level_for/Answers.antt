@@ -1,4 +1,4 @@
-use Rattle.pv_bounds.proofs.Told.{push_keeps}
+use Rattle.pv_bounds.proofs.ChangedLevels.{push_keeps}
 use Rattle.pv_bounds.proofs.windows.level_for.Goals as goal
 
 pub returns-clause-kept : goal.returns-clause-kept

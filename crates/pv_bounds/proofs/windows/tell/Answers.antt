@@ -2,7 +2,7 @@ use Rattle.std.specs.Vec.{with_items}
 use Rattle.std.proofs.Common.{arith, subst, sym, ◌≡◌}
 use Rattle.std.proofs.lemmas.List.{with_items_is}
 use Rattle.pv_bounds.specs.Windows.{KeepsTold, TellsReach}
-use Rattle.pv_bounds.proofs.Told.{keeps_both}
+use Rattle.pv_bounds.proofs.ChangedLevels.{keeps_both}
 use Rattle.pv_bounds.proofs.windows.tell.Goals as goal
 
 pub returns-clause-told : goal.returns-clause-told

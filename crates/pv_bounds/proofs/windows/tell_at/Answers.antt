@@ -1,6 +1,6 @@
 use Rattle.std.proofs.Common.{ap, arith, sym, ◌∙◌, ◌≡◌}
 use Rattle.pv_bounds.specs.declared.windows.Level.{Level}
-use Rattle.pv_bounds.proofs.Told.{set_keeps, set_tells}
+use Rattle.pv_bounds.proofs.ChangedLevels.{set_keeps, set_tells}
 use Rattle.pv_bounds.proofs.windows.tell_at.Goals as goal
 
 pub returns-clause-told : goal.returns-clause-told

@@ -1,7 +1,7 @@
 use Rattle.std.proofs.Common.{arith, ap, ◌≤◌, ◌∙◌}
 use Rattle.std.specs.List.{between}
 use Rattle.pv_edit.proofs.FilledKids.{slice_plain}
-use Rattle.pv_edit.specs.Fitting.{plain_filling}
+use Rattle.pv_edit.specs.FittingChanges.{plain_filling}
 use Rattle.pv_tree.specs.Legal.{MAX_NODES}
 use Rattle.pv_tree.specs.Plain.{forest_of, nodes_in_all}
 use Rattle.pv_tree.specs.PlainForms.{plain_all}

@@ -1,5 +1,5 @@
 use Rattle.std.proofs.Common.{rules, ◌≡◌}
-use Rattle.pv_cache.specs.Changed.{inner_first}
+use Rattle.pv_cache.specs.VerdictsAfterChange.{inner_first}
 use Rattle.pv_tree.specs.declared.nodes.Verdict.TheVariants as verdict
 use Rattle.pv_cache.proofs.deciding.first_impossible.Goals as goal
 

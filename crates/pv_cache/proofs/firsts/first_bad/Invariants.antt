@@ -1,6 +1,6 @@
 use Rattle.std.proofs.Common.{length, ◌≡◌}
 use Rattle.pv_tree.specs.PlainDocs.{plain_doc}
-use Rattle.pv_tree.specs.Walking.{lists_left}
+use Rattle.pv_tree.specs.ListWalks.{lists_left}
 use Rattle.pv_cache.specs.Firsts.{first_among, first_bad}
 use Rattle.pv_cache.proofs.firsts.first_bad.Given as goal
 

@@ -1,4 +1,4 @@
-use Rattle.pv_cache.proofs.Accepts.{accepts_the_possible}
+use Rattle.pv_cache.proofs.AcceptedDocuments.{accepts_the_possible}
 use Rattle.pv_cache.proofs.laws.accepts_possible_law.Goals as goal
 
 pub returns : goal.returns

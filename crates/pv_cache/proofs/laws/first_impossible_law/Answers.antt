@@ -1,4 +1,4 @@
-use Rattle.pv_cache.proofs.FirstChanged.{first-is-first}
+use Rattle.pv_cache.proofs.FirstChangedList.{first-is-first}
 use Rattle.pv_cache.proofs.laws.first_impossible_law.Goals as goal
 
 pub returns : goal.returns

@@ -1,7 +1,7 @@
 use Rattle.std.proofs.Common.{[]}
 use Rattle.pv_edit.proofs.RemarkedFacts.{kept-to}
 use Rattle.pv_edit.proofs.RemarkedReasons.{inverse-as}
-use Rattle.pv_cache.proofs.Alike.{accepted_as, holdable_to}
+use Rattle.pv_cache.proofs.RemarkedDocuments.{accepted_as, holdable_to}
 use Rattle.pv_cache.proofs.laws.other_marks_law.Goals as goal
 
 pub returns : goal.returns

@@ -1,4 +1,4 @@
-use Rattle.pv_cache.proofs.WithoutGround.{exactly_without}
+use Rattle.pv_cache.proofs.EditsWithoutGround.{exactly_without}
 use Rattle.pv_cache.proofs.laws.without_ground_law.Goals as goal
 
 pub returns : goal.returns

@@ -3,7 +3,7 @@ use Rattle.pv_tree.specs.Plain.{element, nodes_in}
 use Rattle.pv_tree.specs.PlainForms.{forest, plain, plain_end}
 use Rattle.pv_tree.specs.declared.nodes.Node.{Node, the_lemmas}
 use Rattle.pv_tree.proofs.Levels.{plain-Elem}
-use Rattle.pv_cache.specs.Laying.{lay_kids}
+use Rattle.pv_cache.specs.LaidMarks.{lay_kids}
 use Rattle.pv_cache.specs.Updates.{IsCounted, update_element}
 use Rattle.pv_cache.proofs.LaidLevels.{few_kid, kid_smaller, laid_counted, more_laid}
 use Rattle.pv_cache.proofs.laying.+lay.Goals as goal

@@ -4,7 +4,7 @@ use Rattle.pv_tree.specs.PlainForms.{plain}
 use Rattle.pv_tree.specs.PlainDocs.{plain_doc}
 use Rattle.pv_edit.specs.Inverses.{IsKept}
 use Rattle.pv_edit.proofs.PreparedChanges.{doc-kept}
-use Rattle.pv_cache.proofs.Laid.{laid_root}
+use Rattle.pv_cache.proofs.LaidDocuments.{laid_root}
 use Rattle.pv_cache.proofs.LaidLevels.{root_counted}
 use Rattle.pv_cache.proofs.MarksAlone.{still-kept}
 use Rattle.pv_cache.proofs.laying.lay_doc.Goals as goal

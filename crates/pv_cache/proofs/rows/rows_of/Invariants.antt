@@ -1,6 +1,6 @@
 use Rattle.std.proofs.Common.{length, map, ◌++◌, ◌≡◌}
 use Rattle.pv_tree.specs.PlainDocs.{plain_doc}
-use Rattle.pv_tree.specs.Walking.{lists_left}
+use Rattle.pv_tree.specs.ListWalks.{lists_left}
 use Rattle.pv_cache.specs.Rows.{rows_of}
 use Rattle.pv_cache.proofs.MarkedWalks.{row_by}
 use Rattle.pv_cache.proofs.rows.rows_of.Given as goal

@@ -1,5 +1,5 @@
 use Rattle.pv_tree.specs.PlainDocs.{plain_doc}
-use Rattle.pv_tree.specs.Walking.{lists_left, path_come_to}
+use Rattle.pv_tree.specs.ListWalks.{lists_left, path_come_to}
 use Rattle.pv_tree.specs.Walks.{marked_list}
 use Rattle.pv_cache.specs.WellMarked.{verdicts_told}
 use Rattle.pv_cache.proofs.MarkedWalks.{told_next, verdict_by, verdicts_by}

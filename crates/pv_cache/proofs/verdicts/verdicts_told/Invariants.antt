@@ -1,6 +1,6 @@
 use Rattle.std.proofs.Common.{length, map, ◌++◌, ◌≡◌}
 use Rattle.pv_tree.specs.PlainDocs.{plain_doc}
-use Rattle.pv_tree.specs.Walking.{lists_left}
+use Rattle.pv_tree.specs.ListWalks.{lists_left}
 use Rattle.pv_cache.specs.WellMarked.{verdicts_told}
 use Rattle.pv_cache.proofs.MarkedWalks.{verdict_by}
 use Rattle.pv_cache.proofs.verdicts.verdicts_told.Given as goal

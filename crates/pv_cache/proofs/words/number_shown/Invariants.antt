@@ -1,5 +1,5 @@
 use Rattle.std.proofs.Common.{◌≡◌, ◌+◌, ◌≤◌, drop}
-use Rattle.pv_cache.specs.Shown.{number_shown}
+use Rattle.pv_cache.specs.ShownKids.{number_shown}
 use Rattle.pv_cache.proofs.words.number_shown.Given as goal
 
 -- those so far, and those that are left

@@ -1,6 +1,6 @@
 use Rattle.std.proofs.Common.{◌≡◌, ◌++◌, drop}
 use Rattle.pv_tree.specs.PlainForms.{forest}
-use Rattle.pv_cache.specs.Shown.{shown_of}
+use Rattle.pv_cache.specs.ShownKids.{shown_of}
 use Rattle.pv_cache.proofs.words.shown_of.Given as goal
 
 -- those so far, and those that are left

@@ -1,5 +1,5 @@
 use Rattle.std.proofs.Common.{Bool, List, ap, arith, length, take}
-use Rattle.pv_cache.specs.Shown.{number_shown}
+use Rattle.pv_cache.specs.ShownKids.{number_shown}
 use Rattle.pv_cache.proofs.SplicedTokens.{number-front, number-order}
 use Rattle.pv_cache.proofs.words.spliced_tokens.Goals as goal
 

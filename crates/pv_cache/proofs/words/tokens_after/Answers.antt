@@ -3,7 +3,7 @@ use Rattle.std.specs.List.{between}
 use Rattle.std.proofs.lemmas.List.{take_rest}
 use Rattle.pv_dtd.specs.PlainForms.{plain_dtd}
 use Rattle.pv_edit.specs.Changes.{in_place_of}
-use Rattle.pv_edit.specs.Fitting.{plain_filling}
+use Rattle.pv_edit.specs.FittingChanges.{plain_filling}
 use Rattle.pv_edit.proofs.FilledKids.{slice_plain}
 use Rattle.pv_tree.specs.PlainForms.{plain_all}
 use Rattle.pv_cache.proofs.JoinedWords.{bare-after}

@@ -1,7 +1,7 @@
 use Rattle.std.proofs.Common.{List, ℕ}
 use Rattle.pv_chars.proofs.Options.{match_none}
 use Rattle.pv_cert.specs.Fronts.{IsSpanThen}
-use Rattle.pv_cert.proofs.EntriesAt.{no-from, no-to, no-value, span-then}
+use Rattle.pv_cert.proofs.EntryFronts.{no-from, no-to, no-value, span-then}
 use Rattle.pv_cert.proofs.entries.span_and_value.Goals as goal
 
 pub returns-in_err-from : goal.returns-in_err-from

@@ -1,6 +1,6 @@
 use Rattle.std.proofs.Common.{ap, length, arith, ◌∷◌, []}
 use Rattle.std.proofs.lemmas.List.{length-append}
-use Rattle.pv_cert.proofs.Stands.{marks-more}
+use Rattle.pv_cert.proofs.LineSequences.{marks-more}
 use Rattle.pv_cert.proofs.reading.read_marks.Goals as goal
 
 pub marks-preserved : goal.marks-preserved

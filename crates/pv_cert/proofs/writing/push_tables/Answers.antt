@@ -1,4 +1,4 @@
-use Rattle.pv_cert.proofs.Written.{table-written}
+use Rattle.pv_cert.proofs.WrittenPacks.{table-written}
 use Rattle.pv_cert.proofs.writing.push_tables.Goals as goal
 
 pub loop-table-preserved : goal.loop-table-preserved

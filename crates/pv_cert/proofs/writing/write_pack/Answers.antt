@@ -1,4 +1,4 @@
-use Rattle.pv_cert.proofs.Written.{pack-written}
+use Rattle.pv_cert.proofs.WrittenPacks.{pack-written}
 use Rattle.pv_cert.proofs.writing.write_pack.Goals as goal
 
 pub returns-clause-spelled : goal.returns-clause-spelled

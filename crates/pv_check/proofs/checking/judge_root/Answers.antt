@@ -3,7 +3,7 @@ use Rattle.pv_productive.specs.PlainForms.{dtd_of}
 use Rattle.pv_tree.specs.Lists.{lists_at, the_document}
 use Rattle.pv_tree.specs.Plain.{no_trees, tree}
 use Rattle.pv_missing.proofs.ListPaths.{root_site}
-use Rattle.pv_check.proofs.ByWord.{judged_as, placed_there}
+use Rattle.pv_check.proofs.ListsByWords.{judged_as, placed_there}
 use Rattle.pv_check.proofs.checking.judge_root.Goals as goal
 
 pub add-requires-clause-few_lists : goal.add-requires-clause-few_lists
@@ -21,13 +21,14 @@ add-requires-clause-few_possible c =
 
 pub returns : goal.returns
 returns c = λ t r.
+    let s = c.args.widths in
     let d = dtd_of c.args.judge.now in
     let root = c.args.root.now in
     let site = root_site _ d root _ (c.dtd.ensures ∙ ap dtd_of c.grammar.ensures) c.root_owner-owner.ensures.owner in
-    let judges = judged_as d root (record {
+    let judges = judged_as s d root (record {
       path = [];
       owner = the_document;
       kids = tree t no_trees;
     }) c.in_ok-judged.judged _ _ _ (t, refl) (sym site) (sym r.has_root.is_word) refl
     c.in_ok-judged.ensures in
-    c.in_ok-add.ensures d root [] (lists_at (0 ∷ []) t) (record { path = []; owner = the_document; kids = tree t no_trees }) r.has_root.finds tt judges (placed_there c.in_ok-judged.judged [])
+    c.in_ok-add.ensures s d root [] (lists_at (0 ∷ []) t) (record { path = []; owner = the_document; kids = tree t no_trees }) r.has_root.finds tt judges (placed_there c.in_ok-judged.judged [])

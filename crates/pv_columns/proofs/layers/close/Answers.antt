@@ -1,5 +1,5 @@
 use Rattle.std.proofs.Common.{refl}
-use Rattle.pv_columns.specs.Flowing.{flows_seed}
+use Rattle.pv_columns.specs.EdgeFlows.{flows_seed}
 use Rattle.pv_columns.proofs.EdgeJoins.{flows_in}
 use Rattle.pv_columns.proofs.layers.close.Goals as goal
 

@@ -1,6 +1,6 @@
 use Rattle.std.proofs.Common.{length, ◌≡◌}
 use Rattle.pv_columns.specs.Bits.{room}
-use Rattle.pv_columns.specs.Flowing.{AreAttained, Grow}
+use Rattle.pv_columns.specs.EdgeFlows.{AreAttained, Grow}
 use Rattle.pv_columns.proofs.layers.close.Given as goal
 
 abbrev pub invariant-loop : goal.invariant-loop

@@ -1,6 +1,6 @@
 use Rattle.std.proofs.Common.{Contains, List, arith, get_or, subst, sym, true≢false, ℕ, ◌∙◌, ◌≡◌}
 use Rattle.std.proofs.lemmas.List.{get_or_default}
-use Rattle.pv_columns.specs.Flowing.{Holds, Joins}
+use Rattle.pv_columns.specs.EdgeFlows.{Holds, Joins}
 use Rattle.pv_columns.specs.declared.layers.Edge.{Edge}
 use Rattle.pv_columns.proofs.EdgeJoins.{holds_more, joins_attained, joins_grow, joins_hold}
 use Rattle.pv_columns.proofs.layers.raise.Goals as goal

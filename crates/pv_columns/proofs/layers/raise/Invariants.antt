@@ -1,6 +1,6 @@
 use Rattle.std.proofs.Common.{List, false, get_or, length, true, ℕ, ◌<◌, ◌≡◌, ◌≤◌}
 use Rattle.pv_columns.specs.Bits.{room}
-use Rattle.pv_columns.specs.Flowing.{AreAttained, Grow, Holds}
+use Rattle.pv_columns.specs.EdgeFlows.{AreAttained, Grow, Holds}
 use Rattle.pv_columns.specs.declared.layers.Edge.{Edge}
 use Rattle.pv_columns.proofs.layers.raise.Given as goal
 

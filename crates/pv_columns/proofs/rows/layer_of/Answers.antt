@@ -1,7 +1,7 @@
 use Rattle.std.proofs.Common.{List, arith, drop, length, subst, sym, take, ℕ, ◌++◌, ◌∙◌, ◌≡◌, ap}
 use Rattle.std.proofs.lemmas.Grind.{common_steps}
 use Rattle.pv_columns.specs.Bits.{HasIn}
-use Rattle.pv_columns.specs.Flowing.{Flows, EdgesInRange}
+use Rattle.pv_columns.specs.EdgeFlows.{Flows, EdgesInRange}
 use Rattle.pv_columns.proofs.EdgesAndSeeds.{in_range, is_layer}
 use Rattle.pv_columns.proofs.rows.layer_of.Goals as goal
 

@@ -1,7 +1,7 @@
 use Rattle.std.proofs.Common.{Contains, List, arith, drop, get_or, inl, inr, length, subst, sym, take, ℕ, ◌++◌, ◌∙◌, ◌≡◌, ◌⊎◌}
 use Rattle.std.proofs.lemmas.Grind.{common_steps}
 use Rattle.pv_columns.specs.Bits.{HasIn}
-use Rattle.pv_columns.specs.Flowing.{Grow}
+use Rattle.pv_columns.specs.EdgeFlows.{Grow}
 use Rattle.pv_columns.specs.Rows.{HasSeed, IsSeedOf}
 use Rattle.pv_columns.proofs.ClosedMarks.{holds_more}
 use Rattle.pv_columns.proofs.EdgesAndSeeds.{seed_grow}

@@ -1,6 +1,6 @@
 use Rattle.std.proofs.Common.{◌≡◌, Err, arith, refl}
 use Rattle.std.proofs.lemmas.Grind.{common_steps}
-use Rattle.pv_opening.specs.Judging.{judges_none, without_memory}
+use Rattle.pv_opening.specs.JudgedCounts.{judges_none, without_memory}
 use Rattle.pv_opening.specs.Stage.{short_of_memory}
 use Rattle.pv_opening.specs.declared.stop.Stop.TheVariants.{NoMemory}
 use Rattle.pv_commands.proofs.check.check.Goals as goal
@@ -17,8 +17,8 @@ returns-in_err-grammar-clause-checks g c =
 
 pub returns-clause-finds : goal.returns-clause-finds
 returns-clause-finds g c =
-    rw (c.in_ok-grammar.ensures, c.deref.ensures.value) at c.check_by.ensures.finds
+    rw (c.in_ok-grammar.ensures, c.deref.ensures.value) at c.check_under.ensures.finds
 
 pub returns-clause-checks : goal.returns-clause-checks
 returns-clause-checks g c =
-    rw (c.in_ok-grammar.ensures, c.deref.ensures.value) at c.check_by.ensures.checks
+    rw (c.in_ok-grammar.ensures, c.deref.ensures.value) at c.check_under.ensures.checks

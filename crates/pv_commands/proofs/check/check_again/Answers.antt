@@ -2,7 +2,7 @@ use Rattle.std.proofs.Common.{refl}
 use Rattle.pv_productive.specs.PlainForms.{dtd_of}
 use Rattle.pv_commands.specs.Check.{IsCheckCourse}
 use Rattle.pv_opening.specs.Documents.{OpensDocument, RefusesDocument, document_stage}
-use Rattle.pv_opening.specs.Judging.{CountsNoMore, lists_judged}
+use Rattle.pv_opening.specs.JudgedCounts.{CountsNoMore, lists_judged}
 use Rattle.pv_opening.specs.Possibility.{width_stage}
 use Rattle.pv_opening.specs.Stage.{beside}
 use Rattle.pv_opening.proofs.JudgedLists.{stops_first}

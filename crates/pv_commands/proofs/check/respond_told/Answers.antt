@@ -2,7 +2,7 @@ use Rattle.std.proofs.Common.{◌≡◌, ◌++◌, codes, refl, Result, Err, Ok}
 use Rattle.std.proofs.lemmas.Result.{err_from_is_err_and}
 use Rattle.pv_words.specs.Paths.{path_text}
 use Rattle.pv_commands.specs.Check.{TellsPossibility, is_no_more, is_possible}
-use Rattle.pv_opening.specs.Judging.{judges_all, judges_none}
+use Rattle.pv_opening.specs.JudgedCounts.{judges_all, judges_none}
 use Rattle.pv_opening.specs.Possibility.{AreAllNarrow, RefusesWidth, is_impossible, is_too_wide, width_stage}
 use Rattle.pv_opening.specs.Response.{plain_response, with_line}
 use Rattle.pv_opening.specs.Returns.{RefusesWith}

@@ -1,5 +1,5 @@
 use Rattle.std.proofs.Common.{◌≡◌, ◌⊎◌, inl, inr, ℕ, List, Ok, Err, refl, subst}
-use Rattle.pv_standoff.specs.Nested.{NestMeans}
+use Rattle.pv_standoff.specs.NestOutcomes.{NestMeans}
 use Rattle.pv_standoff.specs.declared.errors.NestError.{NestError}
 use Rattle.pv_standoff.specs.declared.errors.NestError.TheVariants.{NoMemory}
 use Rattle.pv_standoff.specs.declared.ranges.Range.{Range}

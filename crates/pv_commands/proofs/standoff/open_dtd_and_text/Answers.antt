@@ -3,7 +3,7 @@ use Rattle.std.proofs.lemmas.Result.{err_from_is_err_and}
 use Rattle.pv_dtd.specs.PlainForms.{plain_dtd}
 use Rattle.pv_opening.specs.Opening.{IsFile, dtd_file_stage}
 use Rattle.pv_commands.specs.Standoff.{text_file_stage}
-use Rattle.pv_opening.proofs.Both.{both_open, first_stops, second_stops}
+use Rattle.pv_opening.proofs.StagePairs.{both_open, first_stops, second_stops}
 use Rattle.pv_opening.proofs.Stages.{some_file}
 use Rattle.pv_commands.proofs.standoff.open_dtd_and_text.Goals as goal
 

@@ -5,7 +5,7 @@ use Rattle.pv_productive.specs.PlainForms.{dtd_of}
 use Rattle.pv_tree.specs.Plain.{PlainDoc}
 use Rattle.pv_tree.specs.PlainDocs.{plain_doc}
 use Rattle.pv_tree.specs.declared.nodes.Mark.{Mark}
-use Rattle.pv_opening.specs.Judging.{judges_all, judges_none}
+use Rattle.pv_opening.specs.JudgedCounts.{judges_all, judges_none}
 use Rattle.pv_opening.specs.Possibility.{width_stage}
 use Rattle.pv_opening.specs.Response.{plain_response}
 use Rattle.pv_opening.specs.Returns.{TakesCourse}

@@ -5,7 +5,7 @@ use Rattle.pv_commands.specs.Annotations.{AreTwo, plain_two, two_stage}
 use Rattle.pv_opening.specs.Opening.{IsFile}
 use Rattle.pv_commands.specs.Standoff.{ranges_file_stage}
 use Rattle.pv_commands.proofs.Annotations.{annotation_found, annotation_stopped, can_nest}
-use Rattle.pv_opening.proofs.Both.{both_open, first_stops, second_stops}
+use Rattle.pv_opening.proofs.StagePairs.{both_open, first_stops, second_stops}
 use Rattle.pv_opening.proofs.Stages.{some_file}
 use Rattle.pv_commands.proofs.standoff.standoff.Goals as goal
 

@@ -6,7 +6,7 @@ use Rattle.pv_tree.specs.Plain.{PlainDoc}
 use Rattle.pv_tree.specs.PlainDocs.{plain_doc}
 use Rattle.pv_tree.specs.declared.nodes.Mark.{Mark}
 use Rattle.pv_opening.specs.Course.{Course}
-use Rattle.pv_opening.specs.Judging.{CountsNoMore, judges_none, without_memory}
+use Rattle.pv_opening.specs.JudgedCounts.{CountsNoMore, judges_none, without_memory}
 use Rattle.pv_opening.specs.Possibility.{width_stage}
 use Rattle.pv_opening.specs.Stage.{beside, short_of_memory}
 use Rattle.pv_commands.specs.Standoff.{IsShownCourse, nested_lists, nesting_stage}

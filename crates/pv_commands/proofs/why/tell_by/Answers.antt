@@ -4,7 +4,7 @@ use Rattle.pv_productive.specs.PlainForms.{dtd_of}
 use Rattle.pv_dtd.specs.Plain.{PlainDtd}
 use Rattle.pv_tree.specs.Lists.{lists_of}
 use Rattle.pv_tree.specs.PlainDocs.{plain_doc}
-use Rattle.pv_opening.specs.Judging.{CountsJudged, CountsNoMore, judges_none, without_memory}
+use Rattle.pv_opening.specs.JudgedCounts.{CountsJudged, CountsNoMore, judges_none, without_memory}
 use Rattle.pv_opening.specs.Possibility.{width_stage}
 use Rattle.pv_opening.specs.Returns.{ending_of}
 use Rattle.pv_opening.specs.Stage.{short_of_memory}

@@ -2,7 +2,7 @@ use Rattle.std.proofs.Common.{refl}
 use Rattle.std.proofs.lemmas.Result.{err_from_is_err_and}
 use Rattle.pv_dtd.specs.PlainForms.{plain_dtd}
 use Rattle.pv_opening.specs.Documents.{document_stage}
-use Rattle.pv_opening.specs.Judging.{CountsNoMore, lists_judged}
+use Rattle.pv_opening.specs.JudgedCounts.{CountsNoMore, lists_judged}
 use Rattle.pv_opening.specs.Possibility.{width_stage}
 use Rattle.pv_opening.specs.Returns.{plain_opened}
 use Rattle.pv_opening.specs.Stage.{beside}

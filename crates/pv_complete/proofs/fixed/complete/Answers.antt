@@ -1,10 +1,10 @@
 use Rattle.std.proofs.Common.{IfErr}
 use Rattle.std.proofs.lemmas.Result.{IfErr-weaker, IfOk-weaker, err_from_is_err_and}
 use Rattle.pv_productive.specs.PlainForms.{dtd_of}
-use Rattle.pv_dtd.proofs.Proper.{proper}
+use Rattle.pv_dtd.proofs.ProperDtds.{proper}
 use Rattle.pv_tree.specs.PlainDocs.{plain_doc}
 use Rattle.pv_tree.specs.declared.nodes.Mark.{Mark}
-use Rattle.pv_complete.specs.Needing.{HasCause}
+use Rattle.pv_complete.specs.NeededElements.{HasCause}
 use Rattle.pv_complete.proofs.OneNeed.{memory_alone_stops}
 use Rattle.pv_complete.proofs.fixed.complete.Goals as goal
 

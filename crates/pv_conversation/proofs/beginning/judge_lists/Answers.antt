@@ -2,7 +2,7 @@ use Rattle.std.proofs.Common.{refl, subst}
 use Rattle.std.proofs.lemmas.Result.{err_from_is_err_and}
 use Rattle.pv_dtd.specs.Plain.{PlainDtd}
 use Rattle.pv_tree.specs.PlainDocs.{plain_doc}
-use Rattle.pv_opening.specs.Judging.{judges_all, judges_none}
+use Rattle.pv_opening.specs.JudgedCounts.{judges_all, judges_none}
 use Rattle.pv_opening.specs.Possibility.{AreAllNarrow, width_stage}
 use Rattle.pv_opening.specs.Returns.{StopsBy}
 use Rattle.pv_opening.proofs.JudgedLists.{stops_within}

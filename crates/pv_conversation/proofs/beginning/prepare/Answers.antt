@@ -3,7 +3,7 @@ use Rattle.std.proofs.lemmas.Result.{err_from_is_err_and}
 use Rattle.pv_dtd.specs.Plain.{PlainDtd}
 use Rattle.pv_tree.specs.Lists.{lists_of}
 use Rattle.pv_tree.specs.PlainDocs.{plain_doc}
-use Rattle.pv_opening.specs.Judging.{CountsJudged, CountsNoMore, judges_none, without_memory}
+use Rattle.pv_opening.specs.JudgedCounts.{CountsJudged, CountsNoMore, judges_none, without_memory}
 use Rattle.pv_opening.specs.Possibility.{width_stage}
 use Rattle.pv_opening.specs.Returns.{ending_of}
 use Rattle.pv_conversation.proofs.beginning.prepare.Goals as goal

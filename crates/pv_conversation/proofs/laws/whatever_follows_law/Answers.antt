@@ -1,4 +1,4 @@
-use Rattle.pv_conversation.proofs.GoingOn.{more_changes_nothing}
+use Rattle.pv_conversation.proofs.ContinuedScripts.{more_changes_nothing}
 use Rattle.pv_conversation.proofs.laws.whatever_follows_law.Goals as goal
 
 pub returns : goal.returns

@@ -1,4 +1,4 @@
-use Rattle.pv_conversation.specs.Missing.{TellsCompletion, is_not_completed}
+use Rattle.pv_conversation.specs.MissingReplies.{TellsCompletion, is_not_completed}
 use Rattle.pv_conversation.proofs.missing.completion_reply.Goals as goal
 
 pub returns-in-Some-clause-tells : goal.returns-in-Some-clause-tells

@@ -3,7 +3,7 @@ use Rattle.pv_productive.specs.PlainForms.{dtd_of}
 use Rattle.pv_tree.specs.Plain.{PlainDoc}
 use Rattle.pv_tree.specs.PlainDocs.{plain_doc}
 use Rattle.pv_tree.specs.Prolog.{IsProlog}
-use Rattle.pv_conversation.specs.Missing.{is_completed}
+use Rattle.pv_conversation.specs.MissingReplies.{is_completed}
 use Rattle.pv_conversation.proofs.Completions.{completion_told, grown_told, not_completed}
 use Rattle.pv_conversation.proofs.MissingElements.{cause_told, live_verdicts}
 use Rattle.pv_conversation.proofs.missing.completion_reply_by.Goals as goal

@@ -1,7 +1,7 @@
 use Rattle.std.proofs.Common.{Some, ap, sym, ◌∙◌, ◌≡◌}
 use Rattle.std.specs.Option.{option_copied}
 use Rattle.pv_script.specs.declared.replies.Reply.TheVariants as reply
-use Rattle.pv_conversation.specs.Missing.{is_impossible}
+use Rattle.pv_conversation.specs.MissingReplies.{is_impossible}
 use Rattle.pv_conversation.proofs.MissingElements.{told_impossible}
 use Rattle.pv_conversation.proofs.missing.impossible.Goals as goal
 

@@ -1,7 +1,7 @@
 use Rattle.std.proofs.Common.{refl}
 use Rattle.pv_productive.specs.PlainForms.{dtd_of}
 use Rattle.pv_tree.specs.PlainDocs.{plain_doc}
-use Rattle.pv_conversation.specs.Missing.{is_needed}
+use Rattle.pv_conversation.specs.MissingReplies.{is_needed}
 use Rattle.pv_conversation.proofs.Completions.{not_needed}
 use Rattle.pv_conversation.proofs.MissingElements.{cause_told, needs_told}
 use Rattle.pv_conversation.proofs.missing.need_reply_by.Goals as goal

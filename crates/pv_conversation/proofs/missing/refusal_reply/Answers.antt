@@ -1,6 +1,6 @@
 use Rattle.std.proofs.Common.{refl}
 use Rattle.std.proofs.Math.Logic.{∥∥₁_elim}
-use Rattle.pv_conversation.specs.Missing.{is_impossible, is_wide}
+use Rattle.pv_conversation.specs.MissingReplies.{is_impossible, is_wide}
 use Rattle.pv_conversation.proofs.MissingElements.{impossible_told, wide_for_weights}
 use Rattle.pv_conversation.proofs.missing.refusal_reply.Goals as goal
 

@@ -1,5 +1,5 @@
 use Rattle.std.proofs.Common.{◌++◌, refl}
-use Rattle.pv_opening.specs.Showing.{cut_off}
+use Rattle.pv_opening.specs.ShownCourses.{cut_off}
 use Rattle.pv_conversation.proofs.Replies.{front_behind}
 use Rattle.pv_conversation.proofs.talk.announce.Goals as goal
 

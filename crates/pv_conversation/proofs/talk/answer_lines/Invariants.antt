@@ -1,7 +1,7 @@
 use Rattle.std.proofs.Common.{◌≡◌, ◌+◌, ◌≤◌, length, true}
 use Rattle.pv_io.specs.Causes.{CountStays}
-use Rattle.pv_conversation.specs.Counting.{counted}
-use Rattle.pv_conversation.proofs.Piecewise.{GoesTo}
+use Rattle.pv_conversation.specs.CountedLines.{counted}
+use Rattle.pv_conversation.proofs.ConversationPieces.{GoesTo}
 use Rattle.pv_conversation.proofs.talk.answer_lines.Given as goal
 
 abbrev pub invariant-lines : goal.invariant-lines

@@ -1,6 +1,6 @@
 use Rattle.std.proofs.lemmas.Result.{err_from_is_err_and}
 use Rattle.pv_conversation.proofs.HeldReplies.{holds_cut, holds_written}
-use Rattle.pv_conversation.proofs.Piecewise.{fits_within, goes_on_as, goes_on_cut}
+use Rattle.pv_conversation.proofs.ConversationPieces.{fits_within, goes_on_as, goes_on_cut}
 use Rattle.pv_conversation.proofs.talk.answer_piece.Goals as goal
 
 pub returns-in_err-next-clause-next : goal.returns-in_err-next-clause-next

@@ -2,7 +2,7 @@ use Rattle.std.proofs.Common.{◌+◌, ◌≤◌, length, take, arith}
 use Rattle.std.proofs.lemmas.List.{length-take}
 use Rattle.std.proofs.lemmas.Result.{err_from_is_err_and}
 use Rattle.pv_conversation.specs.Script.{MAX_SCRIPT_BYTES}
-use Rattle.pv_conversation.proofs.Piecewise.{piece_beyond, piece_failed}
+use Rattle.pv_conversation.proofs.ConversationPieces.{piece_beyond, piece_failed}
 use Rattle.pv_conversation.proofs.talk.answer_within.Goals as goal
 
 pub returns-in_err-next-clause-next : goal.returns-in_err-next-clause-next

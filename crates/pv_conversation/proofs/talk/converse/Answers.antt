@@ -2,7 +2,7 @@ use Rattle.std.proofs.Common.{◌≡◌, ◌<◌, ◌≤◌, ◌++◌, [], false
 use Rattle.std.proofs.lemmas.Grind.{common_steps}
 use Rattle.std.proofs.lemmas.List.{length-append, length-take}
 use Rattle.pv_opening.specs.Course.{input_fault, output_fault}
-use Rattle.pv_opening.specs.Showing.{cut_off, wrote}
+use Rattle.pv_opening.specs.ShownCourses.{cut_off, wrote}
 use Rattle.pv_conversation.specs.Script.{MAX_SCRIPT_BYTES}
 use Rattle.pv_conversation.specs.Session.{all_told, limited}
 use Rattle.pv_conversation.proofs.Conversations.{asked_more, asked_none, asked_once, asked_within, has_course, no_room, not_at_end, writes_from}

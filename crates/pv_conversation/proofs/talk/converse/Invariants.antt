@@ -1,6 +1,6 @@
 use Rattle.std.proofs.Common.{vec_len}
-use Rattle.pv_conversation.specs.Counting.{counted}
-use Rattle.pv_conversation.proofs.Piecewise.{Talks}
+use Rattle.pv_conversation.specs.CountedLines.{counted}
+use Rattle.pv_conversation.proofs.ConversationPieces.{Talks}
 use Rattle.pv_conversation.proofs.talk.converse.Given as goal
 
 abbrev pub invariant-pieces : goal.invariant-pieces

@@ -4,7 +4,7 @@ use Rattle.std.proofs.lemmas.Result.{err_from_is_err_and}
 use Rattle.pv_conversation.specs.Session.{all_told}
 use Rattle.pv_conversation.proofs.ConversationLines.{ended_as, ends_with_all}
 use Rattle.pv_conversation.proofs.HeldReplies.{holds_cut, holds_written}
-use Rattle.pv_conversation.proofs.Piecewise.{last_answered, last_failed}
+use Rattle.pv_conversation.proofs.ConversationPieces.{last_answered, last_failed}
 use Rattle.pv_conversation.proofs.talk.finish.Goals as goal
 
 pub returns-in_err-answer_line-clause-finished : goal.returns-in_err-answer_line-clause-finished

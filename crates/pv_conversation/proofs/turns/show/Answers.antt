@@ -1,6 +1,6 @@
 use Rattle.std.proofs.Common.{◌≡◌, ap, ◌∙◌, refl, sym, ℕ}
 use Rattle.pv_cache.specs.Stamps.{stamp_of, stamps_of}
-use Rattle.pv_cache.proofs.Alike.{unmarked_as}
+use Rattle.pv_cache.proofs.RemarkedDocuments.{unmarked_as}
 use Rattle.pv_script.specs.declared.commands.Command.TheVariants.{Show as shows}
 use Rattle.pv_script.specs.declared.replies.Reply.TheVariants.{Show}
 use Rattle.pv_tree.specs.PlainDocs.{plain_doc}

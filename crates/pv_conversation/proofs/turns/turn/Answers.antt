@@ -4,7 +4,7 @@ use Rattle.pv_script.specs.declared.commands.Command.{Command}
 use Rattle.pv_script.specs.declared.replies.Reply.TheVariants.{NoCommand}
 use Rattle.pv_session.specs.Sessions.{PlainSession}
 use Rattle.pv_conversation.specs.declared.answers.Answer.{Answer}
-use Rattle.pv_conversation.specs.Counting.{CountsOneLine, counts_move, counts_nothing, is_move}
+use Rattle.pv_conversation.specs.CountedLines.{CountsOneLine, counts_move, counts_nothing, is_move}
 use Rattle.pv_conversation.specs.Session.{unknown, known}
 use Rattle.pv_conversation.specs.Turns.{IsFollowed, IsTurn}
 use Rattle.pv_conversation.proofs.turns.turn.Goals as goal

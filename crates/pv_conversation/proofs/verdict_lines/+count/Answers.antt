@@ -1,5 +1,5 @@
 use Rattle.std.proofs.Common.{ap, arith, drop, ◌≡◌, ◌≤◌}
-use Rattle.pv_cache.specs.Laying.{lists_in_all}
+use Rattle.pv_cache.specs.LaidMarks.{lists_in_all}
 use Rattle.pv_tree.specs.Legal.{MAX_NODES}
 use Rattle.pv_tree.specs.Plain.{element, no_trees, nodes_in, nodes_in_all}
 use Rattle.pv_tree.specs.PlainForms.{forest, plain_end}

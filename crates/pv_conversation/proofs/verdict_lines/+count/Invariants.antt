@@ -1,5 +1,5 @@
 use Rattle.std.proofs.Common.{drop, ◌*◌, ◌+◌, ◌≡◌, ◌≤◌}
-use Rattle.pv_cache.specs.Laying.{lists_in_all}
+use Rattle.pv_cache.specs.LaidMarks.{lists_in_all}
 use Rattle.pv_tree.specs.Plain.{nodes_in, nodes_in_all}
 use Rattle.pv_tree.specs.PlainForms.{forest, plain}
 use Rattle.pv_conversation.proofs.verdict_lines.+count.Given as goal

@@ -1,6 +1,6 @@
 use Rattle.std.proofs.Common.{List, ap, arith, codes, decimal, suc, ℕ, ◌+◌, ◌++◌, ◌∙◌, ◌≡◌}
 use Rattle.std.proofs.lemmas.Result.{err_from_is_err_and, on_err_weaker, on_ok_weaker}
-use Rattle.pv_cache.specs.Laying.{lists_in}
+use Rattle.pv_cache.specs.LaidMarks.{lists_in}
 use Rattle.pv_tree.specs.PlainForms.{plain}
 use Rattle.pv_conversation.specs.VerdictLines.{verdict_line, verdict_lines, verdicts_head}
 use Rattle.pv_conversation.proofs.HeldReplies.{cut_first, cut_then, put_then}

@@ -9,7 +9,7 @@ use Rattle.pv_missing.specs.LiveWords.{IsLiveWord}
 use Rattle.pv_missing.specs.PlainForms.{plain_of}
 use Rattle.pv_missing.specs.Widths.{FitsVerdict}
 use Rattle.pv_model.specs.declared.models.Token.{Token}
-use Rattle.pv_denial.specs.Judging.{JudgesRows}
+use Rattle.pv_denial.specs.Judgements.{JudgesRows}
 use Rattle.pv_denial.specs.declared.denials.Row.{Row}
 use Rattle.pv_denial.proofs.ListJudgements.{live_fits, live_known, no_owner, rows_judged}
 use Rattle.pv_denial.proofs.judging.judge_word.Goals as goal

@@ -1,4 +1,4 @@
-use Rattle.pv_denial.proofs.NotLive.{denied}
+use Rattle.pv_denial.proofs.DeniedLists.{denied}
 use Rattle.pv_denial.proofs.laws.denied_law.Goals as goal
 
 pub returns : goal.returns

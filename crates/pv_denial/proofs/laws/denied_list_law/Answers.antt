@@ -1,4 +1,4 @@
-use Rattle.pv_denial.proofs.NotLive.{denied_list}
+use Rattle.pv_denial.proofs.DeniedLists.{denied_list}
 use Rattle.pv_denial.proofs.laws.denied_list_law.Goals as goal
 
 pub returns : goal.returns

@@ -1,7 +1,7 @@
 use Rattle.std.proofs.Common.{ap, arith, inl, inr, ◌∙◌}
 use Rattle.pv_dtd.specs.Plain.{PlainDtd, declared}
 use Rattle.pv_productive.specs.PlainForms.{dtd_of}
-use Rattle.pv_denial.proofs.Most.{most_all, most_more, most_none}
+use Rattle.pv_denial.proofs.MostOfNames.{most_all, most_more, most_none}
 use Rattle.pv_denial.proofs.names.most_at.Goals as goal
 use Rattle.pv_denial.proofs.names.most_at.Goals.{else-most-past, then-most-past}
 

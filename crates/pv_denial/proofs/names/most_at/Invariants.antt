@@ -1,4 +1,4 @@
-use Rattle.pv_denial.proofs.Most.{IsMostTo}
+use Rattle.pv_denial.proofs.MostOfNames.{IsMostTo}
 use Rattle.pv_denial.proofs.names.most_at.Given as goal
 
 abbrev pub invariant-loop-name : goal.invariant-loop-name

@@ -2,7 +2,7 @@ use Rattle.std.proofs.Common.{List, Some, [], ap, arith, length, slice_get, subs
 use Rattle.std.proofs.lemmas.List.{length-append}
 use Rattle.pv_productive.specs.PlainForms.{dtd_of}
 use Rattle.pv_denial.specs.RowForms.{IsMost}
-use Rattle.pv_denial.proofs.Most.{mosts_more}
+use Rattle.pv_denial.proofs.MostOfNames.{mosts_more}
 use Rattle.pv_denial.proofs.names.most_of_names.Goals as goal
 
 pub loop-place-preserved : goal.loop-place-preserved

@@ -2,7 +2,7 @@ use Rattle.std.proofs.Common.{arith, length, refl}
 use Rattle.std.proofs.lemmas.Option.{slice_get_within}
 use Rattle.pv_rules.specs.Sites.{content_site}
 use Rattle.pv_productive.specs.PlainForms.{dtd_of}
-use Rattle.pv_denial.proofs.Most.{names_by_most}
+use Rattle.pv_denial.proofs.MostOfNames.{names_by_most}
 use Rattle.pv_denial.proofs.rules.names_hold.Goals as goal
 
 pub returns : goal.returns

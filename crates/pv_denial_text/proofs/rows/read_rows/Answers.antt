@@ -3,7 +3,7 @@ use Rattle.std.proofs.lemmas.List.{length-append}
 use Rattle.pv_denial.specs.Rows.{values_in}
 use Rattle.pv_denial.proofs.ListJudgements.{matched_none}
 use Rattle.pv_denial_text.proofs.RowLines.{more-behind-end, no-end, row-read, short-end, too-many}
-use Rattle.pv_denial_text.proofs.Stands.{values-more}
+use Rattle.pv_denial_text.proofs.LineSequences.{values-more}
 use Rattle.pv_denial_text.proofs.rows.read_rows.Goals as goal
 
 few-by : (n room most : ℕ) → room + n ≡ most → n ≤ most

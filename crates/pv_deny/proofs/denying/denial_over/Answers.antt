@@ -2,7 +2,7 @@ use Rattle.std.proofs.Common.{refl}
 use Rattle.pv_productive.specs.PlainForms.{dtd_of}
 use Rattle.pv_tree.specs.PlainDocs.{plain_doc}
 use Rattle.pv_denial.proofs.ListJudgements.{matched_none, matched_some}
-use Rattle.pv_deny.proofs.AtPaths.{denial_there, fits, stands_there, too_many_there}
+use Rattle.pv_deny.proofs.DenialsAtPaths.{denial_there, fits, stands_there, too_many_there}
 use Rattle.pv_deny.proofs.denying.denial_over.Goals as goal
 
 pub unreachable-requires : goal.unreachable-requires

@@ -2,7 +2,7 @@ use Rattle.std.proofs.Common.{subst}
 use Rattle.pv_dtd.specs.Proper.{IsProperDtd}
 use Rattle.pv_productive.specs.PlainForms.{dtd_of}
 use Rattle.pv_tree.specs.PlainDocs.{plain_doc}
-use Rattle.pv_deny.proofs.AtPaths.{answers_result}
+use Rattle.pv_deny.proofs.DenialsAtPaths.{answers_result}
 use Rattle.pv_deny.proofs.fixed.deny.Goals as goal
 
 pub returns-clause-exactly : goal.returns-clause-exactly

@@ -1,4 +1,4 @@
-use Rattle.pv_deny.proofs.Furthest.{furthest_barrier}
+use Rattle.pv_deny.proofs.FurthestPlaces.{furthest_barrier}
 use Rattle.pv_deny.proofs.laws.furthest_barrier_law.Goals as goal
 
 pub returns : goal.returns

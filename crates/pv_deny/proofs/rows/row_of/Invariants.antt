@@ -1,6 +1,6 @@
 use Rattle.std.proofs.Common.{Some, length, slice_get, ℕ, ◌≡◌}
 use Rattle.pv_rules.specs.PlainForms.{plain_site}
-use Rattle.pv_reach.specs.Ending.{end_told}
+use Rattle.pv_reach.specs.FurthestEnds.{end_told}
 use Rattle.pv_deny.proofs.rows.row_of.Given as goal
 
 abbrev pub invariant-loop-from : goal.invariant-loop-from

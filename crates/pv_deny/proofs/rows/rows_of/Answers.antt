@@ -3,7 +3,7 @@ use Rattle.std.proofs.lemmas.List.{length-append}
 use Rattle.std.proofs.lemmas.Option.{slice_get-get_or}
 use Rattle.pv_rules.specs.declared.sites.Site.{Site}
 use Rattle.pv_denial.specs.declared.denials.Row.{Row}
-use Rattle.pv_deny.specs.Told.{IsToldRow}
+use Rattle.pv_deny.specs.ToldRows.{IsToldRow}
 use Rattle.pv_deny.proofs.RowFacts.{row_more}
 use Rattle.pv_deny.proofs.rows.rows_of.Goals as goal
 

@@ -1,7 +1,7 @@
 use Rattle.std.proofs.Common.{Some, length, slice_get, ℕ, ◌≡◌}
 use Rattle.pv_rules.specs.declared.sites.Site.{Site}
 use Rattle.pv_denial.specs.declared.denials.Row.{Row}
-use Rattle.pv_deny.specs.Told.{IsToldRow}
+use Rattle.pv_deny.specs.ToldRows.{IsToldRow}
 use Rattle.pv_deny.proofs.rows.rows_of.Given as goal
 
 abbrev pub invariant-loop-site : goal.invariant-loop-site

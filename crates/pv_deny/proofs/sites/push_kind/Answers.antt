@@ -2,7 +2,7 @@ use Rattle.std.proofs.Common.{List, Vec, ap, subst, sym, true≢false, ◌+◌, 
 use Rattle.std.specs.declared.alloc.Global.{Global}
 use Rattle.pv_rules.specs.declared.sites.Site.{Site}
 use Rattle.pv_productive.specs.PlainForms.{dtd_of}
-use Rattle.pv_deny.specs.Told.{AreToldSites, rank_of, site_by}
+use Rattle.pv_deny.specs.ToldRows.{AreToldSites, rank_of, site_by}
 use Rattle.pv_deny.proofs.ToldSites.{by_number, by_rank, one_skipped, one_told, told_at}
 use Rattle.pv_deny.proofs.sites.push_kind.Goals as goal
 use Rattle.pv_deny.proofs.sites.push_kind.Goals.{then-is_told+in_ok-push, else-is_told}

@@ -1,5 +1,5 @@
 use Rattle.pv_productive.specs.PlainForms.{dtd_of}
-use Rattle.pv_deny.specs.Told.{AreToldSites, rank_of}
+use Rattle.pv_deny.specs.ToldRows.{AreToldSites, rank_of}
 use Rattle.pv_deny.proofs.sites.push_kind.Given as goal
 
 abbrev pub invariant-loop-number : goal.invariant-loop-number

@@ -1,4 +1,4 @@
-use Rattle.pv_dtd.proofs.Proper.{proper}
+use Rattle.pv_dtd.proofs.ProperDtds.{proper}
 use Rattle.pv_dtd.proofs.laws.proper_dtd_law.Goals as goal
 
 pub returns : goal.returns

@@ -9,7 +9,7 @@ use Rattle.pv_dtd.specs.declared.items.SpelledPart.{the_lemmas}
 use Rattle.pv_dtd.specs.declared.items.SpelledPart.{Name as SpelledName}
 use Rattle.pv_dtd.specs.Items.{name}
 use Rattle.pv_dtd.specs.Numbering.{with_numbers, number_among}
-use Rattle.pv_dtd.specs.Naming.{AreFirstIn}
+use Rattle.pv_dtd.specs.NameOrder.{AreFirstIn}
 use Rattle.pv_dtd.proofs.GrowingNames.{number_stays, parts_step}
 use Rattle.pv_dtd.proofs.numbering.+numbering.Goals as goal
 

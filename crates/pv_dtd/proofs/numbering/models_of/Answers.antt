@@ -2,7 +2,7 @@ use Rattle.std.proofs.Common.{◌++◌, ◌∷◌, [], take, map, sym, ap, ◌�
 use Rattle.std.proofs.lemmas.List.{take_more, take_all}
 use Rattle.pv_model.specs.PlainForms.{plain_model}
 use Rattle.pv_dtd.specs.NamedForms.{named_model}
-use Rattle.pv_dtd.specs.Naming.{NumbersModels}
+use Rattle.pv_dtd.specs.NameOrder.{NumbersModels}
 use Rattle.pv_dtd.proofs.GrowingNames.{models_step}
 use Rattle.pv_dtd.proofs.numbering.models_of.Goals as goal
 

@@ -2,7 +2,7 @@ use Rattle.std.proofs.Common.{◌≡◌, map, take}
 use Rattle.pv_model.specs.PlainForms.{plain_model}
 use Rattle.pv_dtd.specs.Items.{mentioned_in}
 use Rattle.pv_dtd.specs.NamedForms.{named_model}
-use Rattle.pv_dtd.specs.Naming.{with_names, NumbersModels}
+use Rattle.pv_dtd.specs.NameOrder.{with_names, NumbersModels}
 use Rattle.pv_dtd.proofs.numbering.models_of.Given as goal
 
 abbrev pub invariant-loop-model : goal.invariant-loop-model

@@ -1,6 +1,6 @@
 use Rattle.std.proofs.Common.{◌≡◌, map, take}
 use Rattle.pv_model.specs.PlainForms.{numbers_of}
-use Rattle.pv_dtd.specs.Naming.{with_names, NumbersNames}
+use Rattle.pv_dtd.specs.NameOrder.{with_names, NumbersNames}
 use Rattle.pv_dtd.proofs.numbering.numbers_of.Given as goal
 
 abbrev pub invariant-loop-name : goal.invariant-loop-name

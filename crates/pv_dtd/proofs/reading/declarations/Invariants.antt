@@ -1,6 +1,6 @@
 use Rattle.std.proofs.Common.{length, map}
 use Rattle.pv_dtd.specs.NamedForms.{named_model}
-use Rattle.pv_dtd.proofs.SoFar.{AreSoFar}
+use Rattle.pv_dtd.proofs.ItemsSoFar.{AreSoFar}
 use Rattle.pv_dtd.proofs.reading.declarations.Given as goal
 
 abbrev pub invariant-items : goal.invariant-items

@@ -3,7 +3,7 @@ use Rattle.pv_model.specs.PlainForms.{plain_model}
 use Rattle.pv_dtd.specs.Plain.{PlainDtd, parts_in_models}
 use Rattle.pv_dtd.specs.Items.{mentioned_in, models_in}
 use Rattle.pv_dtd.specs.NamedForms.{named_model}
-use Rattle.pv_dtd.specs.Naming.{with_names, NumbersModels}
+use Rattle.pv_dtd.specs.NameOrder.{with_names, NumbersModels}
 use Rattle.pv_dtd.proofs.ReaderAnswers.{numbered_are}
 use Rattle.pv_dtd.proofs.NumbersForNames.{parts_numbered}
 use Rattle.pv_dtd.proofs.reading.dtd_of.Goals as goal

@@ -4,7 +4,7 @@ use Rattle.std.proofs.lemmas.List.{map-append}
 use Rattle.std.specs.List.{list_any}
 use Rattle.std.specs.Str.{bytes_eq}
 use Rattle.pv_dtd.proofs.Places.{list_any-map}
-use Rattle.pv_dtd.proofs.Distinct.{are_new, new-distinct}
+use Rattle.pv_dtd.proofs.DistinctLists.{are_new, new-distinct}
 use Rattle.pv_dtd.proofs.rules.are_distinct.Goals as goal
 
 module _ {A : Type 0} (f : A → List ℕ) where

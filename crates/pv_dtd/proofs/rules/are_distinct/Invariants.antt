@@ -1,6 +1,6 @@
 use Rattle.std.proofs.Common.{◌≡◌, [], drop, map}
 use Rattle.std.specs.Str.{bytes_eq}
-use Rattle.pv_dtd.proofs.Distinct.{are_new}
+use Rattle.pv_dtd.proofs.DistinctLists.{are_new}
 use Rattle.pv_dtd.proofs.rules.are_distinct.Given as goal
 
 -- the names left are new after those seen where all differ

@@ -1,7 +1,7 @@
 use Rattle.std.proofs.Common.{◌∙◌, arith, [], rules}
 use Rattle.pv_tree.specs.PlainForms.{plain}
 use Rattle.pv_edit.specs.Changes.{owner_after}
-use Rattle.pv_edit.specs.Fitting.{TakesChange, if_made, plain_change}
+use Rattle.pv_edit.specs.FittingChanges.{TakesChange, if_made, plain_change}
 use Rattle.pv_edit.proofs.Levels.{first_spot, first_changed, put_back}
 use Rattle.pv_edit.proofs.descent.+change_below.Goals as goal
 

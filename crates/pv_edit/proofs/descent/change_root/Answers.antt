@@ -1,7 +1,7 @@
 use Rattle.std.proofs.Common.{[], ◌-◌, drop, length, take}
 use Rattle.pv_tree.specs.PlainForms.{plain}
 use Rattle.pv_edit.specs.Changes.{owner_after}
-use Rattle.pv_edit.specs.Fitting.{plain_change}
+use Rattle.pv_edit.specs.FittingChanges.{plain_change}
 use Rattle.pv_edit.proofs.Levels.{same_unless_made}
 use Rattle.pv_edit.proofs.descent.change_root.Goals as goal
 

@@ -1,7 +1,7 @@
 use Rattle.std.proofs.Common.{◌≡◌, ◌∙◌, ap, [], ◌∷◌, refl}
 use Rattle.std.proofs.lemmas.Result.{on_ok_weaker}
 use Rattle.pv_tree.specs.PlainForms.{plain, plain_all}
-use Rattle.pv_edit.specs.Fitting.{plain_change}
+use Rattle.pv_edit.specs.FittingChanges.{plain_change}
 use Rattle.pv_edit.specs.Changes.{list_after}
 use Rattle.pv_edit.proofs.Levels.{top_first}
 use Rattle.pv_edit.proofs.descent.change_top.Goals as goal

@@ -1,6 +1,6 @@
 use Rattle.std.proofs.Common.{◌≡◌, drop}
 use Rattle.std.specs.List.{list_any}
-use Rattle.pv_edit.specs.Given.{is_line_end}
+use Rattle.pv_edit.specs.GivenNames.{is_line_end}
 use Rattle.pv_edit.proofs.given.has_line_end.Given as goal
 
 abbrev pub invariant-loop-byte : goal.invariant-loop-byte

@@ -1,4 +1,4 @@
-use Rattle.pv_edit.proofs.KeptBack.{undone-lists}
+use Rattle.pv_edit.proofs.ListsKeptByUndo.{undone-lists}
 use Rattle.pv_edit.proofs.laws.other_lists_undone_law.Goals as goal
 
 pub returns : goal.returns

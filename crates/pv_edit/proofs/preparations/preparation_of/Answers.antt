@@ -1,7 +1,7 @@
 use Rattle.std.proofs.Common.{ap, ◌∙◌}
 use Rattle.pv_tree.specs.PlainForms.{plain}
 use Rattle.pv_tree.specs.Marks.{blank_mark}
-use Rattle.pv_edit.specs.Given.{is_new_text}
+use Rattle.pv_edit.specs.GivenNames.{is_new_text}
 use Rattle.pv_edit.proofs.PassedEdits.{set-given, add-given}
 use Rattle.pv_edit.proofs.preparations.preparation_of.Goals as goal
 

@@ -3,7 +3,7 @@ use Rattle.std.specs.Prelude.{nat_lt}
 use Rattle.pv_tree.specs.PlainForms.{plain}
 use Rattle.pv_tree.specs.Marks.{blank_mark}
 use Rattle.pv_edit.proofs.ListPlaces.{listed}
-use Rattle.pv_edit.proofs.Deep.{insert-deep}
+use Rattle.pv_edit.proofs.TooDeepChanges.{insert-deep}
 use Rattle.pv_edit.proofs.shapes.inserts_too_deep.Goals as goal
 
 pub returns : goal.returns

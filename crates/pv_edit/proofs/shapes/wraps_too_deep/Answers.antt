@@ -8,7 +8,7 @@ use Rattle.pv_tree.specs.Marks.{blank_mark}
 use Rattle.pv_edit.specs.Reasons.{kids_at}
 use Rattle.pv_edit.proofs.FilledKids.{slice_plain}
 use Rattle.pv_edit.proofs.ListPlaces.{listed}
-use Rattle.pv_edit.proofs.Deep.{wrap-deep, range-depth}
+use Rattle.pv_edit.proofs.TooDeepChanges.{wrap-deep, range-depth}
 use Rattle.pv_edit.proofs.shapes.wraps_too_deep.Goals as goal
 
 pub depth_of_all-inside-requires : goal.depth_of_all-inside-requires

@@ -1,4 +1,4 @@
-use Rattle.std.proofs.Common.{Some, arith, slice_get, subst, suc, sym, ℕ, ◌+◌, ◌-◌, ◌∙◌, ◌≡◌}
+use Rattle.std.proofs.Common.{Some, arith, slice_get, subst, suc, ℕ, ◌+◌, ◌-◌, ◌∙◌, ◌≡◌}
 use Rattle.std.proofs.lemmas.Result.{IfOk-weaker}
 use Rattle.pv_fresh.proofs.Lists.{come_there, left_by, there_next}
 use Rattle.pv_fresh.proofs.firsts.path_of_list.Goals as goal

@@ -1,7 +1,7 @@
-use Rattle.std.proofs.Common.{[], append-nil, append_assoc, refl, ◌∷◌, ◌≡◌}
+use Rattle.std.proofs.Common.{[], append-nil, append_assoc, refl, ◌∷◌}
 use Rattle.pv_productive.specs.PlainForms.{dtd_of}
 use Rattle.pv_tree.specs.PlainDocs.{plain_doc}
-use Rattle.pv_tree.specs.Walking.{path_come_to}
+use Rattle.pv_tree.specs.ListWalks.{path_come_to}
 use Rattle.pv_tree.specs.Walks.{list_given}
 use Rattle.pv_missing.specs.Verdicts.{IsVerdict}
 use Rattle.pv_fresh.proofs.Lists.{all_hold, come_to, come_to_none}

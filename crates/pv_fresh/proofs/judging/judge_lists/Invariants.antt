@@ -3,7 +3,7 @@ use Rattle.std.specs.List.{AllByRecursion}
 use Rattle.pv_productive.specs.PlainForms.{dtd_of}
 use Rattle.pv_tree.specs.Lists.{lists_of}
 use Rattle.pv_tree.specs.PlainDocs.{plain_doc}
-use Rattle.pv_tree.specs.Walking.{lists_left}
+use Rattle.pv_tree.specs.ListWalks.{lists_left}
 use Rattle.pv_tree.specs.declared.nodes.Verdict.{Verdict}
 use Rattle.pv_missing.specs.Verdicts.{AreVerdicts}
 use Rattle.pv_missing.specs.Widths.{IsListForVerdict}

@@ -1,7 +1,7 @@
 use Rattle.std.proofs.Common.{length, refl}
 use Rattle.pv_dtd.specs.PlainForms.{plain_dtd}
 use Rattle.pv_missing.specs.Widths.{FitsVerdict}
-use Rattle.pv_fresh.proofs.Narrow.{few_tokens, fits_less}
+use Rattle.pv_fresh.proofs.NarrowLists.{few_tokens, fits_less}
 use Rattle.pv_fresh.proofs.widths.is_list_narrow.Goals as goal
 
 pub returns-then-is_narrow : goal.returns-then-is_narrow

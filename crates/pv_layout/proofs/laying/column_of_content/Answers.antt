@@ -5,7 +5,7 @@ use Rattle.pv_rules.specs.Numbering.{first_part}
 use Rattle.pv_rules.proofs.FlatContents.{any_at, children_at, empty_at, mixed_at}
 use Rattle.pv_productive.specs.PlainForms.{dtd_of}
 use Rattle.pv_layout.specs.Columns.{AreColumns, column_at}
-use Rattle.pv_layout.proofs.Taken.{listed_columns, declared_columns}
+use Rattle.pv_layout.proofs.MemberColumns.{listed_columns, declared_columns}
 use Rattle.pv_layout.proofs.laying.column_of_content.Goals as goal
 
 pub columns_from-requires : goal.columns_from-requires

@@ -9,7 +9,7 @@ use Rattle.pv_layout.specs.FormForms.{plain_all}
 use Rattle.pv_layout.specs.Forms.{of_opt, of_plus, of_star}
 use Rattle.pv_layout.specs.Making.{IsMade}
 use Rattle.pv_layout.specs.SiteForms.{plain_sites}
-use Rattle.pv_layout.proofs.Laid.{seq_fits}
+use Rattle.pv_layout.proofs.LaidColumns.{seq_fits}
 use Rattle.pv_layout.proofs.laying.column_of_part.Goals as goal
 
 pub returns-in-Name-clause-fits : goal.returns-in-Name-clause-fits

@@ -7,7 +7,7 @@ use Rattle.pv_rules.proofs.FlatKinds.{followed_at, last_at, outside_at}
 use Rattle.pv_layout.specs.FormForms.{plain_all}
 use Rattle.pv_layout.specs.Making.{IsMade}
 use Rattle.pv_layout.specs.SiteForms.{plain_sites}
-use Rattle.pv_layout.proofs.Laid.{no_rest_fits}
+use Rattle.pv_layout.proofs.LaidColumns.{no_rest_fits}
 use Rattle.pv_layout.proofs.laying.column_of_rest.Goals as goal
 
 pub returns-in-Outside-clause-fits : goal.returns-in-Outside-clause-fits

@@ -1,6 +1,6 @@
 use Rattle.std.proofs.Common.{arith, ◌+◌, ◌≡◌}
 use Rattle.pv_layout.specs.Columns.{column_at}
-use Rattle.pv_layout.proofs.Taken.{numbers_more, numbers_none}
+use Rattle.pv_layout.proofs.MemberColumns.{numbers_more, numbers_none}
 use Rattle.pv_layout.proofs.laying.columns_from.Goals as goal
 
 pub loop-number-init : goal.loop-number-init

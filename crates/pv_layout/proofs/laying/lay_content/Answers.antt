@@ -3,7 +3,7 @@ use Rattle.pv_rules.proofs.FlatContents.{no_content}
 use Rattle.pv_productive.specs.PlainForms.{dtd_of}
 use Rattle.pv_layout.specs.FormForms.{plain_all}
 use Rattle.pv_layout.specs.SiteForms.{plain_sites}
-use Rattle.pv_layout.proofs.Laid.{content_laid, model_there}
+use Rattle.pv_layout.proofs.LaidColumns.{content_laid, model_there}
 use Rattle.pv_layout.proofs.laying.lay_content.Goals as goal
 
 pub unreachable-requires : goal.unreachable-requires

@@ -3,7 +3,7 @@ use Rattle.pv_rules.proofs.FlatKinds.{no_part}
 use Rattle.pv_productive.specs.PlainForms.{dtd_of}
 use Rattle.pv_layout.specs.FormForms.{plain_all}
 use Rattle.pv_layout.specs.SiteForms.{plain_sites}
-use Rattle.pv_layout.proofs.Laid.{part_laid, part_there}
+use Rattle.pv_layout.proofs.LaidColumns.{part_laid, part_there}
 use Rattle.pv_layout.proofs.laying.lay_part.Goals as goal
 
 pub unreachable-requires : goal.unreachable-requires

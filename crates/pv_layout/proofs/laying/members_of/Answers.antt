@@ -4,7 +4,7 @@ use Rattle.pv_rules.proofs.Members.{member_in, part_passed, passed_all, passed_f
 use Rattle.pv_productive.specs.PlainForms.{dtd_of}
 use Rattle.pv_layout.specs.ColumnRules.{IsOneOf}
 use Rattle.pv_layout.specs.Columns.{column_at}
-use Rattle.pv_layout.proofs.Taken.{among_more, among_this, only_more}
+use Rattle.pv_layout.proofs.MemberColumns.{among_more, among_this, only_more}
 use Rattle.pv_layout.proofs.laying.members_of.Goals as goal
 
 pub loop-member-init : goal.loop-member-init

@@ -1,5 +1,5 @@
 use Rattle.std.proofs.Common.{arith, length-append}
-use Rattle.pv_layout.proofs.Taken.{count_more}
+use Rattle.pv_layout.proofs.MemberColumns.{count_more}
 use Rattle.pv_layout.proofs.laying.numbers.Goals as goal
 
 pub loop-number-preserved : goal.loop-number-preserved

@@ -1,7 +1,7 @@
 use Rattle.std.proofs.Common.{ap}
 use Rattle.pv_layout.specs.Forms.{of_element}
 use Rattle.pv_layout.specs.declared.forms.Form.TheVariants as form
-use Rattle.pv_layout.proofs.Laid.{elements_more}
+use Rattle.pv_layout.proofs.LaidColumns.{elements_more}
 use Rattle.pv_layout.proofs.layout.all_forms.Goals as goal
 
 pub loop-name-preserved : goal.loop-name-preserved

@@ -1,6 +1,6 @@
 use Rattle.std.proofs.Common.{◌+◌, refl}
 use Rattle.std.proofs.lemmas.Result.{err_from_is_err_and}
-use Rattle.pv_lists.proofs.Taken.{none_read, grows, room, refused_at, one_more, last_one}
+use Rattle.pv_lists.proofs.RootItems.{none_read, grows, room, refused_at, one_more, last_one}
 use Rattle.pv_lists.proofs.content.read_content.Goals as goal
 
 pub items-init : goal.items-init

@@ -2,9 +2,9 @@ use Rattle.std.proofs.Common.{◌≡◌, ◌+◌, [], suc, length, arith}
 use Rattle.std.proofs.lemmas.Result.{err_from_is_err_and}
 use Rattle.pv_read.specs.Left.{in_content}
 use Rattle.pv_read.specs.PlainItems.{plain_item}
-use Rattle.pv_lists.proofs.Behind.{known_taken}
+use Rattle.pv_lists.proofs.FactsAfterItems.{known_taken}
 use Rattle.pv_lists.proofs.Stack.{inner_named}
-use Rattle.pv_lists.proofs.Taken.{place_is, item_stands}
+use Rattle.pv_lists.proofs.RootItems.{place_is, item_stands}
 use Rattle.pv_lists.proofs.content.read_item.Goals as goal
 
 pub item_in-requires-clause-named : goal.item_in-requires-clause-named

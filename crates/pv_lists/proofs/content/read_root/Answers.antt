@@ -6,8 +6,8 @@ use Rattle.pv_tree.specs.Plain.{short}
 use Rattle.pv_read.specs.Left.{in_content, just_opened}
 use Rattle.pv_read.specs.Meaning.{DocumentRestMeans}
 use Rattle.pv_lists.specs.Answers.{RefusesLists}
-use Rattle.pv_lists.proofs.Taken.{begun_room}
-use Rattle.pv_lists.proofs.Whole.{short_root}
+use Rattle.pv_lists.proofs.RootItems.{begun_room}
+use Rattle.pv_lists.proofs.WholeDocuments.{short_root}
 use Rattle.pv_lists.proofs.content.read_root.Goals as goal
 
 pub close-requires-clause-room : goal.close-requires-clause-room

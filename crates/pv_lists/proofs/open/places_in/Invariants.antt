@@ -1,5 +1,5 @@
 use Rattle.std.proofs.Common.{◌≡◌, ◌++◌, drop, map}
-use Rattle.pv_lists.specs.Judging.{path_in}
+use Rattle.pv_lists.specs.Judgements.{path_in}
 use Rattle.pv_lists.specs.declared.open.OpenList.{OpenList}
 use Rattle.pv_lists.proofs.open.places_in.Given as goal
 

@@ -6,7 +6,7 @@ use Rattle.pv_read.proofs.OneItem.{one_item}
 use Rattle.pv_read.proofs.PartsOfDocuments.{answers_error, refused_front, refused_end}
 use Rattle.pv_lists.specs.Answers.{limits_of}
 use Rattle.pv_lists.proofs.Refusals.{read_answered, root_refused}
-use Rattle.pv_lists.proofs.Whole.{the_doc, is_meant, of_any}
+use Rattle.pv_lists.proofs.WholeDocuments.{the_doc, is_meant, of_any}
 use Rattle.pv_lists.proofs.reading.read_lists.Goals as goal
 
 pub returns-then-bytes-most_bytes-clause-refused : goal.returns-then-bytes-most_bytes-clause-refused

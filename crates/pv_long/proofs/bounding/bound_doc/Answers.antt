@@ -1,9 +1,9 @@
-use Rattle.std.proofs.Common.{[], refl, ◌∷◌, ◌≡◌}
+use Rattle.std.proofs.Common.{[], refl, ◌∷◌}
 use Rattle.pv_productive.specs.PlainForms.{dtd_of}
-use Rattle.pv_tree.specs.Walking.{path_come_to}
+use Rattle.pv_tree.specs.ListWalks.{path_come_to}
 use Rattle.pv_tree.specs.Walks.{list_given}
 use Rattle.pv_fresh.proofs.Lists.{come_to, come_to_none, left_by}
-use Rattle.pv_long.specs.Bounding.{AreBounded}
+use Rattle.pv_long.specs.AddedBounds.{AreBounded}
 use Rattle.pv_long.proofs.BoundSums.{both_bounded, none_bounded}
 use Rattle.pv_long.proofs.bounding.bound_doc.Goals as goal
 
@@ -12,7 +12,7 @@ loop-lists-init c = λ last more. rw (c.none-found.ensures, c.of-lists.ensures.l
 
 pub loop-lists-preserved : goal.loop-lists-preserved
 loop-lists-preserved c = λ last more.
-    let d = dtd_of c.args.plan.now.layout.now.grammar.now in
+    let d = dtd_of c.args.known.now.layout.now.grammar.now in
     let root = c.args.root.now in
     let list = list_given (path_come_to c.next.new.self) c.in-Some.list in
     let old = c.loop-lists.found.least in
@@ -24,7 +24,7 @@ loop-lists-preserved c = λ last more.
 
 pub returns : goal.returns
 returns c =
-    let d = dtd_of c.args.plan.now.layout.now.grammar.now in
+    let d = dtd_of c.args.known.now.layout.now.grammar.now in
     let last = c.loop-lists.found.least in
     c.loop-lists.invariant last
     (rw (come_to_none c.loop-lists.lists c.next.new.self _ c.in_default.is c.in_ok-list.ensures.given) (none_bounded d c.args.root.now last))

@@ -1,5 +1,5 @@
 use Rattle.pv_dtd.specs.PlainForms.{plain_dtd}
-use Rattle.pv_long.proofs.Exact.{completion_text, wide_text}
+use Rattle.pv_long.proofs.ExactAnswers.{completion_text, wide_text}
 use Rattle.pv_long.proofs.checking.is_completion.Goals as goal
 
 pub returns-in-Ok : goal.returns-in-Ok

@@ -1,4 +1,4 @@
-use Rattle.pv_long.proofs.Exact.{one_least}
+use Rattle.pv_long.proofs.ExactAnswers.{one_least}
 use Rattle.pv_long.proofs.laws.one_least_law.Goals as goal
 
 pub returns : goal.returns

@@ -1,19 +1,27 @@
 use Rattle.std.proofs.Common.{arith}
-use Rattle.pv_dtd.proofs.Proper.{proper}
+use Rattle.pv_dtd.proofs.ProperDtds.{proper}
+use Rattle.pv_dtd.specs.PlainForms.{plain_dtd}
 use Rattle.pv_productive.specs.PlainForms.{dtd_of}
 use Rattle.pv_tree.specs.PlainDocs.{plain_doc}
-use Rattle.pv_long.proofs.Exact.{are_missing}
+use Rattle.pv_write.specs.PieceForms.{plain_lists}
+use Rattle.pv_long.proofs.ExactAnswers.{are_missing}
+use Rattle.pv_long.proofs.TaggedDocs.{written_with_tags}
 use Rattle.pv_long.proofs.telling.bounds_of.Goals as goal
 
 pub returns-clause-least : goal.returns-clause-least
 returns-clause-least c =
     are_missing (dtd_of c.args.grammar.now) c.args.root.now (plain_doc c.args.doc.now) c.bounds_add_up_law.ensures c.possible_missing_law.ensures c.in_ok-found.found.least c.in_ok-least.least
     c.args.verdicts.now.verdicts (proper c.args.grammar.now.layout.dtd) c.proper_doc_law.ensures
-    (rw (c.in_ok-plan.ensures, c.in_ok-layout.ensures) at c.in_ok-found.ensures)
+    (rw (c.in_ok-known.ensures, c.in_ok-layout.ensures) at c.in_ok-found.ensures)
     c.requires.possible.verdicts.are_verdicts c.in_ok-least.ensures
 
 pub returns-clause-lists : goal.returns-clause-lists
 returns-clause-lists c = omega (arith, c.in_ok-least.ensures)
 
 pub returns-clause-completion : goal.returns-clause-completion
-returns-clause-completion c = rw c.dtd-dtd.ensures at (c.in_ok-completion.ensures (plain_doc c.args.doc.now) c.requires.text c.in_ok-text.ensures)
+returns-clause-completion c =
+    let g = plain_dtd c.dtd-dtd.result.now in
+    let doc = plain_doc c.args.doc.now in
+    let written = written_with_tags g doc (plain_lists c.in_ok-found.found.pieces.items) c.in_ok-text.text.marks.items c.in_ok-text.text.body.items (rw c.deref-2.ensures.value at c.in_ok-text.ensures)
+    (rw c.deref.ensures.value at c.in_ok-check_tags.ensures) c.args.doc.now.formed in
+    rw c.dtd-dtd.ensures at (c.in_ok-completion.ensures doc c.requires.text written)

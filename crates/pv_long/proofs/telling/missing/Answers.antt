@@ -1,7 +1,7 @@
 use Rattle.std.proofs.lemmas.Result.{err_from_is_err_and}
 use Rattle.pv_productive.specs.PlainForms.{dtd_of}
 use Rattle.pv_tree.specs.PlainDocs.{plain_doc}
-use Rattle.pv_long.proofs.Exact.{tells_none}
+use Rattle.pv_long.proofs.ExactAnswers.{tells_none}
 use Rattle.pv_long.proofs.telling.missing.Goals as goal
 
 pub returns-in_err-missing_by-clause-refused : goal.returns-in_err-missing_by-clause-refused

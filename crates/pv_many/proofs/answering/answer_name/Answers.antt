@@ -3,7 +3,7 @@ use Rattle.std.proofs.lemmas.Result.{err_from_is_err_and}
 use Rattle.pv_opening.specs.Returns.{ending_of}
 use Rattle.pv_many.specs.Answers.{line_of}
 use Rattle.pv_many.proofs.Inputs.{appends_behind, front_before, front_behind}
-use Rattle.pv_many.proofs.Written.{on_err_as, on_ok_as}
+use Rattle.pv_many.proofs.CallResults.{on_err_as, on_ok_as}
 use Rattle.pv_many.proofs.answering.answer_name.Goals as goal
 
 pub returns-in_err-write_all-clause-err : goal.returns-in_err-write_all-clause-err

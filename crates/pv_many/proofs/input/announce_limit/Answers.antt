@@ -1,5 +1,5 @@
 use Rattle.std.proofs.Common.{◌++◌, codes, refl}
-use Rattle.pv_opening.specs.Showing.{cut_off}
+use Rattle.pv_opening.specs.ShownCourses.{cut_off}
 use Rattle.pv_many.proofs.Inputs.{front_behind}
 use Rattle.pv_many.proofs.input.announce_limit.Goals as goal
 

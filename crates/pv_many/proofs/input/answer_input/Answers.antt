@@ -1,13 +1,14 @@
-use Rattle.std.proofs.Common.{◌≡◌, ◌<◌, ◌++◌, [], length, take, refl, ◌∙◌, arith}
+use Rattle.std.proofs.Common.{◌≡◌, ◌≤◌, ◌<◌, ◌++◌, [], length, take, refl, ◌∙◌, arith}
 use Rattle.std.proofs.lemmas.Grind.{common_steps}
-use Rattle.std.proofs.lemmas.List.{length-take}
-use Rattle.pv_opening.specs.Showing.{cut_off, wrote}
+use Rattle.std.proofs.lemmas.List.{length-append, length-take}
+use Rattle.pv_opening.specs.ShownCourses.{cut_off, wrote}
+use Rattle.pv_many.specs.Many.{max_names_bytes}
 use Rattle.pv_many.proofs.NamedAnswers.{answers_none}
 use Rattle.pv_many.proofs.Inputs.{append_none, appends_none, asked_more, asked_none, asked_once, asked_within, consumes_kept, consumes_more}
 use Rattle.pv_many.proofs.Inputs.{consumes_none, has_course, no_room, not_at_end, piece_kept, writes_from}
 use Rattle.pv_many.proofs.NamesRead.{names_none}
 use Rattle.pv_many.proofs.Pieces.{cut_at, done_with, ended_all, ended_at_input, ended_at_last, ended_by_limit, ended_within, ended_without_memory}
-use Rattle.pv_many.proofs.Pieces.{failed_after, limited_after, reads_more, short_after}
+use Rattle.pv_many.proofs.Pieces.{failed_after, less_left, limited_after, reads_more, short_after}
 use Rattle.pv_many.proofs.input.answer_input.Goals as goal
 use Rattle.pv_many.proofs.input.answer_input.Goals.{in-Ok-answer_last, in-Err}
 
@@ -23,6 +24,7 @@ pieces-init g c = record {
     so_far = answers_none _ _ _ _ _ (appends_none _);
     taken = consumes_none _;
     asked = asked_none _;
+    few = refl;
   });
   input_stays = refl;
   stays = refl;
@@ -50,10 +52,11 @@ returns-then-count-eq0 g c =
     let room : 0 < length c.fill.new.buf = omega (arith, inv.roomy, c.deref_mut.ensures.len, c.fill.auto.buf) in
     let taken = rw (append_none _ _ none) at (consumes_more _ _ _ _ _ reads.taken bytes.0) in
     let counts = c.in-Ok-fill.ensures.cause ∙ inv.input_stays in
+    let within : length reads.script ≤ max_names_bytes = omega (arith, reads.few) in
     elim c.match-answer_last.branch [
       | in-Ok-answer_last w ↦
           let last = rw (inv.same_question, inv.same_dtd, c.deref.ensures.value) at w.in-Ok-answer_last.ensures.ok in
-          let ended = ended_all _ _ _ _ _ _ _ _ reads.script reads.answers reads.are_names reads.so_far _ _ last in
+          let ended = ended_all _ _ _ _ _ _ _ _ reads.script reads.answers reads.are_names reads.so_far _ _ within last in
           rw w.result-is (has_course _ _ _ reads.script ended.answers _ (done_with ended.answers) _
           _ _ _ _ _ _ ended.ends ended.so_far.answered ended.so_far.shelf
           taken (asked_once _ _ _ _ _ reads.asked c.fill.ensures.calls) (λ e. bytes.1 c.if-count-eq0.true room) (λ n. refl)
@@ -78,7 +81,16 @@ returns-then-count-left g c =
       c.in-Ok-fill.ensures.bound.1,
       c.if-count-eq0.false,
     ) in
-    let ended = ended_by_limit _ _ _ _ _ _ _ _ reads.script reads.answers reads.are_names reads.so_far piece in
+    let many : max_names_bytes < length (reads.script ++ piece) =
+    omega (
+      arith,
+      reads.few,
+      length-append reads.script piece,
+      length-take c.in-Ok-fill.count c.fill.new.buf,
+      c.in-Ok-fill.ensures.bound.1,
+      c.if-count-left.true,
+    ) in
+    let ended = ended_by_limit _ _ _ _ _ _ _ _ reads.script reads.answers reads.are_names reads.so_far piece many in
     has_course _ _ _ (reads.script ++ piece) ended.answers _ (limited_after ended.answers) _ _ _ _ _ _ _ ended.ends ended.so_far.answered ended.so_far.shelf
     (consumes_more _ _ _ _ _ reads.taken c.in-Ok-fill.ensures.bytes.0)
     (asked_within _ _ _ (asked_more reads.script _ _ _ _ _ reads.asked c.in-Ok-fill.ensures.calls c.if-count-eq0.false some)) (not_at_end _) (λ n. refl)
@@ -97,11 +109,15 @@ pieces-preserved g c =
       c.in-Ok-fill.ensures.bound.1,
       c.if-count-eq0.false,
     ) in
+    let within : c.in-Ok-fill.count ≤ c.pieces.left = omega (arith, c.if-count-left.false) in
+    let long : length (take c.in-Ok-fill.count c.fill.new.buf) ≡ c.in-Ok-fill.count =
+    omega (arith, length-take c.in-Ok-fill.count c.fill.new.buf, c.in-Ok-fill.ensures.bound.1) in
     let goes = rw (inv.same_question, inv.same_dtd, c.deref-in-pieces.ensures.value, kept) at c.in-Ok-answer_piece.ensures.ok in
     record {
-      reads = reads_more _ _ _ _ _ _ _ _ reads.script reads.answers reads.are_names reads.so_far (take c.in-Ok-fill.count c.fill.new.buf) _ _ _ _ _ _ _ goes
+      reads = reads_more _ _ _ _ _ _ _ _ reads.script reads.answers reads.are_names reads.so_far (take c.in-Ok-fill.count c.fill.new.buf) _ _ _ _ _ _ _ _ goes
           (consumes_more _ _ _ _ _ reads.taken c.in-Ok-fill.ensures.bytes.0)
-          (asked_more reads.script _ _ _ _ _ reads.asked c.in-Ok-fill.ensures.calls c.if-count-eq0.false some);
+          (asked_more reads.script _ _ _ _ _ reads.asked c.in-Ok-fill.ensures.calls c.if-count-eq0.false some)
+          (less_left c.pieces.left c.in-Ok-fill.count reads.script (take c.in-Ok-fill.count c.fill.new.buf) reads.few within long);
       input_stays = c.in-Ok-fill.ensures.cause ∙ inv.input_stays;
       stays = c.in-Ok-answer_piece.ensures.stays ∙ inv.stays;
       roomy = inv.roomy;

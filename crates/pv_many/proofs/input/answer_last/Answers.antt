@@ -1,5 +1,5 @@
 use Rattle.pv_many.proofs.Pieces.{some_held, these_last}
-use Rattle.pv_many.proofs.Written.{on_err_as, on_ok_as}
+use Rattle.pv_many.proofs.CallResults.{on_err_as, on_ok_as}
 use Rattle.pv_many.proofs.input.answer_last.Goals as goal
 
 pub returns-clause-ok : goal.returns-clause-ok

@@ -1,6 +1,6 @@
 use Rattle.pv_productive.specs.PlainForms.{dtd_of}
 use Rattle.pv_tree.specs.PlainForms.{forest}
-use Rattle.pv_missing.proofs.Known.{word_known}
+use Rattle.pv_missing.proofs.KnownNames.{word_known}
 use Rattle.pv_missing.proofs.live.live_word.Goals as goal
 
 pub live_tokens-requires : goal.live_tokens-requires

@@ -1,7 +1,7 @@
 use Rattle.std.proofs.Common.{◌≡◌, ◌&&◌, ◌==◌, ◌∙◌, ap, arith, rules, [], ◌∷◌}
 use Rattle.std.proofs.lemmas.Grind.{common_steps}
 use Rattle.pv_model.specs.Positions.{overwrite}
-use Rattle.pv_model.proofs.Written.{overwrite_one}
+use Rattle.pv_model.proofs.WrittenPositions.{overwrite_one}
 use Rattle.pv_model.proofs.positions.advance_name.Goals as goal
 
 pub returns : goal.returns

@@ -1,5 +1,6 @@
 use Rattle.std.proofs.Common.{◌≡◌, ◌∙◌, ◌&&◌, ◌||◌, ◌==◌, not, ap, rules, IsTrue, []}
-use Rattle.pv_model.proofs.LayoutSteps.{none_where, AdvancesFrom-passed, AdvancesFrom-one, AdvancesFrom-in_order, AdvancesFrom-either, AdvancesFrom-optional, AdvancesFrom-repeated}
+use Rattle.std.proofs.lemmas.Result.{IfOk-weaker}
+use Rattle.pv_model.proofs.LayoutSteps.{none_where, AdvancesFrom-passed, AdvancesFrom-one, AdvancesFrom-in_order, AdvancesFrom-either, AdvancesFrom-optional, AdvancesFrom-repeated, ok_by}
 use Rattle.pv_model.proofs.reach.+advance.Goals as goal
 use Rattle.pv_model.proofs.reach.+advance.Goals.{then-not-entered, else-not-entered}
 
@@ -11,12 +12,12 @@ returns-then-is_empty-2 t c =
     ] in
     AdvancesFrom-passed _ _ _ _ _ _ _ _ (none_where c.args.reached.now c.is_empty.result c.is_empty.ensures c.if-is_empty.true) uncalled c.none.ensures.was_end c.none.ensures.is_end
 
-pub returns-in_ok-ends-in-Name : goal.returns-in_ok-ends-in-Name
-returns-in_ok-ends-in-Name t c =
+pub returns-after-entered : goal.returns-after-entered
+returns-after-entered t c =
     let is : c.if-entered.is_end ≡ (c.args.entered && c.in-Name.own == c.args.name) = search rules in
-    let ends = c.in_ok-ends-in-Name.ensures.ends in
+    let end = c.end_at.ensures in
     rw c.in-Name.is (
-    AdvancesFrom-one _ _ _ _ _ _ _ _ _ _ _ (ends.0 ∙ ap not c.is_empty-in-Name.ensures) ends.1 is c.in_ok-ends-in-Name.ensures.next
+    ok_by _ _ _ _ end.ends end.next (λ e ends next. AdvancesFrom-one _ _ _ _ _ _ _ _ _ _ _ (ends.0 ∙ ap not c.is_empty-in-Name.ensures) ends.1 is next)
     )
 
 pub returns-in_ok-back-in-InOrder : goal.returns-in_ok-back-in-InOrder
@@ -35,15 +36,17 @@ returns-in_ok-back-in-Either t c =
     c.or.ensures.was_end c.or.ensures.is_end
     )
 
-pub returns-in_ok-ends-in-Opt : goal.returns-in_ok-ends-in-Opt
-returns-in_ok-ends-in-Opt t c =
-    rw c.in-Opt.is (AdvancesFrom-optional _ _ _ _ _ _ _ _ _ (rw c.deref-in-Opt.ensures at c.in_ok-ends-in-Opt.ensures))
+pub returns-in-Opt : goal.returns-in-Opt
+returns-in-Opt t c =
+    let member = rw c.deref-in-Opt.ensures at c.advance-in-Opt.ensures in
+    rw c.in-Opt.is (IfOk-weaker _ _ _ (λ e h. AdvancesFrom-optional _ _ _ _ _ _ _ _ _ h) member)
 
-pub returns-in_ok-ends-in-Plus : goal.returns-in_ok-ends-in-Plus
-returns-in_ok-ends-in-Plus t c =
-    let ends = c.in_ok-ends-in-Plus.ensures.ends in
+pub returns-in_ok-round-in-Plus : goal.returns-in_ok-round-in-Plus
+returns-in_ok-round-in-Plus t c =
+    let end = c.end_at-in-Plus.ensures in
     let enters : c.if-entered-2.advance ≡ (c.args.entered || not c.is_empty-was_end.result) = search rules in
     rw c.in-Plus.is (
+    ok_by _ _ _ _ end.ends end.next (λ e ends next.
     AdvancesFrom-repeated _ _ _ _ _ _ _ _ _ _ _ _ _ _ _ _ _ c.split-in-Plus.ensures ends.0 (ap not c.is_empty-was_end.ensures) enters
-    (rw c.deref-in-Plus.ensures at c.in_ok-round-in-Plus.ensures) c.in_ok-ends-in-Plus.ensures.next ends.1
+    (rw c.deref-in-Plus.ensures at c.in_ok-round-in-Plus.ensures) next ends.1)
     )

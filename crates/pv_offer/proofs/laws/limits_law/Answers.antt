@@ -1,4 +1,4 @@
-use Rattle.pv_offer.proofs.Alike.{limits_alike}
+use Rattle.pv_offer.proofs.EditsOfAnyName.{limits_alike}
 use Rattle.pv_offer.proofs.laws.limits_law.Goals as goal
 
 pub returns : goal.returns

@@ -1,4 +1,4 @@
-use Rattle.pv_offer.proofs.Alike.{no_ground}
+use Rattle.pv_offer.proofs.EditsOfAnyName.{no_ground}
 use Rattle.pv_offer.proofs.laws.no_ground_law.Goals as goal
 
 pub returns : goal.returns

@@ -1,4 +1,4 @@
-use Rattle.pv_offer.proofs.Alike.{renames_within}
+use Rattle.pv_offer.proofs.EditsOfAnyName.{renames_within}
 use Rattle.pv_offer.proofs.laws.renames_law.Goals as goal
 
 pub returns : goal.returns

@@ -1,4 +1,4 @@
-use Rattle.pv_offer.proofs.Alike.{tried_as_offered}
+use Rattle.pv_offer.proofs.EditsOfAnyName.{tried_as_offered}
 use Rattle.pv_offer.proofs.laws.tried_law.Goals as goal
 
 pub returns : goal.returns

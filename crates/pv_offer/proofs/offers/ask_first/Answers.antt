@@ -3,7 +3,7 @@ use Rattle.pv_cache.specs.Moves.{HasGround}
 use Rattle.pv_edit.specs.declared.answers.EditAnswer.{EditAnswer}
 use Rattle.pv_edit.specs.declared.answers.EditAnswer.TheVariants as answer
 use Rattle.pv_offer.specs.Offers.{edit_with}
-use Rattle.pv_offer.proofs.Alike.{asked_by, limit_by, shape_by}
+use Rattle.pv_offer.proofs.EditsOfAnyName.{asked_by, limit_by, shape_by}
 use Rattle.pv_offer.proofs.offers.ask_first.Goals as goal
 
 pub returns-in-Ok-clause-asked : goal.returns-in-Ok-clause-asked

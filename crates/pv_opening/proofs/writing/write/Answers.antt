@@ -1,5 +1,5 @@
 use Rattle.std.proofs.Common.{refl}
-use Rattle.pv_opening.specs.Showing.{cut_off}
+use Rattle.pv_opening.specs.ShownCourses.{cut_off}
 use Rattle.pv_opening.specs.Response.{plain_response}
 use Rattle.pv_opening.proofs.writing.write.Goals as goal
 

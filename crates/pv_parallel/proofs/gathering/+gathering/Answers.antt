@@ -6,7 +6,7 @@ use Rattle.pv_tree.specs.PlainForms.{forest}
 use Rattle.pv_tree.specs.declared.nodes.Mark.{Mark}
 use Rattle.pv_tree.specs.declared.nodes.Node.{Node}
 use Rattle.pv_tree.proofs.Levels.{plain-Elem}
-use Rattle.pv_fresh.proofs.Narrow.{few_tokens}
+use Rattle.pv_fresh.proofs.NarrowLists.{few_tokens}
 use Rattle.pv_parallel.specs.Jobs.{Adds}
 use Rattle.pv_parallel.proofs.JobLists.{adds_both, adds_none, few_in_all, front_few, front_shorter, front_smaller, front_then, node_taken, run_taken}
 use Rattle.pv_parallel.proofs.gathering.+gathering.Goals as goal

@@ -4,7 +4,7 @@ use Rattle.pv_tree.specs.Plain.{no_trees, tree}
 use Rattle.pv_tree.specs.PlainDocs.{plain_doc}
 use Rattle.pv_tree.specs.PlainForms.{plain}
 use Rattle.pv_tree.specs.declared.nodes.Mark.{Mark}
-use Rattle.pv_fresh.proofs.Narrow.{few_tokens}
+use Rattle.pv_fresh.proofs.NarrowLists.{few_tokens}
 use Rattle.pv_parallel.specs.Jobs.{Adds}
 use Rattle.pv_parallel.proofs.JobLists.{whole_gathered}
 use Rattle.pv_parallel.proofs.gathering.jobs_of.Goals as goal

@@ -5,10 +5,10 @@ use Rattle.pv_productive.specs.PlainForms.{dtd_of}
 use Rattle.pv_tree.specs.Lists.{Listed, an_element, lists_at, lists_from}
 use Rattle.pv_tree.specs.PlainForms.{forest, plain}
 use Rattle.pv_tree.specs.declared.nodes.Mark.{Mark}
-use Rattle.pv_tree.proofs.Every.{all_left, all_right}
+use Rattle.pv_tree.proofs.JoinedLists.{all_left, all_right}
 use Rattle.pv_tree.proofs.Levels.{plain-Elem}
 use Rattle.pv_missing.specs.PlainForms.{plain_of}
-use Rattle.pv_missing.specs.Weighing.{site_of}
+use Rattle.pv_missing.specs.ListWeights.{site_of}
 use Rattle.pv_missing.specs.Widths.{IsListForVerdict}
 use Rattle.pv_missing.proofs.ListPaths.{element_site}
 use Rattle.pv_reach.specs.declared.errors.ReachError.TheVariants.{TooWide as too_wide}

@@ -5,7 +5,7 @@ use Rattle.pv_tree.specs.declared.nodes.Mark.{Mark}
 use Rattle.pv_tree.proofs.Forests.{forest-drop}
 use Rattle.pv_tree.proofs.Levels.{plain-Elem}
 use Rattle.pv_missing.proofs.ListPaths.{from_first}
-use Rattle.pv_fresh.proofs.Narrow.{few_tokens}
+use Rattle.pv_fresh.proofs.NarrowLists.{few_tokens}
 use Rattle.pv_parallel.proofs.JobLists.{lists_end}
 use Rattle.pv_parallel.proofs.ListTallies.{tallies_both, tallies_none, tallies_one}
 use Rattle.pv_parallel.proofs.sizes.+sizes.Goals as goal

@@ -2,7 +2,7 @@ use Rattle.std.proofs.Common.{subst, sym}
 use Rattle.pv_dtd.specs.PlainForms.{plain_dtd}
 use Rattle.pv_productive.specs.Tables.{IsSettled}
 use Rattle.pv_productive.specs.PlainForms.{table_of}
-use Rattle.pv_dtd.proofs.Proper.{proper}
+use Rattle.pv_dtd.proofs.ProperDtds.{proper}
 use Rattle.pv_productive.proofs.SettledSizes.{sizes}
 use Rattle.pv_productive.proofs.settle.build.Goals as goal
 

@@ -1,4 +1,4 @@
-use Rattle.pv_reach.proofs.Within.{spans_within}
+use Rattle.pv_reach.proofs.InnerSpans.{spans_within}
 use Rattle.pv_reach.proofs.laws.spans_within_law.Goals as goal
 
 pub returns : goal.returns

@@ -1,7 +1,7 @@
 use Rattle.std.proofs.Common.{Some, map, refl, subst, sym, true≢false, ◌∙◌, ◌≡◌}
 use Rattle.pv_model.specs.PlainForms.{plain_model, plain_token}
 use Rattle.pv_dtd.specs.Plain.{model_of}
-use Rattle.pv_dtd.proofs.Proper.{proper}
+use Rattle.pv_dtd.proofs.ProperDtds.{proper}
 use Rattle.pv_rules.specs.Sites.{content_site}
 use Rattle.pv_dtd.specs.Productive.{IsProductive}
 use Rattle.pv_productive.specs.PlainForms.{dtd_of}

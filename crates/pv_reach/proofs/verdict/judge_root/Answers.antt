@@ -1,7 +1,7 @@
 use Rattle.std.proofs.Common.{[], map, refl, sym, true≢false, ◌∙◌, ◌∷◌, ◌≡◌}
 use Rattle.pv_model.specs.Plain.{named}
 use Rattle.pv_model.specs.PlainForms.{plain_token}
-use Rattle.pv_dtd.proofs.Proper.{proper}
+use Rattle.pv_dtd.proofs.ProperDtds.{proper}
 use Rattle.pv_rules.specs.Sites.{name_site}
 use Rattle.pv_productive.specs.PlainForms.{dtd_of}
 use Rattle.pv_missing.specs.declared.owners.Of.TheVariants as of

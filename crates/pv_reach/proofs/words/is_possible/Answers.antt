@@ -1,6 +1,6 @@
 use Rattle.std.proofs.Common.{true≢false, sym, ◌∙◌}
 use Rattle.pv_productive.specs.PlainForms.{dtd_of}
-use Rattle.pv_dtd.proofs.Proper.{proper}
+use Rattle.pv_dtd.proofs.ProperDtds.{proper}
 use Rattle.pv_reach.proofs.ColumnAnswers.{content_answer, root_answer}
 use Rattle.pv_reach.proofs.words.is_possible.Goals as goal
 

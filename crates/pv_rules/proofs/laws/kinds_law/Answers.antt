@@ -1,4 +1,4 @@
-use Rattle.pv_rules.proofs.ByKind.{by_kind, from_kind}
+use Rattle.pv_rules.proofs.RulesByKind.{by_kind, from_kind}
 use Rattle.pv_rules.proofs.laws.kinds_law.Goals as goal
 
 pub returns : goal.returns

@@ -1,5 +1,5 @@
 use Rattle.std.proofs.Common.{◌∙◌, arith}
-use Rattle.pv_script.proofs.Rooms.{same-behind}
+use Rattle.pv_script.proofs.LaterPlaces.{same-behind}
 use Rattle.pv_script.proofs.okay.okay_text.Goals as goal
 
 pub returns-clause-behind : goal.returns-clause-behind

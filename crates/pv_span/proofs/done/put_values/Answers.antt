@@ -1,7 +1,7 @@
 use Rattle.std.proofs.Common.{get_or-set_other, slice_index_or, ◌*◌, ◌+◌, ◌∙◌, ◌≡◌}
 use Rattle.std.proofs.lemmas.List.{get_or_default}
 use Rattle.pv_productive.specs.Tables.{no_size, size_at}
-use Rattle.pv_span.proofs.Across.{few_more, put_more}
+use Rattle.pv_span.proofs.RowsAcrossColumns.{few_more, put_more}
 use Rattle.pv_span.proofs.done.put_values.Goals as goal
 
 pub loop-column-preserved : goal.loop-column-preserved

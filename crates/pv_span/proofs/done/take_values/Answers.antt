@@ -3,7 +3,7 @@ use Rattle.std.proofs.Common.{slice_index_or, ◌*◌, ◌+◌, ◌<◌, ◌∙�
 use Rattle.std.proofs.lemmas.Bool.{cases_lt}
 use Rattle.std.proofs.lemmas.List.{get_or_default}
 use Rattle.pv_productive.specs.Tables.{no_size}
-use Rattle.pv_span.proofs.Across.{place_inside}
+use Rattle.pv_span.proofs.RowsAcrossColumns.{place_inside}
 use Rattle.pv_span.proofs.done.take_values.Goals as goal
 
 pub loop-column-preserved : goal.loop-column-preserved

@@ -3,7 +3,7 @@ use Rattle.pv_model.specs.PlainForms.{plain_token}
 use Rattle.pv_span.specs.Charts.{value_of}
 use Rattle.pv_layout.specs.FormForms.{plain_all}
 use Rattle.pv_span.specs.PlainForms.{plain_chart}
-use Rattle.pv_span.proofs.Whole.{sum_member, sum_none, sum_nothing}
+use Rattle.pv_span.proofs.WholeSpanSums.{sum_member, sum_none, sum_nothing}
 use Rattle.pv_span.proofs.Flats.{spanned}
 use Rattle.pv_layout.proofs.ProgramColumns.{form_read}
 use Rattle.pv_span.proofs.ends.sum_at_ends.Goals as goal

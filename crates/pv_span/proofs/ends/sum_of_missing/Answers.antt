@@ -1,7 +1,7 @@
 use Rattle.std.proofs.Common.{arith}
 use Rattle.pv_span.specs.Charts.{value_of}
 use Rattle.pv_span.specs.PlainForms.{plain_chart}
-use Rattle.pv_span.proofs.Whole.{sum_missing}
+use Rattle.pv_span.proofs.WholeSpanSums.{sum_missing}
 use Rattle.pv_span.proofs.ends.sum_of_missing.Goals as goal
 
 pub returns : goal.returns

@@ -1,7 +1,7 @@
 use Rattle.std.proofs.Common.{◌∙◌}
 use Rattle.pv_span.specs.Charts.{value_of}
 use Rattle.pv_span.specs.PlainForms.{plain_chart}
-use Rattle.pv_span.proofs.Whole.{sum_opt, sum_plus}
+use Rattle.pv_span.proofs.WholeSpanSums.{sum_opt, sum_plus}
 use Rattle.pv_span.proofs.ends.sum_of_one.Goals as goal
 
 pub returns-clause-opt : goal.returns-clause-opt

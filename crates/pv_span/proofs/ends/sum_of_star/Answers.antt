@@ -1,7 +1,7 @@
 use Rattle.std.proofs.Common.{arith}
 use Rattle.pv_span.specs.Charts.{value_of}
 use Rattle.pv_span.specs.PlainForms.{plain_chart}
-use Rattle.pv_span.proofs.Whole.{sum_star, sum_star_none}
+use Rattle.pv_span.proofs.WholeSpanSums.{sum_star, sum_star_none}
 use Rattle.pv_span.proofs.ends.sum_of_star.Goals as goal
 
 pub returns-then-chart : goal.returns-then-chart

@@ -1,6 +1,6 @@
 use Rattle.pv_span.specs.Charts.{value_of}
 use Rattle.pv_span.specs.PlainForms.{plain_chart}
-use Rattle.pv_span.proofs.Whole.{sum_two}
+use Rattle.pv_span.proofs.WholeSpanSums.{sum_two}
 use Rattle.pv_span.proofs.ends.sum_of_two.Goals as goal
 
 pub returns : goal.returns

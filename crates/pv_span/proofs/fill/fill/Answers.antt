@@ -6,7 +6,7 @@ use Rattle.pv_span.specs.Charts.{AreSettled}
 use Rattle.pv_span.specs.DoneSpans.{rows_done}
 use Rattle.pv_layout.specs.FormForms.{plain_all}
 use Rattle.pv_span.specs.PlainForms.{plain_chart}
-use Rattle.pv_span.proofs.Across.{rows_count}
+use Rattle.pv_span.proofs.RowsAcrossColumns.{rows_count}
 use Rattle.pv_span.proofs.FinishedSpans.{filled, put_next, ready_begun, room_left}
 use Rattle.pv_span.proofs.fill.fill.Goals as goal
 

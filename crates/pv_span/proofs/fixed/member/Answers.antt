@@ -1,6 +1,6 @@
 use Rattle.std.proofs.Common.{map, sym, true≢false, ◌∙◌}
 use Rattle.pv_model.specs.PlainForms.{plain_token}
-use Rattle.pv_dtd.proofs.Proper.{proper}
+use Rattle.pv_dtd.proofs.ProperDtds.{proper}
 use Rattle.pv_productive.specs.PlainForms.{dtd_of}
 use Rattle.pv_missing.specs.PlainForms.{plain_of}
 use Rattle.pv_span.proofs.KnownSites.{possible_site}

@@ -4,7 +4,7 @@ use Rattle.pv_span.specs.Charts.{value_of}
 use Rattle.pv_layout.specs.FormForms.{plain_all}
 use Rattle.pv_span.specs.PlainForms.{plain_chart}
 use Rattle.pv_span.proofs.Flats.{spanned}
-use Rattle.pv_span.proofs.Leasts.{least_one}
+use Rattle.pv_span.proofs.LeastValues.{least_one}
 use Rattle.pv_layout.proofs.ProgramColumns.{form_read}
 use Rattle.pv_span.proofs.least.least_of.Goals as goal
 

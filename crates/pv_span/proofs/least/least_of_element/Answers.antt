@@ -3,7 +3,7 @@ use Rattle.pv_model.specs.PlainForms.{plain_token}
 use Rattle.pv_span.specs.Charts.{value_of}
 use Rattle.pv_span.specs.PlainForms.{plain_chart}
 use Rattle.pv_span.proofs.Flats.{spanned}
-use Rattle.pv_span.proofs.Leasts.{least_kept, least_new}
+use Rattle.pv_span.proofs.LeastValues.{least_kept, least_new}
 use Rattle.pv_span.proofs.least.least_of_element.Goals as goal
 
 pub returns-then-is_element_over : goal.returns-then-is_element_over

@@ -2,7 +2,7 @@ use Rattle.std.proofs.Common.{arith}
 use Rattle.pv_productive.specs.Tables.{no_size}
 use Rattle.pv_span.specs.Charts.{value_of}
 use Rattle.pv_span.specs.PlainForms.{plain_chart}
-use Rattle.pv_span.proofs.Among.{all_passed, member_more, none_passed}
+use Rattle.pv_span.proofs.PassedColumns.{all_passed, member_more, none_passed}
 use Rattle.pv_span.proofs.least.least_of_members.Goals as goal
 
 pub loop-index-init : goal.loop-index-init

@@ -1,6 +1,6 @@
 use Rattle.pv_span.specs.Charts.{value_of}
 use Rattle.pv_span.specs.PlainForms.{plain_chart}
-use Rattle.pv_span.proofs.Among.{HavePassed}
+use Rattle.pv_span.proofs.PassedColumns.{HavePassed}
 use Rattle.pv_span.proofs.least.least_of_members.Given as goal
 
 abbrev pub invariant-loop-index : goal.invariant-loop-index

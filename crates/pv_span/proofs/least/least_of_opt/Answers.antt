@@ -1,7 +1,7 @@
 use Rattle.std.proofs.Common.{arith, refl, ◌∙◌}
 use Rattle.pv_span.specs.Charts.{value_of}
 use Rattle.pv_span.specs.PlainForms.{plain_chart}
-use Rattle.pv_span.proofs.Leasts.{least_opt, least_opt_none}
+use Rattle.pv_span.proofs.LeastValues.{least_opt, least_opt_none}
 use Rattle.pv_span.proofs.least.least_of_opt.Goals as goal
 
 pub returns-then-chart : goal.returns-then-chart

@@ -1,7 +1,7 @@
 use Rattle.std.proofs.Common.{arith}
 use Rattle.pv_span.specs.Charts.{value_of}
 use Rattle.pv_span.specs.PlainForms.{plain_chart}
-use Rattle.pv_span.proofs.Leasts.{least_plus}
+use Rattle.pv_span.proofs.LeastValues.{least_plus}
 use Rattle.pv_span.proofs.least.least_of_plus.Goals as goal
 
 pub returns : goal.returns

@@ -3,7 +3,7 @@ use Rattle.pv_model.specs.PlainForms.{plain_token}
 use Rattle.pv_span.specs.Charts.{value_of}
 use Rattle.pv_span.specs.PlainForms.{plain_chart}
 use Rattle.pv_span.proofs.Flats.{spanned}
-use Rattle.pv_span.proofs.Leasts.{least_star, least_star_none}
+use Rattle.pv_span.proofs.LeastValues.{least_star, least_star_none}
 use Rattle.pv_span.proofs.least.least_of_star.Goals as goal
 
 pub returns-then-chart : goal.returns-then-chart

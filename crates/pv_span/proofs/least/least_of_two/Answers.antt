@@ -1,6 +1,6 @@
 use Rattle.pv_span.specs.Charts.{value_of}
 use Rattle.pv_span.specs.PlainForms.{plain_chart}
-use Rattle.pv_span.proofs.Leasts.{least_two}
+use Rattle.pv_span.proofs.LeastValues.{least_two}
 use Rattle.pv_span.proofs.least.least_of_two.Goals as goal
 
 pub returns : goal.returns

@@ -3,7 +3,7 @@ use Rattle.std.proofs.Common.{ap, arith, ◌+◌, ◌∙◌, ◌≡◌}
 use Rattle.std.proofs.lemmas.List.{with_items_is}
 use Rattle.pv_productive.specs.Tables.{size_at}
 use Rattle.pv_span.specs.DoneSpans.{row_of}
-use Rattle.pv_span.proofs.Across.{each_lowered}
+use Rattle.pv_span.proofs.RowsAcrossColumns.{each_lowered}
 use Rattle.pv_span.proofs.SpanNumbers.{later_before}
 use Rattle.pv_span.proofs.lines.add_cut.Goals as goal
 

@@ -1,7 +1,7 @@
 use Rattle.std.proofs.Common.{map}
 use Rattle.std.proofs.lemmas.Bool.{ltb-true}
 use Rattle.pv_model.specs.PlainForms.{plain_token}
-use Rattle.pv_span.proofs.Others.{element_told, never_told, nothing_told, one_told, opt_told}
+use Rattle.pv_span.proofs.OtherColumns.{element_told, never_told, nothing_told, one_told, opt_told}
 use Rattle.pv_span.proofs.spreading.is_told_by_others.Goals as goal
 
 pub returns-in-Never : goal.returns-in-Never

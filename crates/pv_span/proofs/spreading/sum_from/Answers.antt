@@ -5,7 +5,7 @@ use Rattle.pv_layout.specs.FormForms.{plain_all}
 use Rattle.pv_span.specs.PlainForms.{plain_chart}
 use Rattle.pv_span.proofs.Flats.{spanned}
 use Rattle.pv_layout.proofs.ProgramColumns.{form_read}
-use Rattle.pv_span.proofs.Whole.{sum_from_all, sum_of_member}
+use Rattle.pv_span.proofs.WholeSpanSums.{sum_from_all, sum_of_member}
 use Rattle.pv_span.proofs.spreading.sum_from.Goals as goal
 
 pub returns-then-is_member_at : goal.returns-then-is_member_at

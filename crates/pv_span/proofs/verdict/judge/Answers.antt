@@ -1,6 +1,6 @@
 use Rattle.std.proofs.Common.{map, sym, true≢false, ◌∙◌}
 use Rattle.pv_model.specs.PlainForms.{plain_token}
-use Rattle.pv_dtd.proofs.Proper.{proper}
+use Rattle.pv_dtd.proofs.ProperDtds.{proper}
 use Rattle.pv_productive.specs.PlainForms.{dtd_of}
 use Rattle.pv_missing.specs.PlainForms.{plain_of}
 use Rattle.pv_missing.proofs.LiveFacts.{live_follows}
@@ -8,8 +8,8 @@ use Rattle.pv_span.proofs.ListVerdicts.{impossible_judged}
 use Rattle.pv_span.proofs.KnownSites.{possible_site}
 use Rattle.pv_span.proofs.verdict.judge.Goals as goal
 
-pub derives-requires-clause-productive : goal.derives-requires-clause-productive
-derives-requires-clause-productive c = rw c.in_ok-layout.ensures
+pub is_possible-requires-clause-productive : goal.is_possible-requires-clause-productive
+is_possible-requires-clause-productive c =
     (live_follows (dtd_of c.args.grammar.now) (map plain_token c.args.word.now) (map plain_token c.args.live.now) c.requires.live).names
 
 pub returns-then-not-is_known_owner : goal.returns-then-not-is_known_owner
@@ -21,4 +21,4 @@ returns-then-not-is_known_owner c =
 pub returns-then-not-branch : goal.returns-then-not-branch
 returns-then-not-branch c =
     impossible_judged (dtd_of c.args.grammar.now) (map plain_token c.args.word.now) (map plain_token c.args.live.now) (plain_of c.args.of) c.args.is_bare c.requires.live
-    (λ p. true≢false (sym ((rw c.in_ok-layout.ensures at c.in_ok-derives.ensures).1 p) ∙ c.if-not-branch.true))
+    (λ p. true≢false (sym (c.in_ok-is_possible.ensures.1 p) ∙ c.if-not-branch.true))

@@ -1,4 +1,4 @@
-use Rattle.pv_standoff.proofs.Exists.{has_document}
+use Rattle.pv_standoff.proofs.SomeDocument.{has_document}
 use Rattle.pv_standoff.proofs.laws.has_document_law.Goals as goal
 
 pub returns : goal.returns

@@ -2,7 +2,7 @@ use Rattle.std.proofs.Common.{◌≡◌, [], Ok, refl, sym, ◌∙◌, subst}
 use Rattle.pv_chars.specs.Texts.{joined}
 use Rattle.pv_tree.specs.PlainForms.{plain}
 use Rattle.pv_tree.specs.Prolog.{IsProlog, IsEpilog}
-use Rattle.pv_standoff.specs.Nested.{NestMeans}
+use Rattle.pv_standoff.specs.NestOutcomes.{NestMeans}
 use Rattle.pv_standoff.specs.Spans.{document_of_root}
 use Rattle.pv_standoff.specs.Texts.{SpellsUnits}
 use Rattle.pv_standoff.proofs.Facts.{keeps}

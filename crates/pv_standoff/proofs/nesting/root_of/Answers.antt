@@ -8,15 +8,15 @@ use Rattle.pv_tree.specs.declared.nodes.Mark.{Mark}
 use Rattle.pv_tree.specs.declared.nodes.Node.{Node}
 use Rattle.pv_standoff.specs.Ranges.{IsSortedFrom, IsInsideText, NoneTwice, NoneCrossLater}
 use Rattle.pv_standoff.specs.declared.ranges.Range.{Range}
-use Rattle.pv_standoff.specs.Refused.{IsFirstCrossing}
+use Rattle.pv_standoff.specs.RefusedRanges.{IsFirstCrossing}
 use Rattle.pv_standoff.specs.PlainForms.{seen, IsRootOver}
 use Rattle.pv_standoff.specs.Spans.{StandsForRanges, document_of_root, root_of}
 use Rattle.pv_standoff.specs.Stacks.{BuildRefuses}
 use Rattle.pv_standoff.specs.declared.errors.NestError.{NestError}
 use Rattle.pv_standoff.specs.declared.errors.NestError.TheVariants as error
-use Rattle.pv_standoff.specs.Nested.{Nests, NestMeans, Refuses}
+use Rattle.pv_standoff.specs.NestOutcomes.{Nests, NestMeans, Refuses}
 use Rattle.pv_standoff.proofs.OneSortedOrder.{none_twice-permutation, all-permutation}
-use Rattle.pv_standoff.proofs.Exists.{one_nests}
+use Rattle.pv_standoff.proofs.SomeDocument.{one_nests}
 use Rattle.pv_standoff.proofs.nesting.root_of.Goals as goal
 
 pub returns-in-Some-2-clause-means : goal.returns-in-Some-2-clause-means

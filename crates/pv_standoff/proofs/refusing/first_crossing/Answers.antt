@@ -4,7 +4,7 @@ use Rattle.pv_standoff.specs.Ranges.{AreSorted, NoneCrossLater}
 use Rattle.pv_standoff.specs.PlainForms.{seen}
 use Rattle.pv_standoff.specs.Stacks.{AreStillOpen}
 use Rattle.pv_standoff.specs.PlainForms.{innermost_first}
-use Rattle.pv_standoff.proofs.Built.{drop_next, take_next, split_next, order_back}
+use Rattle.pv_standoff.proofs.BuiltDocuments.{drop_next, take_next, split_next, order_back}
 use Rattle.pv_standoff.proofs.FirstCrossing.{covers_later, covers_push, covers_none, none_cross_push, round_all, stack_push, first_crossing}
 use Rattle.pv_standoff.proofs.refusing.first_crossing.Goals as goal
 use Rattle.pv_standoff.proofs.refusing.first_crossing.Goals.{in-Some+else-top-range+in_ok-push, in_default}

@@ -1,7 +1,7 @@
 use Rattle.std.proofs.Common.{◌+◌, take, drop, sym, ◌∙◌, arith}
 use Rattle.std.proofs.lemmas.Bool.{true≢false}
 use Rattle.std.proofs.lemmas.List.{length-take-le}
-use Rattle.pv_standoff.proofs.Built.{split_index}
+use Rattle.pv_standoff.proofs.BuiltDocuments.{split_index}
 use Rattle.pv_standoff.proofs.refusing.first_outside.Goals as goal
 
 pub returns-then-not-is_inside : goal.returns-then-not-is_inside

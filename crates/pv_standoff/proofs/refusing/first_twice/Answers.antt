@@ -3,7 +3,7 @@ use Rattle.std.proofs.lemmas.List.{get_or_default}
 use Rattle.std.proofs.lemmas.Bool.{true≢false}
 use Rattle.pv_standoff.specs.Ranges.{HaveSamePlace, AreSorted, NoneTwice}
 use Rattle.pv_standoff.specs.PlainForms.{seen}
-use Rattle.pv_standoff.proofs.Built.{prev_next}
+use Rattle.pv_standoff.proofs.BuiltDocuments.{prev_next}
 use Rattle.pv_standoff.proofs.FirstCrossing.{once_push}
 use Rattle.pv_standoff.proofs.refusing.first_twice.Goals as goal
 

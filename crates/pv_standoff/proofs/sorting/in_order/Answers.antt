@@ -2,7 +2,7 @@ use Rattle.std.proofs.Common.{◌≡◌, map, rules, sym, subst, ap, is_lt}
 use Rattle.std.specs.Prelude.{IsPermutation}
 use Rattle.std.proofs.lemmas.List.Sorted.{answers_always, IsPermutation-map}
 use Rattle.std.proofs.lemmas.Result.{IfOk-weaker}
-use Rattle.pv_standoff.specs.Compared.{place_cmp, is_before}
+use Rattle.pv_standoff.specs.RangeOrder.{place_cmp, is_before}
 use Rattle.pv_standoff.specs.Ranges.{IsSortedFrom}
 use Rattle.pv_standoff.proofs.SortedOrder.{in_order-sorted, order_of}
 use Rattle.pv_standoff.proofs.sorting.in_order.Goals as goal

@@ -1,4 +1,4 @@
-use Rattle.pv_dtd.proofs.Proper.{proper}
+use Rattle.pv_dtd.proofs.ProperDtds.{proper}
 use Rattle.pv_table_check.specs.Tested.{dtd_in, word_in}
 use Rattle.pv_table_check.proofs.EachSite.{at_sites, keeps_names, names_closed, parts_closed}
 use Rattle.pv_table_check.proofs.closing.is_closed.Goals as goal

@@ -2,7 +2,7 @@ use Rattle.std.proofs.Common.{arith, false, refl, subst, sym, true}
 use Rattle.pv_rules.specs.Sites.{content_site, name_site}
 use Rattle.pv_table_check.specs.ClosedForms.{WeighsAsTwo}
 use Rattle.pv_table_check.specs.Tested.{dtd_in, word_in}
-use Rattle.pv_table_check.proofs.AtSites.{any_from, any_to}
+use Rattle.pv_table_check.proofs.EntriesAtSites.{any_from, any_to}
 use Rattle.pv_table_check.proofs.FewMembers.{member_name}
 use Rattle.pv_table_check.proofs.Words.{nothing_from, nothing_to}
 use Rattle.pv_table_check.proofs.contents.any_closed.Goals as goal

@@ -3,7 +3,7 @@ use Rattle.pv_rules.specs.Sites.{content_site, part_site}
 use Rattle.pv_rules.proofs.FlatContents.{any_at, children_at, empty_at, mixed_at, no_content}
 use Rattle.pv_table_check.specs.ClosedForms.{WeighsAsOne}
 use Rattle.pv_table_check.specs.Tested.{dtd_in, word_in}
-use Rattle.pv_table_check.proofs.AtSites.{children_closed, content_none, empty_closed}
+use Rattle.pv_table_check.proofs.EntriesAtSites.{children_closed, content_none, empty_closed}
 use Rattle.pv_table_check.proofs.Words.{flat_content, no_flat_content, nothing_from, nothing_to}
 use Rattle.pv_table_check.proofs.contents.content_closed.Goals as goal
 

@@ -3,7 +3,7 @@ use Rattle.pv_rules.specs.Numbering.{first_part}
 use Rattle.pv_rules.specs.Sites.{content_site, part_site}
 use Rattle.pv_table_check.specs.ClosedForms.{WeighsAsTwo}
 use Rattle.pv_table_check.specs.Tested.{dtd_in, word_in}
-use Rattle.pv_table_check.proofs.AtSites.{mixed_from, mixed_to}
+use Rattle.pv_table_check.proofs.EntriesAtSites.{mixed_from, mixed_to}
 use Rattle.pv_table_check.proofs.FewMembers.{member_part}
 use Rattle.pv_table_check.proofs.Words.{nothing_from, nothing_to}
 use Rattle.pv_table_check.proofs.contents.mixed_closed.Goals as goal

@@ -2,7 +2,7 @@ use Rattle.std.proofs.Common.{false, true}
 use Rattle.pv_rules.specs.PlainForms.{plain_site}
 use Rattle.pv_table_check.specs.Tested.{dtd_in, word_in}
 use Rattle.pv_table_check.specs.declared.sums.Pair.{Pair}
-use Rattle.pv_table_check.proofs.ByForms.{in_order}
+use Rattle.pv_table_check.proofs.ClosureByForms.{in_order}
 use Rattle.pv_table_check.proofs.FewMembers.{by_members, each_member}
 use Rattle.pv_table_check.proofs.forms.members_hold.Goals as goal
 

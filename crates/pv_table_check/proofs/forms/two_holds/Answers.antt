@@ -2,7 +2,7 @@ use Rattle.std.proofs.Common.{get_or}
 use Rattle.pv_rules.specs.PlainForms.{plain_site}
 use Rattle.pv_table_check.specs.Lookup.{least_entry}
 use Rattle.pv_table_check.specs.Tested.{dtd_in, word_in}
-use Rattle.pv_table_check.proofs.ByForms.{in_order}
+use Rattle.pv_table_check.proofs.ClosureByForms.{in_order}
 use Rattle.pv_table_check.proofs.ClosedSites.{all_two, item_contained, two_within}
 use Rattle.pv_table_check.proofs.forms.two_holds.Goals as goal
 

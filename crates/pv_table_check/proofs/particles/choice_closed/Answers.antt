@@ -3,7 +3,7 @@ use Rattle.pv_rules.specs.Sites.{part_site}
 use Rattle.pv_rules.proofs.Members.{member_in, part_passed, passed_all, passed_further, passed_more, passed_none}
 use Rattle.pv_table_check.specs.ClosedForms.{WeighsAsOne}
 use Rattle.pv_table_check.specs.Tested.{dtd_in, word_in}
-use Rattle.pv_table_check.proofs.AtSites.{choice_from, choice_to}
+use Rattle.pv_table_check.proofs.EntriesAtSites.{choice_from, choice_to}
 use Rattle.pv_table_check.proofs.particles.choice_closed.Goals as goal
 
 pub loop-member-init : goal.loop-member-init

@@ -1,7 +1,7 @@
 use Rattle.std.proofs.Common.{arith, ◌+◌}
 use Rattle.pv_rules.specs.Sites.{part_site}
 use Rattle.pv_table_check.specs.Tested.{dtd_in, word_in}
-use Rattle.pv_table_check.proofs.AtSites.{one_inner, one_outer, opt_from, opt_to}
+use Rattle.pv_table_check.proofs.EntriesAtSites.{one_inner, one_outer, opt_from, opt_to}
 use Rattle.pv_table_check.proofs.Words.{nothing_from, nothing_to}
 use Rattle.pv_table_check.proofs.particles.opt_closed.Goals as goal
 

@@ -3,7 +3,7 @@ use Rattle.pv_rules.specs.Sites.{part_site, rest_site}
 use Rattle.pv_rules.proofs.FlatKinds.{followed_at, last_at, no_rest, outside_at}
 use Rattle.pv_table_check.specs.ClosedForms.{WeighsAsTwo}
 use Rattle.pv_table_check.specs.Tested.{dtd_in, word_in}
-use Rattle.pv_table_check.proofs.AtSites.{followed_closed, last_closed, outside_closed}
+use Rattle.pv_table_check.proofs.EntriesAtSites.{followed_closed, last_closed, outside_closed}
 use Rattle.pv_table_check.proofs.Words.{flat_part, no_flat_part}
 use Rattle.pv_table_check.proofs.particles.rest_closed.Goals as goal
 

@@ -1,7 +1,7 @@
 use Rattle.std.proofs.Common.{arith, false, ◌+◌}
 use Rattle.pv_rules.specs.Sites.{part_site}
 use Rattle.pv_table_check.specs.Tested.{dtd_in, word_in}
-use Rattle.pv_table_check.proofs.AtSites.{star_from, star_to, two_inner, two_outer}
+use Rattle.pv_table_check.proofs.EntriesAtSites.{star_from, star_to, two_inner, two_outer}
 use Rattle.pv_table_check.proofs.Words.{nothing_from, nothing_to}
 use Rattle.pv_table_check.proofs.particles.star_closed.Goals as goal
 

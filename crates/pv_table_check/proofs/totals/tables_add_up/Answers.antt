@@ -4,7 +4,7 @@ use Rattle.pv_tree.specs.Lists.{lists_of}
 use Rattle.pv_tree.specs.PlainDocs.{plain_doc}
 use Rattle.pv_tables.specs.Values.{HasWholeValue}
 use Rattle.pv_tables.specs.declared.tables.Table.{Table}
-use Rattle.pv_table_check.proofs.AddedUp.{no_value, one_more, too_little}
+use Rattle.pv_table_check.proofs.RemainingTotals.{no_value, one_more, too_little}
 use Rattle.pv_table_check.proofs.totals.tables_add_up.Goals as goal
 
 pub returns-in_default : goal.returns-in_default

@@ -1,5 +1,5 @@
 use Rattle.pv_tree.specs.Lists.{lists_of}
-use Rattle.pv_tables.proofs.AddingUp.{same_place}
+use Rattle.pv_tables.proofs.TableTotals.{same_place}
 use Rattle.pv_tables.proofs.laws.one_list_at_path_law.Goals as goal
 
 pub returns : goal.returns

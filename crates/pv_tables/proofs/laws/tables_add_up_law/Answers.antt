@@ -1,4 +1,4 @@
-use Rattle.pv_tables.proofs.AddingUp.{tables_add_up}
+use Rattle.pv_tables.proofs.TableTotals.{tables_add_up}
 use Rattle.pv_tables.proofs.laws.tables_add_up_law.Goals as goal
 
 pub returns : goal.returns

@@ -3,7 +3,7 @@ use Rattle.pv_tree.specs.Lists.{lists_of}
 use Rattle.pv_tree.specs.MarkedLists.{list_alone}
 use Rattle.pv_tree.specs.PlainDocs.{plain_doc}
 use Rattle.pv_tree.specs.Search.{Tells}
-use Rattle.pv_tree.specs.Walking.{lists_left, path_come_to}
+use Rattle.pv_tree.specs.ListWalks.{lists_left, path_come_to}
 use Rattle.pv_tree.specs.Walks.{list_given}
 use Rattle.pv_tree.proofs.ListSearches.{passed_more, stopped_at}
 use Rattle.pv_tree.proofs.search.first_list.Goals as goal

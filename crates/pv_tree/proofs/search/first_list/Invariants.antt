@@ -2,7 +2,7 @@ use Rattle.std.proofs.Common.{List, ℕ, length, map}
 use Rattle.pv_tree.specs.Lists.{lists_of}
 use Rattle.pv_tree.specs.MarkedLists.{list_alone}
 use Rattle.pv_tree.specs.PlainDocs.{plain_doc}
-use Rattle.pv_tree.specs.Walking.{lists_left}
+use Rattle.pv_tree.specs.ListWalks.{lists_left}
 use Rattle.pv_tree.proofs.ListSearches.{HasPassed}
 use Rattle.pv_tree.proofs.search.first_list.Given as goal
 

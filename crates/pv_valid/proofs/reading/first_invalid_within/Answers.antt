@@ -4,7 +4,7 @@ use Rattle.pv_read.specs.declared.errors.DocError.TheVariants.{NoMemory}
 use Rattle.pv_read.proofs.OneItem.{one_item}
 use Rattle.pv_read.proofs.PartsOfDocuments.{answers_error}
 use Rattle.pv_lists.specs.Answers.{limits_of}
-use Rattle.pv_valid.proofs.Whole.{other_root, same_root}
+use Rattle.pv_valid.proofs.WholeRoots.{other_root, same_root}
 use Rattle.pv_valid.proofs.reading.first_invalid_within.Goals as goal
 
 pub returns-in-Err-Judge-clause-exactly : goal.returns-in-Err-Judge-clause-exactly

@@ -1,7 +1,7 @@
 use Rattle.std.proofs.Common.{◌+◌, arith}
 use Rattle.pv_rematch.proofs.ChangedNumbers.{number_after}
 use Rattle.pv_productive.specs.PlainForms.{dtd_of}
-use Rattle.pv_verdicts.specs.Counting.{IsTakenToken}
+use Rattle.pv_verdicts.specs.TokenCounts.{IsTakenToken}
 use Rattle.pv_verdicts.proofs.CountAnswers.{told_of}
 use Rattle.pv_verdicts.proofs.counts.untaken_after.Goals as goal
 

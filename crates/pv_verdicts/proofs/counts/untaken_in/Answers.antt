@@ -1,7 +1,7 @@
 use Rattle.std.proofs.Common.{arith, sym, true≢false, ◌∙◌}
 use Rattle.pv_rematch.proofs.ChangedNumbers.{next_with, next_without}
 use Rattle.pv_productive.specs.PlainForms.{dtd_of}
-use Rattle.pv_verdicts.specs.Counting.{IsTakenToken}
+use Rattle.pv_verdicts.specs.TokenCounts.{IsTakenToken}
 use Rattle.pv_verdicts.proofs.counts.untaken_in.Goals as goal
 use Rattle.pv_verdicts.proofs.counts.untaken_in.Goals.{then-not-is_taken, else-not-is_taken}
 

@@ -1,5 +1,5 @@
 use Rattle.std.proofs.Common.{arith, map, sym, true≢false, ◌∙◌}
-use Rattle.pv_dtd.proofs.Proper.{proper}
+use Rattle.pv_dtd.proofs.ProperDtds.{proper}
 use Rattle.pv_missing.proofs.VerdictBySite.{content_possible_judged, content_valid_judged}
 use Rattle.pv_missing.proofs.VerdictBySite.{judged_impossible, unproductive_judged}
 use Rattle.pv_missing.specs.LiveWords.{IsProductiveToken}

@@ -5,8 +5,8 @@ use Rattle.pv_tree.specs.PlainDocs.{plain_doc}
 use Rattle.pv_tree.specs.View.{view}
 use Rattle.pv_table_check.specs.ClosedTables.{AreClosedTables}
 use Rattle.pv_compare.specs.Kept.{AreMarks, IsBodyText, KeepsDocument}
-use Rattle.pv_verify.proofs.InOrder.{accepted, at-closure, at-kept, at-totals, at-validity, not-so}
-use Rattle.pv_verify.proofs.NoText.{wider-text}
+use Rattle.pv_verify.proofs.EarlierTests.{accepted, at-closure, at-kept, at-totals, at-validity, not-so}
+use Rattle.pv_verify.proofs.RefusedBodies.{wider-text}
 use Rattle.pv_verify.proofs.verifying.first_failed.Goals as goal
 
 pub is_valid-requires : goal.is_valid-requires

@@ -4,8 +4,8 @@ use Rattle.pv_dtd.specs.PlainForms.{plain_dtd}
 use Rattle.pv_opening.specs.Documents.{document_stage}
 use Rattle.pv_opening.specs.Returns.{plain_opened}
 use Rattle.pv_opening.proofs.Stages.{found_behind, stop_found, tells_found}
-use Rattle.pvlong.specs.Answering.{IsToldOf}
-use Rattle.pvlong.specs.Telling.{TellsFor, not_least_in, response_in}
+use Rattle.pvlong.specs.RequestAnswers.{IsToldOf}
+use Rattle.pvlong.specs.ToldNumbers.{TellsFor, not_least_in, response_in}
 use Rattle.pvlong.proofs.answering.answer_fetched.Goals as goal
 
 pub returns-in_err-dtd : goal.returns-in_err-dtd

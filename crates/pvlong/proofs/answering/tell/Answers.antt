@@ -1,20 +1,33 @@
-use Rattle.std.proofs.Common.{false, subst}
+use Rattle.std.proofs.Common.{subst}
 use Rattle.pv_dtd.specs.Plain.{PlainDtd}
 use Rattle.pv_dtd.specs.PlainForms.{plain_dtd}
-use Rattle.pv_productive.specs.PlainForms.{dtd_of}
 use Rattle.pv_tree.specs.PlainDocs.{plain_doc}
-use Rattle.pv_opening.proofs.Stages.{stops_as}
-use Rattle.pvlong.specs.Telling.{TellsFor, TellsNothing}
-use Rattle.pvlong.proofs.ToldLines.{nothing_for}
+use Rattle.pv_opening.specs.Returns.{TellsBy}
+use Rattle.pvlong.specs.Possibility.{TellsChecked}
+use Rattle.pvlong.specs.ToldNumbers.{TellsDocument, TellsNumber, not_least_in, response_in}
+use Rattle.pvlong.proofs.ToldLines.{checked_for, number_for}
 use Rattle.pvlong.proofs.answering.tell.Goals as goal
+
+pub returns-in-Check : goal.returns-in-Check
+returns-in-Check c =
+    let root = c.args.root.now in
+    let doc = plain_doc c.args.doc.now in
+    rw (c.in-Check.is, c.told_of.ensures.least, c.told_of.ensures.response)
+    (checked_for root c.args.bytes.now (plain_dtd c.args.dtd) doc c.check.result
+    (subst (λ (g : PlainDtd). TellsBy (TellsChecked root g doc) c.check.result) c.in_ok-grammar.ensures (c.check.ensures doc c.requires)))
+
+pub returns-in-Need : goal.returns-in-Need
+returns-in-Need c =
+    let root = c.args.root.now in
+    let doc = plain_doc c.args.doc.now in
+    rw (c.in-Need.is, c.told_of-in-Need.ensures.least, c.told_of-in-Need.ensures.response)
+    (number_for root c.args.bytes.now (plain_dtd c.args.dtd) doc c.tell_number.result
+    (subst (λ (g : PlainDtd). TellsBy (TellsNumber root g doc) c.tell_number.result) c.in_ok-grammar.ensures c.tell_number.ensures))
 
 pub returns : goal.returns
 returns c =
     let root = c.args.root.now in
-    let bytes = c.args.bytes.now in
-    let d = dtd_of c.in_ok-grammar.grammar in
     let doc = plain_doc c.args.doc.now in
-    let question = c.args.question in
-    stops_as (TellsNothing root d doc) (TellsFor question root (plain_dtd c.args.dtd) doc bytes false) c.refuse_missing.result
-    (λ r none. nothing_for root bytes (plain_dtd c.args.dtd) doc question r (subst (λ (h : PlainDtd). TellsNothing root h doc r) c.in_ok-grammar.ensures none))
-    (c.refuse_missing.ensures root d doc c.in-Err.ensures.refused)
+    let told = c.tell_document.result in
+    rw c.in-Complete.is
+    (subst (λ (g : PlainDtd). TellsBy (TellsDocument root g doc c.args.bytes.now (not_least_in told)) (response_in told)) c.in_ok-grammar.ensures c.tell_document.ensures)

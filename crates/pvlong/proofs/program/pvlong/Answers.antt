@@ -4,7 +4,7 @@ use Rattle.pv_opening.specs.Response.{PlainResponse, with_line}
 use Rattle.pv_opening.specs.declared.status.Status.TheVariants.{Usage}
 use Rattle.pv_opening.proofs.Stages.{tells_found}
 use Rattle.pvlong.specs.Requests.{plain_request, request_of}
-use Rattle.pvlong.specs.Telling.{response_in}
+use Rattle.pvlong.specs.ToldNumbers.{response_in}
 use Rattle.pvlong.proofs.Answers.{found_answers, none_found}
 use Rattle.pvlong.proofs.program.pvlong.Goals as goal
 

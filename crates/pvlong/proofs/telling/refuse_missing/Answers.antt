@@ -4,7 +4,7 @@ use Rattle.pv_opening.specs.Response.{with_line}
 use Rattle.pv_opening.specs.Returns.{RefusesWith}
 use Rattle.pv_opening.specs.declared.status.Status.TheVariants.{Limit, Negative}
 use Rattle.pv_opening.proofs.Stages.{stops_as}
-use Rattle.pvlong.specs.Telling.{TellsNothing, is_impossible, is_too_wide}
+use Rattle.pvlong.specs.ToldNumbers.{TellsNothing, is_impossible, is_too_wide}
 use Rattle.pvlong.proofs.telling.refuse_missing.Goals as goal
 
 pub returns-in-TooWide : goal.returns-in-TooWide

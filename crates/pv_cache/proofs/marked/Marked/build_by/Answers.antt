@@ -2,14 +2,14 @@ use Rattle.std.proofs.Common.{ap, subst, sym, ◌∙◌, ◌≤◌}
 use Rattle.pv_tree.specs.Plain.{PlainDoc, nodes_in}
 use Rattle.pv_tree.specs.PlainDocs.{plain_doc}
 use Rattle.pv_tree.specs.declared.nodes.Mark.{Mark}
-use Rattle.pv_cache.specs.Accepting.{MAX_EDITED_NODES}
+use Rattle.pv_cache.specs.AcceptedEdits.{MAX_EDITED_NODES}
 use Rattle.pv_cache.specs.Stamps.{stamped_doc_of}
 use Rattle.pv_cache.specs.WellMarked.{IsWellMarked, told_bad}
 use Rattle.pv_missing.specs.Verdicts.{IsLive}
 use Rattle.pv_tree.specs.Lists.{lists_of}
 use Rattle.std.specs.List.{AllByRecursion}
-use Rattle.pv_cache.proofs.Laid.{doc_marked, laid_few, no_stamps}
-use Rattle.pv_cache.proofs.NoBad.{no-bad-laid}
+use Rattle.pv_cache.proofs.LaidDocuments.{doc_marked, laid_few, no_stamps}
+use Rattle.pv_cache.proofs.NoBadLists.{no-bad-laid}
 use Rattle.pv_cache.proofs.marked.Marked.build_by.Goals as goal
 
 pub invariant_of-document : goal.invariant_of-document
@@ -26,7 +26,7 @@ invariant_of-document c =
       few =
           subst (λ (e : PlainDoc Mark). nodes_in e.root ≤ MAX_EDITED_NODES) (sym c.lay_doc.ensures)
           (laid_few vs doc c.requires.few);
-      held = λ kept e. absurd cc;
+      held = c.none.ensures d (plain_doc c.lay_doc.new.doc);
     }
 
 pub returns : goal.returns

@@ -3,9 +3,9 @@ use Rattle.pv_edit.specs.Inverses.{IsKept}
 use Rattle.pv_edit.proofs.PreparedChanges.{doc-kept}
 use Rattle.pv_edit.proofs.RemarkedFacts.{kept-to}
 use Rattle.pv_tree.specs.PlainDocs.{plain_doc}
-use Rattle.pv_cache.specs.Accepting.{IsHoldable}
+use Rattle.pv_cache.specs.AcceptedEdits.{IsHoldable}
 use Rattle.pv_cache.specs.Stamps.{StampedDoc, stamp_of}
-use Rattle.pv_cache.proofs.Alike.{holdable_to}
+use Rattle.pv_cache.proofs.RemarkedDocuments.{holdable_to}
 use Rattle.pv_cache.proofs.StampMoves.{holdable_of}
 use Rattle.pv_cache.proofs.marked.Marked.holdable_law.Goals as goal
 

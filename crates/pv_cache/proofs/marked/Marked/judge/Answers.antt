@@ -1,8 +1,8 @@
 use Rattle.std.proofs.Common.{subst}
 use Rattle.std.proofs.lemmas.Result.{err_from_is_err_and}
 use Rattle.pv_tree.specs.PlainDocs.{plain_doc}
-use Rattle.pv_cache.specs.Accepting.{IsAccepted}
-use Rattle.pv_cache.specs.Changing.{edited_doc}
+use Rattle.pv_cache.specs.AcceptedEdits.{IsAccepted}
+use Rattle.pv_cache.specs.MarkedTasks.{edited_doc}
 use Rattle.pv_cache.specs.Moves.{HasGround}
 use Rattle.pv_cache.specs.Stamps.{StampedDoc, stamps_of}
 use Rattle.pv_cache.proofs.marked.Marked.judge.Goals as goal

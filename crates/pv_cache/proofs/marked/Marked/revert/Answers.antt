@@ -4,11 +4,11 @@ use Rattle.pv_edit.specs.Inverses.{LeadsBack}
 use Rattle.pv_edit.specs.Reasons.{gives}
 use Rattle.pv_tree.specs.Marks.{unmarked_doc}
 use Rattle.pv_tree.specs.PlainDocs.{plain_doc}
-use Rattle.pv_cache.specs.Accepting.{IsHoldable}
+use Rattle.pv_cache.specs.AcceptedEdits.{IsHoldable}
 use Rattle.pv_cache.specs.Moves.{IsReverted}
 use Rattle.pv_cache.specs.PlainForms.{stamped_doc}
 use Rattle.pv_cache.specs.Stamps.{StampedDoc, stamp_of}
-use Rattle.pv_cache.proofs.Alike.{unmarked_as}
+use Rattle.pv_cache.proofs.RemarkedDocuments.{unmarked_as}
 use Rattle.pv_cache.proofs.StampMoves.{leads_from}
 use Rattle.pv_cache.proofs.marked.Marked.revert.Goals as goal
 

@@ -4,7 +4,7 @@ use Rattle.pv_tree.specs.declared.nodes.Verdict.{Verdict}
 use Rattle.pv_cache.specs.Rows.{TellVerdicts}
 use Rattle.pv_cache.specs.Stamps.{StampedDoc}
 use Rattle.pv_cache.specs.WellMarked.{verdicts_told}
-use Rattle.pv_cache.proofs.FirstBad.{tell_verdicts}
+use Rattle.pv_cache.proofs.FirstBadList.{tell_verdicts}
 use Rattle.pv_cache.proofs.marked.Marked.verdicts.Goals as goal
 
 pub returns : goal.returns

@@ -1,5 +1,5 @@
 use Rattle.std.proofs.Common.{arith}
-use Rattle.pv_edit.specs.Fitting.{plain_task}
+use Rattle.pv_edit.specs.FittingChanges.{plain_task}
 use Rattle.pv_tree.specs.PlainDocs.{plain_doc}
 use Rattle.pv_tree.specs.PlainForms.{plain}
 use Rattle.pv_cache.proofs.ImpossibleCounts.{inner-small, updated-counted}

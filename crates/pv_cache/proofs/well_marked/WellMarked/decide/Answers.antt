@@ -1,7 +1,7 @@
 use Rattle.std.proofs.Common.{arith, ◌<◌}
 use Rattle.pv_cache.specs.BadLists.{bad_gained, bad_lost}
-use Rattle.pv_cache.specs.Changed.{IsFirstAmong}
-use Rattle.pv_edit.specs.Fitting.{plain_task}
+use Rattle.pv_cache.specs.VerdictsAfterChange.{IsFirstAmong}
+use Rattle.pv_edit.specs.FittingChanges.{plain_task}
 use Rattle.pv_tree.specs.PlainDocs.{plain_doc}
 use Rattle.pv_tree.specs.PlainForms.{plain}
 use Rattle.pv_cache.proofs.Tasks.{first-unaccepted, task-place}

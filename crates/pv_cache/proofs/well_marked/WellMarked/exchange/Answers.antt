@@ -1,6 +1,6 @@
 use Rattle.std.proofs.Common.{List, ap, subst, sym, ◌<◌, ◌^◌, ◌≡◌}
 use Rattle.std.specs.List.{between}
-use Rattle.pv_edit.specs.Fitting.{SuitsChange, plain_task}
+use Rattle.pv_edit.specs.FittingChanges.{SuitsChange, plain_task}
 use Rattle.pv_edit.specs.Reasons.{items_of, kids_at}
 use Rattle.pv_tree.specs.Plain.{Tree, forest_of}
 use Rattle.pv_tree.specs.PlainDocs.{plain_doc}

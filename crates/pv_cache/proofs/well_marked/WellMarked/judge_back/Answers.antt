@@ -1,10 +1,10 @@
 use Rattle.std.proofs.Common.{subst, sym}
 use Rattle.pv_edit.specs.Changes.{list_after}
-use Rattle.pv_edit.specs.Fitting.{plain_task}
+use Rattle.pv_edit.specs.FittingChanges.{plain_task}
 use Rattle.pv_edit.specs.Reasons.{kids_at}
 use Rattle.pv_tree.specs.Plain.{forest_of}
 use Rattle.pv_tree.specs.PlainDocs.{plain_doc}
-use Rattle.pv_cache.specs.Judging.{AreListTokens}
+use Rattle.pv_cache.specs.ChangedWords.{AreListTokens}
 use Rattle.pv_cache.proofs.well_marked.WellMarked.judge_back.Goals as goal
 
 pub unreachable-requires : goal.unreachable-requires

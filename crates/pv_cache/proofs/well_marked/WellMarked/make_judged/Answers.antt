@@ -1,36 +1,32 @@
-use Rattle.std.proofs.Common.{◌≡◌, ◌≤◌, ◌∙◌, ap, arith, length, refl, sym, rules, subst, List, Some}
+use Rattle.std.proofs.Common.{◌≡◌, ◌≤◌, ◌∙◌, ap, arith, length, refl, sym, rules, subst, List}
 use Rattle.std.proofs.Common.{ℕ}
+use Rattle.std.specs.Prelude.{IsTrue}
 use Rattle.std.specs.List.{between}
-use Rattle.std.specs.Option.{ForSome}
-use Rattle.pv_edit.specs.Brought.{lists_changed}
+use Rattle.pv_edit.specs.BroughtElements.{lists_changed}
 use Rattle.pv_edit.specs.Changes.{doc_after, in_place_of}
 use Rattle.pv_edit.specs.Reasons.{kids_at}
-use Rattle.pv_edit.specs.Fitting.{plain_task}
+use Rattle.pv_edit.specs.FittingChanges.{plain_task}
 use Rattle.pv_tree.specs.Marks.{unmarked_doc}
 use Rattle.pv_dtd.specs.Plain.{PlainDtd}
 use Rattle.pv_tree.specs.Plain.{PlainDoc, forest_of, nodes_in}
 use Rattle.pv_tree.specs.PlainDocs.{plain_doc}
 use Rattle.pv_tree.specs.declared.nodes.Mark.{Mark}
-use Rattle.pv_cache.specs.Accepting.{MAX_EDITED_NODES}
-use Rattle.pv_cache.specs.Changing.{IsChanged}
-use Rattle.pv_cache.specs.Judging.{AreListTokens, AreKeptTokens}
+use Rattle.pv_cache.specs.AcceptedEdits.{MAX_EDITED_NODES}
+use Rattle.pv_cache.specs.Apart.{is_apart}
+use Rattle.pv_cache.specs.MarkedTasks.{IsChanged}
+use Rattle.pv_cache.specs.ChangedWords.{AreKeptLists, AreKeptTokens, AreListTokens}
 use Rattle.pv_cache.specs.Updates.{CanUpdateDoc, CanUpdateOwner, IsDocCounted, update_doc}
 use Rattle.pv_cache.specs.PlainMarked.{PlainMarked, plain_marked}
 use Rattle.pv_cache.specs.WellMarked.{IsWellMarked, told_bad}
-use Rattle.pv_cache.specs.declared.words.KeptTokens.{KeptTokens}
+use Rattle.pv_cache.specs.declared.kept_lists.KeptTokens.{KeptTokens}
 use Rattle.pv_cache.specs.Stamps.{changed_by, stamp_lists, stamps_of}
+use Rattle.pv_cache.proofs.ApartLists.{kept-apart}
 use Rattle.pv_cache.proofs.DocumentStamps.{changed_are, same_number, stamps_updated}
 use Rattle.pv_cache.proofs.ImpossibleCounts.{updated-counted}
-use Rattle.pv_cache.proofs.Kept.{kept-after, kept-of}
-use Rattle.pv_cache.proofs.Ready.{ready-can, ready-counted, ready-marked}
-use Rattle.pv_cache.proofs.Tasks.{task-list}
+use Rattle.pv_cache.proofs.ListTokenFacts.{kept-after}
+use Rattle.pv_cache.proofs.UpdatableDocuments.{ready-can, ready-counted, ready-marked}
 use Rattle.pv_cache.proofs.MarksAlone.{doc-as, few-updated}
 use Rattle.pv_cache.proofs.well_marked.WellMarked.make_judged.Goals as goal
-
-pub owner_of-owner-requires : goal.owner_of-owner-requires
-owner_of-owner-requires c =
-    let doc = plain_doc c.args.self.now.doc in
-    task-list doc.root (plain_task c.args.task) c.requires.task.can c.requires.task.unshort doc.mark
 
 pub update_doc-requires-clause-can : goal.update_doc-requires-clause-can
 update_doc-requires-clause-can c =
@@ -83,8 +79,8 @@ invariant_of-self c =
           subst (λ (e : PlainDoc Mark). nodes_in e.root ≤ MAX_EDITED_NODES)
           (sym same) c.args.self.now.few;
       held =
-          subst (λ (e : PlainDoc Mark). ForSome c.args.self.now.kept (AreKeptTokens d e))
-          (sym same) c.args.self.now.held;
+          subst (λ (e : PlainDoc Mark). AreKeptLists d e c.args.self.now.kept) (sym same)
+          c.args.self.now.held;
     }
 
 -- and after the change
@@ -115,10 +111,18 @@ invariant_of-self-2 c =
     let told = ap told_bad is in
     let k : c.in_ok-list.list ≡ t.list = search rules in
     let new = update_doc t.list m.outer m.inner c.args.stamp (doc_after ch old) in
-    let kept : KeptTokens = record { list = c.in_ok-list.list; tokens = c.args.tokens } in
     let tokens =
     kept-after d old ch c.requires.task.can c.requires.task.unshort m.outer m.inner c.args.stamp
     c.args.tokens c.requires.tokens in
+    let stays : (kept : KeptTokens) → IsTrue (is_apart c.in_ok-list.list kept.list) →
+    AreKeptTokens d old kept → AreKeptTokens d new kept =
+    λ kept apart h.
+    kept-apart d old ch c.requires.task.can c.requires.task.unshort m.outer m.inner c.args.stamp
+    kept (subst (λ (q : List ℕ). IsTrue (is_apart q kept.list)) k apart) h in
+    let held : AreKeptLists d new c.change.new.self =
+    c.change.ensures d old new c.args.self.now.held stays
+    (subst (λ (q : List ℕ). AreListTokens d (forest_of (kids_at q new.root)) c.args.tokens) (sym k)
+    tokens) in
     record {
       marked = subst (Marked_ d root) (sym is) r;
       counted = omega arith;
@@ -126,10 +130,7 @@ invariant_of-self-2 c =
           subst (λ (e : PlainDoc Mark). nodes_in e.root ≤ MAX_EDITED_NODES) (sym is)
           (few-updated t.list m.outer m.inner c.args.stamp (doc_after ch old) c.requires.task.few);
       held =
-          subst (λ (e : PlainDoc Mark). ForSome (Some kept) (AreKeptTokens d e)) (sym is)
-          (kept-of d new kept
-          (subst (λ (q : List ℕ). AreListTokens d (forest_of (kids_at q new.root)) c.args.tokens)
-          (sym k) tokens));
+          subst (λ (e : PlainDoc Mark). AreKeptLists d e c.change.new.self) (sym is) held;
     }
 
 pub returns-clause-changed : goal.returns-clause-changed

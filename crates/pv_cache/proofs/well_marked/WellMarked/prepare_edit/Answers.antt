@@ -4,7 +4,7 @@ use Rattle.pv_tree.specs.Plain.{nodes_in}
 use Rattle.pv_tree.specs.PlainDocs.{plain_doc}
 use Rattle.pv_tree.specs.declared.nodes.Mark.{Mark}
 use Rattle.pv_edit.proofs.PreparedChanges.{doc-kept}
-use Rattle.pv_cache.specs.Accepting.{MAX_EDITED_NODES}
+use Rattle.pv_cache.specs.AcceptedEdits.{MAX_EDITED_NODES}
 use Rattle.pv_cache.proofs.StampMoves.{few_after, many_after, not_shaped, told_nodes, too_many}
 use Rattle.pv_cache.proofs.well_marked.WellMarked.prepare_edit.Goals as goal
 

@@ -2,7 +2,7 @@ use Rattle.std.proofs.Common.{◌≡◌, refl, subst, sym}
 use Rattle.pv_cache.specs.Moves.{IsReverted}
 use Rattle.pv_cache.specs.Stamps.{StampedDoc, stamped_doc_of}
 use Rattle.pv_cache.specs.WellMarked.{IsWellMarked}
-use Rattle.pv_edit.specs.Fitting.{plain_task}
+use Rattle.pv_edit.specs.FittingChanges.{plain_task}
 use Rattle.pv_tree.specs.PlainDocs.{plain_doc}
 use Rattle.pv_cache.proofs.StampMoves.{back_few, back_made, back_narrow, same_ground, stamped_ground}
 use Rattle.pv_cache.proofs.well_marked.WellMarked.revert.Goals as goal

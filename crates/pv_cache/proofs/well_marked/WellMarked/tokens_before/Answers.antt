@@ -6,7 +6,7 @@ use Rattle.pv_tree.specs.Plain.{Tree, forest_of}
 use Rattle.pv_tree.specs.PlainDocs.{plain_doc}
 use Rattle.pv_tree.specs.PlainForms.{plain_all}
 use Rattle.pv_tree.specs.declared.nodes.Mark.{Mark}
-use Rattle.pv_cache.specs.Judging.{AreListTokens}
+use Rattle.pv_cache.specs.ChangedWords.{AreListTokens}
 use Rattle.pv_cache.proofs.well_marked.WellMarked.tokens_before.Goals as goal
 
 pub returns : goal.returns

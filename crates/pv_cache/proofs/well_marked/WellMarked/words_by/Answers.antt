@@ -1,13 +1,13 @@
 use Rattle.std.proofs.Common.{◌≡◌, ap, List, subst, sym}
 use Rattle.pv_dtd.specs.Plain.{PlainDtd}
 use Rattle.pv_dtd.specs.PlainForms.{plain_dtd}
-use Rattle.pv_edit.specs.Fitting.{SuitsChange, plain_task}
+use Rattle.pv_edit.specs.FittingChanges.{SuitsChange, plain_task}
 use Rattle.pv_edit.specs.Reasons.{items_of, kids_at}
 use Rattle.pv_tree.specs.Plain.{Tree, forest_of}
 use Rattle.pv_tree.specs.PlainDocs.{plain_doc}
 use Rattle.pv_tree.specs.PlainForms.{plain_all}
 use Rattle.pv_tree.specs.declared.nodes.Mark.{Mark}
-use Rattle.pv_cache.specs.Judging.{AreListTokens, AreWords}
+use Rattle.pv_cache.specs.ChangedWords.{AreListTokens, AreWords}
 use Rattle.pv_cache.proofs.Tasks.{task-suits}
 use Rattle.pv_cache.proofs.well_marked.WellMarked.words_by.Goals as goal
 

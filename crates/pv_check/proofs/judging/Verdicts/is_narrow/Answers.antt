@@ -4,5 +4,7 @@ use Rattle.pv_productive.specs.PlainForms.{dtd_of}
 use Rattle.pv_missing.specs.Widths.{FitsVerdict}
 use Rattle.pv_check.proofs.judging.Verdicts.is_narrow.Goals as goal
 
-pub returns : goal.returns
-returns c = subst (λ (d : PlainDtd). IsTrue c.is_narrow.result ↔ FitsVerdict d (length c.args.word.now)) (c.dtd.ensures ∙ ap dtd_of c.grammar.ensures) c.is_narrow.ensures
+pub returns-in-Limited : goal.returns-in-Limited
+returns-in-Limited c = rw c.in-Limited.is
+    (subst (λ (d : PlainDtd). IsTrue c.is_narrow.result ↔ FitsVerdict d (length c.args.word.now))
+    (c.dtd.ensures ∙ ap dtd_of c.grammar.ensures) c.is_narrow.ensures)

@@ -4,7 +4,7 @@ use Rattle.pv_dtd.specs.PlainForms.{plain_dtd}
 use Rattle.pv_drill.specs.Drill.{DRILL_DTD, drill_text}
 use Rattle.pv_read.proofs.DocumentFacts.{few_nodes}
 use Rattle.pv_session.specs.Sessions.{PlainSession}
-use Rattle.pv_opening.specs.Judging.{judges_none, judging_stage, lists_judged, without_memory}
+use Rattle.pv_opening.specs.JudgedCounts.{judges_none, judging_stage, lists_judged, without_memory}
 use Rattle.pv_opening.specs.Possibility.{width_stage}
 use Rattle.pv_opening.specs.Stage.{beside}
 use Rattle.pv_opening.specs.Documents.{document_stage}

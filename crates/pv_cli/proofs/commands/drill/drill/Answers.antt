@@ -2,9 +2,9 @@ use Rattle.std.proofs.Common.{◌*◌, Err, length}
 use Rattle.std.proofs.lemmas.Result.{err_from_is_err_and}
 use Rattle.pv_cli.specs.Drill.{TellsCounts, drill_stage}
 use Rattle.pv_opening.specs.Stage.{Responds}
-use Rattle.pv_cli.specs.Checking.{CountsAtMost, judging_drill_stage}
+use Rattle.pv_cli.specs.RunCounts.{CountsAtMost, judging_drill_stage}
 use Rattle.pv_drill.specs.Drill.{drill_lines}
-use Rattle.pv_opening.specs.Judging.{lists_judged}
+use Rattle.pv_opening.specs.JudgedCounts.{lists_judged}
 use Rattle.pv_opening.specs.Returns.{ending_of}
 use Rattle.pv_cli.proofs.CommandCounts.{drill_stopped}
 use Rattle.pv_opening.proofs.JudgedLists.{opened_goes}

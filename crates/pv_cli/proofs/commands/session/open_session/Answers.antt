@@ -3,7 +3,7 @@ use Rattle.std.proofs.lemmas.Result.{err_from_is_err_and}
 use Rattle.pv_dtd.specs.PlainForms.{plain_dtd}
 use Rattle.pv_read.proofs.DocumentFacts.{few_nodes}
 use Rattle.pv_session.specs.Sessions.{PlainSession}
-use Rattle.pv_opening.specs.Judging.{lists_judged}
+use Rattle.pv_opening.specs.JudgedCounts.{lists_judged}
 use Rattle.pv_opening.specs.Possibility.{width_stage}
 use Rattle.pv_opening.specs.Stage.{beside}
 use Rattle.pv_opening.specs.Documents.{document_stage}

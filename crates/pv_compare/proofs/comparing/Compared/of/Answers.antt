@@ -4,7 +4,7 @@ use Rattle.pv_read.specs.Meaning.{long}
 use Rattle.pv_flat.specs.Plain.{plain_event}
 use Rattle.pv_compare.specs.LeftOut.{LeavesEvents}
 use Rattle.pv_compare.proofs.GivenEvents.{given-all, given-more, given-refused}
-use Rattle.pv_compare.specs.Reading.{is_plain_start, plain_starts}
+use Rattle.pv_compare.specs.ReadEvents.{is_plain_start, plain_starts}
 use Rattle.pv_compare.proofs.PlainElements.{plain-push, plain-tree}
 use Rattle.pv_compare.proofs.comparing.Compared.of.Goals as goal
 

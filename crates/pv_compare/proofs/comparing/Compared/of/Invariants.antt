@@ -1,8 +1,8 @@
 use Rattle.std.proofs.Common.{List, length, map, ◌*◌, ◌+◌, ◌≡◌, ◌≤◌}
 use Rattle.pv_flat.specs.Plain.{PlainEvent, plain_event}
 use Rattle.pv_flat.specs.Steps.{still_to_read}
-use Rattle.pv_compare.specs.Comparing.{IsPast}
-use Rattle.pv_compare.specs.Reading.{HasGiven, plain_starts}
+use Rattle.pv_compare.specs.EventComparison.{IsPast}
+use Rattle.pv_compare.specs.ReadEvents.{HasGiven, plain_starts}
 use Rattle.pv_compare.proofs.comparing.Compared.of.Given as goal
 
 abbrev pub invariant-events : goal.invariant-events

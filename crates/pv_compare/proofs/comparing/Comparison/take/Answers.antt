@@ -1,6 +1,6 @@
 use Rattle.std.proofs.Common.{refl, subst}
 use Rattle.pv_flat.specs.Plain.{plain_event}
-use Rattle.pv_compare.specs.Walking.{PassesBy}
+use Rattle.pv_compare.specs.ReaderMoves.{PassesBy}
 use Rattle.pv_compare.proofs.ComparedEvents.{past-compared, past-different, past-left-out}
 use Rattle.pv_compare.proofs.comparing.Comparison.take.Goals as goal
 use Rattle.pv_compare.proofs.comparing.Comparison.take.Goals.{else-stays-via-else-stays, else-stays-via-then-stays+else-self}

@@ -2,7 +2,7 @@ use Rattle.std.proofs.Common.{[], map, subst, sym, ◌∙◌, ◌∷◌}
 use Rattle.std.proofs.lemmas.List.{map-append}
 use Rattle.std.proofs.lemmas.Result.{err_from_is_err_and}
 use Rattle.pv_flat.specs.Plain.{plain_event}
-use Rattle.pv_compare.specs.Reading.{HasGiven}
+use Rattle.pv_compare.specs.ReadEvents.{HasGiven}
 use Rattle.pv_compare.proofs.GivenEvents.{given-all, given-more, given-refused}
 use Rattle.pv_compare.proofs.reading.EventParts.of.Goals as goal
 

@@ -1,7 +1,7 @@
 use Rattle.std.proofs.Common.{map}
 use Rattle.pv_flat.specs.Plain.{plain_event}
 use Rattle.pv_flat.specs.Steps.{still_to_read}
-use Rattle.pv_compare.specs.Reading.{HasGiven}
+use Rattle.pv_compare.specs.ReadEvents.{HasGiven}
 use Rattle.pv_compare.proofs.reading.EventParts.of.Given as goal
 
 abbrev pub invariant-events : goal.invariant-events

@@ -1,5 +1,5 @@
 use Rattle.std.proofs.Common.{length, ◌≡◌}
-use Rattle.pv_compare.specs.Wanting.{wanted_events}
+use Rattle.pv_compare.specs.WantedEvents.{wanted_events}
 use Rattle.pv_compare.proofs.wanted.Wanted.open_text.Given as goal
 
 abbrev pub invariant-texts : goal.invariant-texts

@@ -1,5 +1,5 @@
 use Rattle.std.proofs.Common.{take, ◌++◌, ◌≡◌}
-use Rattle.pv_compare.specs.Wanting.{wanted_events}
+use Rattle.pv_compare.specs.WantedEvents.{wanted_events}
 use Rattle.pv_compare.proofs.OneHedge.{texts}
 use Rattle.pv_compare.proofs.wanted.Wanted.take_text.Given as goal
 

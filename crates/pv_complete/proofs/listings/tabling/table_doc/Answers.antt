@@ -1,11 +1,11 @@
 use Rattle.std.proofs.Common.{[], refl, subst, ◌∷◌, ◌≡◌}
 use Rattle.std.proofs.lemmas.Result.{err_from_is_err_and}
 use Rattle.pv_productive.specs.PlainForms.{dtd_of}
-use Rattle.pv_tree.specs.Walking.{path_come_to}
+use Rattle.pv_tree.specs.ListWalks.{path_come_to}
 use Rattle.pv_tree.specs.Walks.{list_given}
 use Rattle.pv_fresh.proofs.Lists.{come_to, come_to_none, left_by}
 use Rattle.pv_complete.specs.PlainForms.{made_of}
-use Rattle.pv_complete.specs.Tabling.{MakesTables, StopsTables}
+use Rattle.pv_complete.specs.TableWalks.{MakesTables, StopsTables}
 use Rattle.pv_complete.specs.declared.errors.NeedError.{NeedError}
 use Rattle.pv_complete.proofs.MadeTables.{makes_nothing, makes_on, tables_before, tables_behind}
 use Rattle.pv_complete.proofs.listings.tabling.table_doc.Goals as goal

@@ -2,10 +2,10 @@ use Rattle.std.proofs.Common.{length}
 use Rattle.pv_productive.specs.PlainForms.{dtd_of}
 use Rattle.pv_tree.specs.Lists.{lists_of}
 use Rattle.pv_tree.specs.PlainDocs.{plain_doc}
-use Rattle.pv_tree.specs.Walking.{lists_left}
+use Rattle.pv_tree.specs.ListWalks.{lists_left}
 use Rattle.pv_fresh.proofs.Lists.{left_by}
 use Rattle.pv_complete.specs.PlainForms.{made_of}
-use Rattle.pv_complete.specs.Tabling.{MakesTables, PlainMade, StopsTables}
+use Rattle.pv_complete.specs.TableWalks.{MakesTables, PlainMade, StopsTables}
 use Rattle.pv_complete.specs.declared.errors.NeedError.{NeedError}
 use Rattle.pv_complete.proofs.listings.tabling.table_doc.Given as goal
 

@@ -2,10 +2,10 @@ use Rattle.std.proofs.Common.{refl, subst, sym, true≢false, ◌∙◌, ◌≡�
 use Rattle.std.proofs.lemmas.Result.{err_from_is_err_and}
 use Rattle.pv_productive.specs.PlainForms.{dtd_of}
 use Rattle.pv_tree.specs.PlainForms.{forest}
-use Rattle.pv_tree.specs.Walking.{path_come_to}
+use Rattle.pv_tree.specs.ListWalks.{path_come_to}
 use Rattle.pv_missing.specs.PlainForms.{plain_of}
 use Rattle.pv_complete.specs.PlainForms.{made_of}
-use Rattle.pv_complete.specs.Tabling.{StopsKids}
+use Rattle.pv_complete.specs.TableWalks.{StopsKids}
 use Rattle.pv_complete.specs.declared.errors.NeedError.{NeedError}
 use Rattle.pv_complete.proofs.MadeTables.{makes_no_owner, makes_other, makes_table, tables_stop}
 use Rattle.pv_complete.proofs.OwnerSites.{owner_site}

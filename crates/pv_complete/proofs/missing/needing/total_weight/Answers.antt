@@ -3,12 +3,12 @@ use Rattle.pv_dtd.specs.PlainForms.{plain_dtd}
 use Rattle.pv_productive.specs.PlainForms.{dtd_of}
 use Rattle.pv_tree.specs.Lists.{IsFirstNot, lists_of}
 use Rattle.pv_tree.specs.PlainDocs.{plain_doc}
-use Rattle.pv_tree.specs.Walking.{path_come_to}
+use Rattle.pv_tree.specs.ListWalks.{path_come_to}
 use Rattle.pv_tree.specs.Walks.{list_given}
 use Rattle.pv_fresh.proofs.Lists.{come_to, come_to_none, left_by}
 use Rattle.pv_missing.specs.Verdicts.{AreVerdicts}
 use Rattle.pv_complete.specs.Loads.{AddsUp, StopsAtList}
-use Rattle.pv_complete.specs.Needing.{CanWeigh}
+use Rattle.pv_complete.specs.NeededElements.{CanWeigh}
 use Rattle.pv_complete.specs.PlainForms.{load_of}
 use Rattle.pv_complete.proofs.WeightSums.{adds_nothing, adds_on, stops_before, stops_behind, stops_in, weighs_in}
 use Rattle.pv_complete.proofs.missing.needing.total_weight.Goals as goal

@@ -2,7 +2,7 @@ use Rattle.std.proofs.Common.{List, length, ℕ}
 use Rattle.pv_productive.specs.PlainForms.{dtd_of}
 use Rattle.pv_tree.specs.Lists.{lists_of}
 use Rattle.pv_tree.specs.PlainDocs.{plain_doc}
-use Rattle.pv_tree.specs.Walking.{lists_left}
+use Rattle.pv_tree.specs.ListWalks.{lists_left}
 use Rattle.pv_fresh.proofs.Lists.{left_by}
 use Rattle.pv_complete.specs.KnownWeights.{AreKnown}
 use Rattle.pv_complete.specs.Loads.{AddsUp, PlainLoad, StopsAtList}

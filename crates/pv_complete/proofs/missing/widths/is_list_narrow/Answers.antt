@@ -3,7 +3,7 @@ use Rattle.pv_dtd.specs.PlainForms.{plain_dtd}
 use Rattle.pv_tree.specs.PlainForms.{forest}
 use Rattle.pv_tree.specs.Words.{word_of}
 use Rattle.pv_missing.specs.Widths.{FitsWeights}
-use Rattle.pv_fresh.proofs.Narrow.{few_tokens}
+use Rattle.pv_fresh.proofs.NarrowLists.{few_tokens}
 use Rattle.pv_complete.proofs.WideLists.{fits_less, long_as}
 use Rattle.pv_complete.proofs.missing.widths.is_list_narrow.Goals as goal
 

@@ -4,7 +4,7 @@ use Rattle.pv_rules.specs.Derivations.{IsWeight, heaviest}
 use Rattle.pv_rules.specs.Rules.{Rule}
 use Rattle.pv_productive.specs.PlainForms.{dtd_of}
 use Rattle.pv_missing.specs.PlainForms.{plain_of}
-use Rattle.pv_missing.specs.Weighing.{whole}
+use Rattle.pv_missing.specs.ListWeights.{whole}
 use Rattle.pv_complete.proofs.words.completing.list_pieces.Goals as goal
 
 pub returns-then-weight-ge-HEAVIEST-clause-pieces : goal.returns-then-weight-ge-HEAVIEST-clause-pieces

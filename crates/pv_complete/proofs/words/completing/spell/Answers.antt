@@ -6,7 +6,7 @@ use Rattle.pv_rules.specs.Rules.{over}
 use Rattle.pv_productive.specs.PlainForms.{dtd_of}
 use Rattle.pv_missing.specs.PlainForms.{plain_of}
 use Rattle.pv_span.proofs.KnownSites.{owner_has}
-use Rattle.pv_complete.specs.PieceForms.{plain_pieces}
+use Rattle.pv_write.specs.PieceForms.{plain_pieces}
 use Rattle.pv_complete.specs.Spelling.{SpellsSpan}
 use Rattle.pv_complete.proofs.SpelledWrites.{writes_at}
 use Rattle.pv_complete.proofs.words.completing.spell.Goals as goal

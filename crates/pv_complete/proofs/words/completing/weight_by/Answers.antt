@@ -2,7 +2,7 @@ use Rattle.std.proofs.Common.{ap, arith, length, map, subst, sym, ◌∙◌, ◌
 use Rattle.std.proofs.lemmas.List.{length-map}
 use Rattle.pv_model.specs.PlainForms.{plain_token}
 use Rattle.pv_missing.specs.PlainForms.{plain_of}
-use Rattle.pv_missing.specs.Weighing.{whole}
+use Rattle.pv_missing.specs.ListWeights.{whole}
 use Rattle.pv_productive.specs.PlainForms.{dtd_of}
 use Rattle.pv_rules.specs.Derivations.{IsWeight}
 use Rattle.pv_rules.specs.Rules.{Rule, over}

@@ -1,6 +1,6 @@
 use Rattle.std.proofs.Common.{arith, ap, inr, map, refl, subst, sym, ℕ, ◌∙◌}
 use Rattle.pv_model.specs.PlainForms.{plain_token}
-use Rattle.pv_dtd.proofs.Proper.{proper}
+use Rattle.pv_dtd.proofs.ProperDtds.{proper}
 use Rattle.pv_dtd.specs.Plain.{declared}
 use Rattle.pv_rules.specs.Sites.{content_site, name_site}
 use Rattle.pv_productive.specs.PlainForms.{dtd_of}

@@ -1,6 +1,6 @@
 use Rattle.std.proofs.Common.{arith, map, refl, sym, ◌+◌, ◌≢◌}
 use Rattle.pv_model.specs.PlainForms.{plain_token}
-use Rattle.pv_dtd.proofs.Proper.{proper}
+use Rattle.pv_dtd.proofs.ProperDtds.{proper}
 use Rattle.pv_rules.specs.Rules.{over}
 use Rattle.pv_rules.specs.Sites.{part_site}
 use Rattle.pv_rules.proofs.Members.{member_in, part_passed, passed_all, passed_further, passed_more, passed_none}

@@ -1,6 +1,6 @@
 use Rattle.std.proofs.Common.{arith, map, refl, suc, sym, ◌+◌, ◌≡◌, ◌∙◌}
 use Rattle.pv_model.specs.PlainForms.{plain_token}
-use Rattle.pv_dtd.proofs.Proper.{proper}
+use Rattle.pv_dtd.proofs.ProperDtds.{proper}
 use Rattle.pv_rules.specs.Sites.{part_site}
 use Rattle.pv_productive.specs.PlainForms.{dtd_of}
 use Rattle.pv_span.specs.Weights.{weight_of}

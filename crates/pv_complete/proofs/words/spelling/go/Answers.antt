@@ -1,7 +1,7 @@
 use Rattle.std.proofs.Common.{arith, ◌+◌}
-use Rattle.pv_complete.specs.PieceForms.{plain_pieces}
+use Rattle.pv_write.specs.PieceForms.{plain_pieces}
 use Rattle.pv_complete.specs.Works.{goal_work}
-use Rattle.pv_complete.specs.declared.words.pieces.Piece.TheVariants as piece
+use Rattle.pv_write.specs.declared.pieces.Piece.TheVariants as piece
 use Rattle.pv_complete.proofs.Powers.{nearer_end, nearer_new, nearer_one, nearer_text, nearer_two}
 use Rattle.pv_complete.proofs.Stacks.{goes_kept, goes_new, goes_nothing, goes_one, goes_text, goes_two, pushed}
 use Rattle.pv_complete.proofs.words.spelling.go.Goals as goal

@@ -4,8 +4,8 @@ use Rattle.pv_rules.specs.PlainForms.{plain_site}
 use Rattle.pv_rules.specs.Rules.{over}
 use Rattle.pv_productive.specs.PlainForms.{dtd_of}
 use Rattle.pv_span.specs.Weights.{weight_of}
-use Rattle.pv_complete.specs.PieceForms.{plain_pieces}
-use Rattle.pv_complete.specs.Pieces.{PlainPiece}
+use Rattle.pv_write.specs.PieceForms.{plain_pieces}
+use Rattle.pv_write.specs.Pieces.{PlainPiece}
 use Rattle.pv_complete.specs.Spelling.{SpellsSpan}
 use Rattle.pv_complete.specs.Works.{CanSpellAll, WantsAll, moves_left}
 use Rattle.pv_complete.proofs.words.spelling.pieces_of.Given as goal

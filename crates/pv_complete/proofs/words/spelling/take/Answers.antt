@@ -4,8 +4,8 @@ use Rattle.std.proofs.lemmas.Result.{IfOk-weaker}
 use Rattle.pv_model.specs.PlainForms.{plain_token}
 use Rattle.pv_productive.specs.PlainForms.{dtd_of}
 use Rattle.pv_span.specs.Weights.{weight_of}
-use Rattle.pv_complete.specs.PieceForms.{plain_pieces}
-use Rattle.pv_complete.specs.declared.words.pieces.Piece.TheVariants as piece
+use Rattle.pv_write.specs.PieceForms.{plain_pieces}
+use Rattle.pv_write.specs.declared.pieces.Piece.TheVariants as piece
 use Rattle.pv_complete.proofs.Powers.{nearer_end}
 use Rattle.pv_complete.proofs.Stacks.{goes_end, pushed}
 use Rattle.pv_complete.proofs.WeightsOfWords.{long_word}

@@ -1,23 +1,20 @@
-use Rattle.std.proofs.lemmas.Result.{err_from_is_err_and}
 use Rattle.pv_productive.specs.PlainForms.{dtd_of}
 use Rattle.pv_complete.proofs.writing.completion.complete_by.Goals as goal
 
-pub need_under-requires : goal.need_under-requires
-need_under-requires c = c.with_pieces-known.ensures (dtd_of c.in_ok-layout.layout.grammar.now)
+pub complete_under-requires-clause-known : goal.complete_under-requires-clause-known
+complete_under-requires-clause-known c = c.with_pieces-known.ensures (dtd_of c.in_ok-layout.layout.grammar.now)
 
-pub completion_under-requires-clause-verdicts : goal.completion_under-requires-clause-verdicts
-completion_under-requires-clause-verdicts c = rw c.in_ok-layout.ensures c.requires.verdicts
-
-pub returns-in_err-count-clause-refused : goal.returns-in_err-count-clause-refused
-returns-in_err-count-clause-refused c =
-    let p = err_from_is_err_and c.from_residual-in_err-count.result c.from_residual-in_err-count.ensures.1 in
-    rw (p.1, p.2) (rw c.in_ok-layout.ensures at c.in_err-count.ensures.refused)
+pub complete_under-requires-clause-verdicts : goal.complete_under-requires-clause-verdicts
+complete_under-requires-clause-verdicts c = rw c.in_ok-layout.ensures c.requires.verdicts
 
 pub returns-clause-completed : goal.returns-clause-completed
-returns-clause-completed c = rw c.in_ok-layout.ensures at c.in_ok-completion.ensures.completed
+returns-clause-completed c = rw c.in_ok-layout.ensures at c.complete_under.ensures.completed
 
 pub returns-clause-written : goal.returns-clause-written
-returns-clause-written c = rw c.in_ok-layout.ensures at c.in_ok-completion.ensures.written
+returns-clause-written c = rw c.in_ok-layout.ensures at c.complete_under.ensures.written
 
 pub returns-clause-bounded : goal.returns-clause-bounded
-returns-clause-bounded c = rw c.in_ok-layout.ensures at c.in_ok-completion.ensures.bounded
+returns-clause-bounded c = rw c.in_ok-layout.ensures at c.complete_under.ensures.bounded
+
+pub returns-clause-refused : goal.returns-clause-refused
+returns-clause-refused c = rw c.in_ok-layout.ensures at c.complete_under.ensures.refused

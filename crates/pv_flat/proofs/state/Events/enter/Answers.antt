@@ -1,5 +1,5 @@
 use Rattle.std.proofs.Common.{◌∙◌, ◌∷◌, [], ap, sym, subst}
-use Rattle.pv_flat.specs.Coming.{EventsCome}
+use Rattle.pv_flat.specs.ComingEvents.{EventsCome}
 use Rattle.pv_flat.specs.Plain.{begin_element}
 use Rattle.pv_flat.proofs.EnteredRoot.{entered, entered-short}
 use Rattle.pv_flat.specs.declared.state.Stage.TheVariants as stage

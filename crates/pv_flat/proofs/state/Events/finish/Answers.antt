@@ -1,6 +1,6 @@
 use Rattle.std.proofs.Common.{◌≡◌, [], sym, subst, refl}
 use Rattle.std.proofs.lemmas.Result.{err_from_is_err_and}
-use Rattle.pv_flat.specs.Coming.{EventsCome, IsIn, ends_with, open_names}
+use Rattle.pv_flat.specs.ComingEvents.{EventsCome, IsIn, ends_with, open_names}
 use Rattle.pv_flat.specs.declared.state.Stage.TheVariants as stage
 use Rattle.pv_flat.proofs.RootRefusals.{ends-behind, refused-behind}
 use Rattle.pv_flat.proofs.States.{comes-by, refused-advance, same-inside, same-names}

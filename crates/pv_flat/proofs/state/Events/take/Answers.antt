@@ -1,6 +1,6 @@
 use Rattle.std.proofs.Common.{◌∙◌, sym, subst, ◌∷◌, arith}
 use Rattle.pv_read.specs.Items.{comment_or_instruction, cdata_section, start_tag, empty_tag, end_tag, text_run}
-use Rattle.pv_flat.specs.Coming.{EventsCome}
+use Rattle.pv_flat.specs.ComingEvents.{EventsCome}
 use Rattle.pv_flat.specs.Plain.{begin_element}
 use Rattle.pv_flat.specs.declared.state.Stage.TheVariants as stage
 use Rattle.pv_flat.proofs.States.{comes-as, passed, popped-names, pushed-names, same-names}

@@ -1,4 +1,4 @@
-use Rattle.pv_missing.proofs.Kept.{extensions_complete}
+use Rattle.pv_missing.proofs.KeptLeaves.{extensions_complete}
 use Rattle.pv_missing.proofs.laws.documents.extensions_complete_law.Goals as goal
 
 pub returns : goal.returns

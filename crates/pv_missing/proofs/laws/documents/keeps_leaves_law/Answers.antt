@@ -1,4 +1,4 @@
-use Rattle.pv_missing.proofs.Kept.{keeps_leaves}
+use Rattle.pv_missing.proofs.KeptLeaves.{keeps_leaves}
 use Rattle.pv_missing.proofs.laws.documents.keeps_leaves_law.Goals as goal
 
 pub returns : goal.returns

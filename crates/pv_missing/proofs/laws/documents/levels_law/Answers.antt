@@ -1,4 +1,4 @@
-use Rattle.pv_missing.proofs.Deep.{levels_agree}
+use Rattle.pv_missing.proofs.InsertionLevels.{levels_agree}
 use Rattle.pv_missing.proofs.laws.documents.levels_law.Goals as goal
 
 pub returns : goal.returns

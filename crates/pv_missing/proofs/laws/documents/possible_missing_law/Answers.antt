@@ -1,4 +1,4 @@
-use Rattle.pv_missing.proofs.NoneMissing.{possible_are_missing}
+use Rattle.pv_missing.proofs.ListsMissingNothing.{possible_are_missing}
 use Rattle.pv_missing.proofs.laws.documents.possible_missing_law.Goals as goal
 
 pub returns : goal.returns

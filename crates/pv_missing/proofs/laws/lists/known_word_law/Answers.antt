@@ -1,4 +1,4 @@
-use Rattle.pv_missing.proofs.Known.{word_known}
+use Rattle.pv_missing.proofs.KnownNames.{word_known}
 use Rattle.pv_missing.proofs.laws.lists.known_word_law.Goals as goal
 
 pub returns : goal.returns

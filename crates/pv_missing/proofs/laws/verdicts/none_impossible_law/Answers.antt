@@ -1,4 +1,4 @@
-use Rattle.pv_missing.proofs.NoneImpossible.{none_impossible}
+use Rattle.pv_missing.proofs.NoImpossibleLists.{none_impossible}
 use Rattle.pv_missing.proofs.laws.verdicts.none_impossible_law.Goals as goal
 
 pub returns : goal.returns

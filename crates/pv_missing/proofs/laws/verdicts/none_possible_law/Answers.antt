@@ -1,4 +1,4 @@
-use Rattle.pv_missing.proofs.NonePossible.{none_possible}
+use Rattle.pv_missing.proofs.NoPossibleLists.{none_possible}
 use Rattle.pv_missing.proofs.laws.verdicts.none_possible_law.Goals as goal
 
 pub returns : goal.returns

@@ -1,4 +1,4 @@
-use Rattle.pv_missing.proofs.LiveOnce.{one_live_word}
+use Rattle.pv_missing.proofs.OneLiveWord.{one_live_word}
 use Rattle.pv_missing.proofs.laws.words.one_live_word_law.Goals as goal
 
 pub returns : goal.returns

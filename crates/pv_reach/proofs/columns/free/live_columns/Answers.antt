@@ -3,7 +3,7 @@ use Rattle.std.proofs.lemmas.Grind.{common_steps}
 use Rattle.pv_columns.specs.ColumnRules.{InRange}
 use Rattle.pv_columns.specs.Marks.{IsMarked}
 use Rattle.pv_reach.specs.Merging.{column_head}
-use Rattle.pv_reach.proofs.Live.{head_more, none_bare}
+use Rattle.pv_reach.proofs.LiveColumns.{head_more, none_bare}
 use Rattle.pv_reach.proofs.columns.free.live_columns.Goals.{then-is_marked, else-is_marked}
 use Rattle.pv_reach.proofs.columns.free.live_columns.Goals as goal
 

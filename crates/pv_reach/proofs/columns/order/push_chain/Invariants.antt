@@ -1,4 +1,4 @@
-use Rattle.pv_reach.proofs.ChainsLeft.{numbers_left}
+use Rattle.pv_reach.specs.Searches.{numbers_left}
 use Rattle.pv_reach.proofs.columns.order.push_chain.Given as goal
 
 abbrev pub decreases-loop-next : goal.decreases-loop-next

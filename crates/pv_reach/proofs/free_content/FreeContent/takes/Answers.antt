@@ -3,7 +3,7 @@ use Rattle.pv_model.specs.PlainForms.{plain_token}
 use Rattle.pv_missing.specs.LiveWords.{IsProductiveToken}
 use Rattle.pv_productive.specs.PlainForms.{dtd_of}
 use Rattle.pv_reach.specs.Contents.{ContentOf}
-use Rattle.pv_reach.specs.Taking.{ContentTakes}
+use Rattle.pv_reach.specs.TokensTaken.{ContentTakes}
 use Rattle.pv_reach.proofs.free_content.FreeContent.takes.Goals as goal
 
 pub returns : goal.returns

@@ -1,5 +1,5 @@
 use Rattle.std.proofs.Common.{get_or, length, ℕ, ◌<◌, ◌≡◌}
-use Rattle.pv_reach.specs.Leading.{IsHead}
+use Rattle.pv_reach.specs.LeadingColumns.{IsHead}
 use Rattle.pv_reach.proofs.graph.components.common_ends.Given as goal
 
 abbrev pub invariant-loop-column : goal.invariant-loop-column

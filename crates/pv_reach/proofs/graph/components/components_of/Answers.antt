@@ -2,7 +2,7 @@ use Rattle.std.proofs.Common.{Err, List, Ok, Result, length, subst, sym, â„•, â—
 use Rattle.std.specs.Prelude.{IfOk}
 use Rattle.pv_columns.specs.declared.layers.Edge.{Edge}
 use Rattle.pv_columns.specs.declared.rules.ColumnRule.{ColumnRule}
-use Rattle.pv_reach.specs.Leading.{AreAlike, AreRightEdges}
+use Rattle.pv_reach.specs.LeadingColumns.{AreAlike, AreRightEdges}
 use Rattle.pv_reach.specs.declared.graph.components.Components.{Components}
 use Rattle.pv_reach.proofs.graph.components.components_of.Goals as goal
 

@@ -1,7 +1,7 @@
 use Rattle.std.proofs.Common.{Err, Global, List, Ok, Result, Vec, get_or, length, subst, sym, ℕ, ◌<◌, ◌∙◌, ◌≡◌}
 use Rattle.std.specs.Prelude.{IfOk}
 use Rattle.pv_columns.specs.declared.layers.Edge.{Edge}
-use Rattle.pv_reach.specs.Leading.{AreHeads, AreLed, IsHead}
+use Rattle.pv_reach.specs.LeadingColumns.{AreHeads, AreLed, IsHead}
 use Rattle.pv_reach.proofs.graph.components.heads_by.Goals as goal
 
 heads_are : {E : Type 0} (turned : List Edge) (above below first second : List ℕ) (r : Result (Vec ℕ Global) E) → first ≡ above → second ≡ below → length below ≡ length above → AreLed turned below →

@@ -1,4 +1,4 @@
-use Rattle.pv_reach.specs.Leading.{AreRightEdges}
+use Rattle.pv_reach.specs.LeadingColumns.{AreRightEdges}
 use Rattle.pv_reach.proofs.graph.edges.edges_of.Given as goal
 
 abbrev pub invariant-loop-rule : goal.invariant-loop-rule

@@ -1,5 +1,5 @@
 use Rattle.std.proofs.Common.{Contains, ◌⊎◌}
-use Rattle.pv_reach.specs.Leading.{IsRightEdgeOf}
+use Rattle.pv_reach.specs.LeadingColumns.{IsRightEdgeOf}
 use Rattle.pv_columns.specs.declared.layers.Edge.{Edge}
 use Rattle.pv_reach.proofs.graph.edges.push_edges.Given as goal
 

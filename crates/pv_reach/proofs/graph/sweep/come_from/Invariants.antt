@@ -1,6 +1,6 @@
 use Rattle.std.proofs.Common.{length, ◌≡◌}
-use Rattle.pv_reach.specs.Leading.{AreLed}
-use Rattle.pv_reach.proofs.ChainsLeft.{numbers_left}
+use Rattle.pv_reach.specs.LeadingColumns.{AreLed}
+use Rattle.pv_reach.specs.Searches.{numbers_left}
 use Rattle.pv_reach.proofs.graph.sweep.come_from.Given as goal
 
 abbrev pub invariant-loop-next : goal.invariant-loop-next

@@ -1,5 +1,5 @@
 use Rattle.std.proofs.Common.{length, ◌≡◌}
-use Rattle.pv_reach.specs.Leading.{AreLed}
+use Rattle.pv_reach.specs.LeadingColumns.{AreLed}
 use Rattle.pv_reach.proofs.graph.sweep.go_on.Given as goal
 
 abbrev pub invariant-loop-at : goal.invariant-loop-at

@@ -1,7 +1,7 @@
 use Rattle.std.proofs.Common.{Contains, arith, get_or, length, refl, set, subst, sym, ℕ, ◌<◌, ◌∙◌}
 use Rattle.std.proofs.Math.ListN.{length-set}
 use Rattle.std.proofs.lemmas.List.{get_or_default}
-use Rattle.pv_reach.specs.Leading.{AreLed}
+use Rattle.pv_reach.specs.LeadingColumns.{AreLed}
 use Rattle.pv_columns.specs.declared.layers.Edge.{Edge}
 use Rattle.pv_reach.proofs.EdgeSweeps.{lead_more}
 use Rattle.pv_reach.proofs.graph.sweep.lead.Goals as goal

@@ -1,5 +1,5 @@
 use Rattle.std.proofs.Common.{length, ◌≡◌}
-use Rattle.pv_reach.specs.Leading.{AreLed}
+use Rattle.pv_reach.specs.LeadingColumns.{AreLed}
 use Rattle.pv_reach.proofs.graph.sweep.sweep_from.Given as goal
 
 abbrev pub invariant-loop-column : goal.invariant-loop-column

@@ -1,7 +1,7 @@
 use Rattle.std.proofs.Common.{ap, arith, subst, ℕ, ◌∙◌, ◌≡◌}
 use Rattle.pv_dtd.specs.Plain.{declared}
 use Rattle.pv_productive.specs.PlainForms.{dtd_of}
-use Rattle.pv_reach.specs.Adding.{AddsDeclared}
+use Rattle.pv_reach.specs.AddedRules.{AddsDeclared}
 use Rattle.pv_reach.proofs.NameRules.{declared_more, declared_none}
 use Rattle.pv_reach.proofs.rules.any.add_declared.Goals as goal
 

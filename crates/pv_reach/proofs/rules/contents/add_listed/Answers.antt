@@ -1,6 +1,6 @@
 use Rattle.std.proofs.Common.{arith, ℕ, subst, ◌≡◌}
 use Rattle.pv_productive.specs.PlainForms.{dtd_of}
-use Rattle.pv_reach.specs.Adding.{AddsListed}
+use Rattle.pv_reach.specs.AddedRules.{AddsListed}
 use Rattle.pv_reach.proofs.ContentRules.{listed_more, listed_none}
 use Rattle.pv_reach.proofs.rules.contents.add_listed.Goals as goal
 

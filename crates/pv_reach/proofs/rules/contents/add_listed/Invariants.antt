@@ -1,5 +1,5 @@
 use Rattle.pv_productive.specs.PlainForms.{dtd_of}
-use Rattle.pv_reach.specs.Adding.{AddsListed}
+use Rattle.pv_reach.specs.AddedRules.{AddsListed}
 use Rattle.pv_reach.proofs.rules.contents.add_listed.Given as goal
 
 abbrev pub invariant-loop-number : goal.invariant-loop-number

@@ -1,5 +1,5 @@
 use Rattle.pv_productive.specs.PlainForms.{dtd_of}
-use Rattle.pv_reach.specs.Adding.{LaysOutParts}
+use Rattle.pv_reach.specs.AddedRules.{LaysOutParts}
 use Rattle.pv_reach.proofs.rules.contents.add_parts.Given as goal
 
 abbrev pub invariant-loop-number : goal.invariant-loop-number

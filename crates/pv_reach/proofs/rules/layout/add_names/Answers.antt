@@ -2,7 +2,7 @@ use Rattle.std.proofs.Common.{ap, arith, inl, inr, subst, ℕ, ◌+◌, ◌<◌,
 use Rattle.std.proofs.lemmas.Bool.{cases_lt}
 use Rattle.pv_dtd.specs.Plain.{declared}
 use Rattle.pv_productive.specs.PlainForms.{dtd_of}
-use Rattle.pv_reach.specs.Adding.{LaysOutNames}
+use Rattle.pv_reach.specs.AddedRules.{LaysOutNames}
 use Rattle.pv_reach.proofs.NameRules.{names_more, names_none}
 use Rattle.pv_reach.proofs.rules.layout.add_names.Goals as goal
 

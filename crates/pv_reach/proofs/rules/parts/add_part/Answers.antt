@@ -1,7 +1,7 @@
 use Rattle.std.proofs.Common.{arith, sym, ◌∙◌}
 use Rattle.pv_rules.proofs.FlatKinds.{choice_at, name_at, no_part, opt_at, plus_at, seq_at, star_at}
 use Rattle.pv_productive.specs.PlainForms.{dtd_of}
-use Rattle.pv_reach.specs.Adding.{IsRuleOfPart}
+use Rattle.pv_reach.specs.AddedRules.{IsRuleOfPart}
 use Rattle.pv_reach.specs.Columns.{part_column}
 use Rattle.pv_reach.proofs.PartRules.{laid_none}
 use Rattle.pv_reach.proofs.rules.parts.add_part.Goals as goal

@@ -1,6 +1,6 @@
 use Rattle.std.proofs.Common.{None, List, ℕ, subst}
 use Rattle.pv_productive.specs.PlainForms.{dtd_of}
-use Rattle.pv_reach.specs.Adding.{AddsRule}
+use Rattle.pv_reach.specs.AddedRules.{AddsRule}
 use Rattle.pv_reach.proofs.PartRules.{seq_laid}
 use Rattle.pv_reach.proofs.rules.parts.add_seq.Goals as goal
 

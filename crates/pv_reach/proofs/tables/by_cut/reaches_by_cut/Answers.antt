@@ -1,11 +1,10 @@
-use Rattle.std.proofs.Common.{List, [], arith, length, subst, sym, ℕ, ◌++◌, ◌<◌, ◌∷◌, ◌≡◌}
+use Rattle.std.proofs.Common.{List, [], arith, length, subst, sym, ℕ, ◌++◌, ◌∷◌, ◌≡◌}
 use Rattle.pv_model.specs.declared.models.Token.{Token}
 use Rattle.pv_columns.specs.ColumnRules.{InRange, ReadThrough, TokensMayBeMissing}
 use Rattle.pv_columns.specs.declared.rules.ColumnRule.{ColumnRule}
-use Rattle.pv_reach.specs.Cuts.{AreRulesCut, AreTokensOf, HasCut}
+use Rattle.pv_reach.specs.Cuts.{AreTokensOf}
 use Rattle.pv_reach.proofs.FewColumns.{cut_reaches, few_in_range, few_missing}
 use Rattle.pv_reach.proofs.FreeRules.{joined}
-use Rattle.pv_reach.proofs.ContentRules.{if_ok_as}
 use Rattle.pv_reach.proofs.tables.by_cut.reaches_by_cut.Goals as goal
 
 pub reaches_end-requires-clause-narrow : goal.reaches_end-requires-clause-narrow

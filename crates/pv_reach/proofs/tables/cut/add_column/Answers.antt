@@ -1,7 +1,7 @@
-use Rattle.std.proofs.Common.{Contains, List, inl, inr, subst, sym, ℕ, ◌∙◌, ◌≡◌, ◌⊎◌}
+use Rattle.std.proofs.Common.{List, inl, inr, subst, sym, ◌∙◌, ◌≡◌}
 use Rattle.std.proofs.lemmas.List.{get_or_default}
 use Rattle.pv_columns.specs.declared.rules.ColumnRule.{ColumnRule}
-use Rattle.pv_reach.specs.Cuts.{AddsCut, HasAllNumbered}
+use Rattle.pv_reach.specs.Cuts.{AddsCut}
 use Rattle.pv_reach.specs.Merging.{column_head}
 use Rattle.pv_reach.proofs.RangesOfRules.{adds_none, by_range, on_ok_as, push_contains, push_keeps}
 use Rattle.pv_reach.proofs.tables.cut.add_column.Goals as goal

@@ -1,7 +1,7 @@
 use Rattle.std.proofs.Common.{arith, subst, suc, sym, ℕ, ◌+◌, ◌-◌, ◌∙◌, ◌≡◌}
 use Rattle.pv_rules.proofs.FlatKinds.{followed_at, last_at, no_rest, outside_at}
 use Rattle.pv_productive.specs.PlainForms.{dtd_of}
-use Rattle.pv_reach.specs.Reached.{past_column, past_rest}
+use Rattle.pv_reach.specs.ReachedPlaces.{past_column, past_rest}
 use Rattle.pv_reach.proofs.MemberRows.{past_last, past_more, past_none, past_outside}
 use Rattle.pv_reach.proofs.tables.rests.members_past.Goals as goal
 

@@ -1,6 +1,6 @@
 use Rattle.std.proofs.Common.{refl}
 use Rattle.pv_chars.proofs.DelimiterPlaces.{byte_nowhere}
-use Rattle.pv_read.proofs.Absent.{by_holds}
+use Rattle.pv_read.proofs.AbsentBytes.{by_holds}
 use Rattle.pv_read.proofs.KnownLemmas.{known_attributes, known_where_read}
 use Rattle.pv_read.proofs.forms.known.are_known_attributes.Goals as goal
 

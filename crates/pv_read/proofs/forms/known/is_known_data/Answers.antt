@@ -1,6 +1,6 @@
 use Rattle.std.proofs.Common.{refl}
 use Rattle.pv_chars.proofs.DelimiterPlaces.{byte_nowhere}
-use Rattle.pv_read.proofs.Absent.{by_holds}
+use Rattle.pv_read.proofs.AbsentBytes.{by_holds}
 use Rattle.pv_read.proofs.KnownLemmas.{known_text, known_data}
 use Rattle.pv_read.proofs.forms.known.is_known_data.Goals as goal
 

@@ -1,7 +1,7 @@
 use Rattle.std.proofs.Common.{◌≡◌, ◌<◌, ◌≤◌, suc, [], ◌++◌, length, take, drop, true, sym, ap, ◌∙◌, arith}
 use Rattle.std.proofs.lemmas.Grind.{common_steps}
 use Rattle.std.proofs.lemmas.List.{append-nil, length-take}
-use Rattle.pv_script.specs.Taking.{HeldLine, MAX_LINE_BYTES, begun_line}
+use Rattle.pv_script.specs.TakenLines.{HeldLine, MAX_LINE_BYTES, begun_line}
 use Rattle.pv_script.proofs.Feeds.{all_free, front_free, cut_at}
 use Rattle.pv_script.proofs.lines.Lines.take.Goals as goal
 

@@ -1,5 +1,5 @@
 use Rattle.std.proofs.Common.{subst}
-use Rattle.pv_session.specs.Keeping.{IsSession}
+use Rattle.pv_session.specs.SessionFacts.{IsSession}
 use Rattle.pv_session.proofs.Moves.{is_session}
 use Rattle.pv_session.proofs.session.Session.invariant_law.Goals as goal
 

@@ -2,7 +2,7 @@ use Rattle.std.proofs.Common.{ap, arith, sym, ◌∙◌}
 use Rattle.pv_productive.specs.Tables.{size_at}
 use Rattle.pv_span.specs.Charts.{span_number}
 use Rattle.pv_span.specs.DoneSpans.{row_of}
-use Rattle.pv_span.proofs.Across.{row_at_done, row_past_done}
+use Rattle.pv_span.proofs.RowsAcrossColumns.{row_at_done, row_past_done}
 use Rattle.pv_span.proofs.charts.Chart.at.Goals as goal
 
 pub returns-then-number-self : goal.returns-then-number-self

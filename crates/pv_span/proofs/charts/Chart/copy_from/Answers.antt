@@ -4,7 +4,7 @@ use Rattle.std.proofs.lemmas.List.{with_items_is}
 use Rattle.pv_productive.specs.Tables.{size_at}
 use Rattle.pv_span.specs.Charts.{span_number}
 use Rattle.pv_span.specs.DoneSpans.{row_of}
-use Rattle.pv_span.proofs.Across.{row_at_done}
+use Rattle.pv_span.proofs.RowsAcrossColumns.{row_at_done}
 use Rattle.pv_span.proofs.charts.Chart.copy_from.Goals as goal
 
 pub returns-clause-copied : goal.returns-clause-copied

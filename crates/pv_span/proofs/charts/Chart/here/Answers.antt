@@ -1,7 +1,7 @@
 use Rattle.std.proofs.Common.{ap, arith, sym, ◌∙◌}
 use Rattle.pv_productive.specs.Tables.{size_at}
 use Rattle.pv_span.specs.Charts.{span_number}
-use Rattle.pv_span.proofs.Across.{row_past_done}
+use Rattle.pv_span.proofs.RowsAcrossColumns.{row_past_done}
 use Rattle.pv_span.proofs.charts.Chart.here.Goals as goal
 
 pub returns-then-self : goal.returns-then-self

@@ -1,6 +1,6 @@
 use Rattle.std.proofs.Common.{arith}
 use Rattle.std.proofs.lemmas.Bool.{le-leb, leb-true}
-use Rattle.pv_span.proofs.Across.{rows_count}
+use Rattle.pv_span.proofs.RowsAcrossColumns.{rows_count}
 use Rattle.pv_span.proofs.charts.Chart.is_full.Goals as goal
 
 pub returns : goal.returns

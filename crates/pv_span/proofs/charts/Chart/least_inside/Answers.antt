@@ -6,7 +6,7 @@ use Rattle.pv_productive.specs.Tables.{no_size}
 use Rattle.pv_span.specs.Charts.{span_number}
 use Rattle.pv_span.specs.DoneSpans.{rows_done}
 use Rattle.pv_span.specs.PlainForms.{plain_chart}
-use Rattle.pv_span.proofs.Across.{rows_count}
+use Rattle.pv_span.proofs.RowsAcrossColumns.{rows_count}
 use Rattle.pv_span.proofs.LineFacts.{told_of}
 use Rattle.pv_span.proofs.charts.Chart.least_inside.Goals as goal
 

@@ -3,7 +3,7 @@ use Rattle.std.proofs.Common.{arith, length, suc, ◌+◌, ◌≡◌}
 use Rattle.std.proofs.lemmas.List.{with_items_is}
 use Rattle.pv_span.specs.Charts.{span_number}
 use Rattle.pv_span.specs.DoneSpans.{rows_done}
-use Rattle.pv_span.proofs.Across.{rows_count}
+use Rattle.pv_span.proofs.RowsAcrossColumns.{rows_count}
 use Rattle.pv_span.proofs.LineFacts.{moved, pushed}
 use Rattle.pv_span.proofs.SpanNumbers.{next_number}
 use Rattle.pv_span.proofs.charts.Chart.next.Goals as goal

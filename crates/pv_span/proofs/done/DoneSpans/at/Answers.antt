@@ -1,6 +1,6 @@
 use Rattle.std.proofs.Common.{arith, ap, sym, ◌*◌, ◌+◌, ◌∙◌}
 use Rattle.pv_productive.specs.Tables.{size_at}
-use Rattle.pv_span.proofs.Across.{across_at}
+use Rattle.pv_span.proofs.RowsAcrossColumns.{across_at}
 use Rattle.pv_span.proofs.done.DoneSpans.at.Goals as goal
 
 pub returns : goal.returns

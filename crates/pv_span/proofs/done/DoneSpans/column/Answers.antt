@@ -1,7 +1,7 @@
 use Rattle.std.proofs.Common.{ap, arith, sym, ◌*◌, ◌+◌, ◌∙◌, ◌≡◌}
 use Rattle.std.proofs.lemmas.List.Edits.{get_or-between}
 use Rattle.pv_productive.specs.Tables.{no_size, size_at}
-use Rattle.pv_span.proofs.Across.{across_at, across_past}
+use Rattle.pv_span.proofs.RowsAcrossColumns.{across_at, across_past}
 use Rattle.pv_span.proofs.done.DoneSpans.column.Goals as goal
 
 pub returns-then-column-self-clause-each : goal.returns-then-column-self-clause-each

@@ -3,8 +3,8 @@ use Rattle.std.proofs.Common.{ap, arith, subst, sym, ◌∙◌, ◌≡◌}
 use Rattle.pv_span.specs.DoneSpans.{cells_across, row_of}
 use Rattle.std.proofs.lemmas.List.{with_items_is}
 use Rattle.pv_productive.specs.Tables.{size_at}
-use Rattle.pv_span.proofs.Across.{across_kept, across_put}
-use Rattle.pv_span.proofs.Across.{rows_put}
+use Rattle.pv_span.proofs.RowsAcrossColumns.{across_kept, across_put}
+use Rattle.pv_span.proofs.RowsAcrossColumns.{rows_put}
 use Rattle.pv_span.proofs.done.DoneSpans.put.Goals as goal
 
 pub returns-clause-rows : goal.returns-clause-rows

@@ -2,7 +2,7 @@ use Rattle.std.proofs.Common.{ap, arith, inl, inr, sym, ◌*◌, ◌+◌, ◌∙
 use Rattle.std.proofs.Math.ListN.{get_or-eq_default}
 use Rattle.std.proofs.lemmas.Bool.{cases_lt}
 use Rattle.pv_productive.specs.Tables.{no_size, size_at}
-use Rattle.pv_span.proofs.Across.{across_at, across_past}
+use Rattle.pv_span.proofs.RowsAcrossColumns.{across_at, across_past}
 use Rattle.pv_span.proofs.done.DoneSpans.take.Goals as goal
 
 pub returns : goal.returns

@@ -1,7 +1,7 @@
 use Rattle.std.proofs.Common.{ap, sym, ◌∙◌}
 use Rattle.pv_productive.specs.Tables.{size_at}
 use Rattle.pv_span.specs.DoneSpans.{row_of}
-use Rattle.pv_span.proofs.Across.{done_at}
+use Rattle.pv_span.proofs.RowsAcrossColumns.{done_at}
 use Rattle.pv_span.proofs.lines.Finished.value.Goals as goal
 
 pub returns : goal.returns

@@ -1,8 +1,8 @@
 use Rattle.std.proofs.Common.{◌∙◌}
 use Rattle.pv_dtd.specs.PlainForms.{plain_dtd}
 use Rattle.pv_tree.specs.Lists.{IsValidList}
-use Rattle.pv_lists.specs.Judging.{ended_list}
-use Rattle.pv_lists.proofs.FirstJudged.{not_both, put_so, put_not, put_behind}
+use Rattle.pv_lists.specs.Judgements.{ended_list}
+use Rattle.pv_lists.proofs.FirstOfLists.{not_both, put_so, put_not, put_behind}
 use Rattle.pv_valid.proofs.judging.ValidityListJudge.judge.Goals as goal
 
 pub is_valid-requires : goal.is_valid-requires

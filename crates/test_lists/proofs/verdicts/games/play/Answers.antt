@@ -6,7 +6,7 @@ use Rattle.pv_model.specs.PlainForms.{plain_token}
 use Rattle.pv_model.specs.declared.models.Token.{Token}
 use Rattle.pv_productive.specs.PlainForms.{dtd_of}
 use Rattle.pv_verdicts.specs.Judged.{IsJudged}
-use Rattle.test_lists.proofs.Before.{judged_before}
+use Rattle.test_lists.proofs.EarlierWords.{judged_before}
 use Rattle.test_lists.proofs.verdicts.games.play.Goals as goal
 
 pub make_change-requires : goal.make_change-requires

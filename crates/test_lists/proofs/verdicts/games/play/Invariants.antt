@@ -4,7 +4,7 @@ use Rattle.pv_missing.specs.PlainForms.{plain_of}
 use Rattle.pv_model.specs.PlainForms.{plain_token}
 use Rattle.pv_productive.specs.PlainForms.{dtd_of}
 use Rattle.pv_verdicts.specs.Judged.{IsJudged}
-use Rattle.pv_verdicts.specs.Last.{IsLast}
+use Rattle.pv_verdicts.specs.LastJudgedWord.{IsLast}
 use Rattle.test_lists.proofs.verdicts.games.play.Given as goal
 
 abbrev pub invariant-loop-number : goal.invariant-loop-number

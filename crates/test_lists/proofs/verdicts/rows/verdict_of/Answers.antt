@@ -2,7 +2,7 @@ use Rattle.std.proofs.Common.{Some, arith, ◌≡◌}
 use Rattle.std.specs.List.{splice}
 use Rattle.pv_missing.specs.declared.owners.Of.TheVariants.{Elem}
 use Rattle.pv_productive.specs.PlainForms.{dtd_of}
-use Rattle.test_lists.proofs.Before.{judged_before}
+use Rattle.test_lists.proofs.EarlierWords.{judged_before}
 use Rattle.test_lists.proofs.verdicts.rows.verdict_of.Goals as goal
 
 pub make_change-requires : goal.make_change-requires

@@ -1,0 +1,2 @@
+-- of this crate:
+pub mod SimpleDtds

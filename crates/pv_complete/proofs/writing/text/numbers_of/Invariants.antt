@@ -1,5 +1,0 @@
-use Rattle.std.proofs.Common.{take, ◌≡◌}
-use Rattle.pv_complete.proofs.writing.text.numbers_of.Given as goal
-
-abbrev pub invariant-loop-mark : goal.invariant-loop-mark
-invariant-loop-mark l = l.numbers.items ≡ take l.mark-index l.marks

@@ -1,0 +1,64 @@
+//! Whether inserting elements can make a document valid, however wide its lists are.
+
+ghost use Rattle.std.specs.Prelude.{◌≡◌, IfOk, List, ℕ};
+ghost use Rattle.pv_check.specs.Answers.{TellsAnyhow};
+ghost use Rattle.pv_dtd.specs.Plain.{PlainDtd};
+ghost use Rattle.pv_opening.specs.Response.{plain_response, with_line};
+ghost use Rattle.pv_opening.specs.Returns.{TellsBy};
+ghost use Rattle.pv_opening.specs.declared.status.Status.TheVariants.{Done};
+ghost use Rattle.pv_productive.specs.PlainForms.{dtd_of};
+ghost use Rattle.pv_read.specs.Meaning.{DocumentMeans, is_document};
+ghost use Rattle.pv_tree.specs.Marks.{blank_mark};
+ghost use Rattle.pv_tree.specs.Plain.{PlainDoc};
+ghost use Rattle.pv_tree.specs.declared.nodes.Mark.{Mark};
+ghost use Rattle.pvlong.specs.Possibility.{TellsChecked, checked_text};
+
+use pv_check::{Told, check_any_text};
+use pv_opening::{Response, Status, Stop, refuse_path};
+use pv_productive::Grammar;
+use pv_reach::{Judge, Plan};
+use std::alloc::{AllocError, Global};
+
+// So many lists aren't valid yet, and inserting elements can make all of them valid.
+fn possible_line(alloc: Global, left: u64) -> Result<Response, AllocError>
+    ensures { IfOk result (λ r. plain_response r ≡ with_line Done (checked_text left)) }
+{
+    if left == 0 {
+        Response::with_line(alloc, Status::Done, b"valid")
+    } else {
+        Response::with_number(alloc, Status::Done, b"possible ", left)
+    }
+}
+
+// What is told of the lists of a document.
+fn respond_told(alloc: Global, told: Told) -> Result<Response, Stop>
+    requires { (root : List ℕ) × (g : PlainDtd) × (doc : PlainDoc Mark) ×
+        TellsAnyhow g root doc told }
+    ensures { (root : List ℕ) (g : PlainDtd) (doc : PlainDoc Mark) →
+        TellsAnyhow g root doc told → TellsBy (TellsChecked root g doc) result }
+{
+    match told {
+        Told::Possible(left) => Ok(possible_line(alloc, left)?),
+        Told::Impossible(path) => {
+            let places = path.places();
+            Err(refuse_path(alloc, Status::Negative, b"impossible ", places))
+        }
+        Told::TooWide(_) => unreachable!(),
+    }
+}
+
+/// Whether inserting elements can make the document valid that these bytes are.
+pub fn check(alloc: Global, grammar: &Grammar, root: &[u8], bytes: &[u8]) -> Result<Response, Stop>
+    requires { (doc : PlainDoc Mark) × DocumentMeans blank_mark root.now bytes.now (is_document doc) }
+    ensures { (doc : PlainDoc Mark) →
+        DocumentMeans blank_mark root.now bytes.now (is_document doc) →
+        TellsBy (TellsChecked root.now (dtd_of grammar.now) doc) result }
+{
+    let plan = Plan::of(alloc, grammar)?;
+    let judge = Judge::new(alloc, grammar, &plan);
+    match check_any_text(&judge, root, bytes) {
+        Ok(told) => respond_told(alloc, told),
+        // The bytes are a document, so that only memory can be lacking.
+        Err(_) => Err(Stop::NoMemory),
+    }
+}
