@@ -86,7 +86,7 @@ def whole(document: Document) -> bytes:
 
 
 def completed(source: bytes) -> Document:
-    """The tree of such a document behind its completion: what is new is told apart, and the blanks are gone."""
+    """The tree of such a document after its completion: what is new is told apart, and the blanks are gone."""
     document = Document(source)
     for node in document.elements():
         if node.owner is not None:

@@ -51,7 +51,7 @@ class Comments:
 
 
 def has_comment(document: Document, node: Node) -> bool:
-    """Whether a comment may stand at a node: at an element, or in place of a comment, also one that was taken away."""
+    """Whether a comment may stand at a node: at an element, or in place of a comment, also one that was removed."""
     if node.kind == ELEMENT:
         return node.owner is not None
     return node.kind == MISC and (node.source.startswith("<!--") or node.id in document.given)

@@ -63,7 +63,7 @@ class Cursor:
 
 
 def news_in(owner: Node, list_: Node) -> tuple[list[New], list[tuple[Node, Node]]]:
-    """The new elements of a completed list, each behind those that stand in it; and the elements that are there, each
+    """The new elements of a completed list, each after those that stand in it; and the elements that are there, each
     with its completed one."""
     cursor, news, pairs = Cursor(owner), [], []
     todo: list[tuple[Node, Spot | None]] = [(kid, None) for kid in reversed(list_.kids)]
@@ -326,7 +326,7 @@ def order_of(new: New) -> tuple[int, int, int, int]:
 
 def told_of(owner: Node, new: New, choices: list[str] | None) -> Told:
     """A new element as the page tells it: its name, the others that it may have, and what it would go round, or stand
-    behind."""
+    after."""
     before = [kid for kid in owner.kids[:new.start[0]] if not kid.is_white]
     behind = f"⟨{before[-1].name}⟩" if before and before[-1].name else ""
     told: Told = {"id": new.node.id, "name": new.node.name, "around": around(new.node), "behind": behind}

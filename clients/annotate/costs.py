@@ -1,4 +1,4 @@
-"""What each tag that is offered costs: how many more elements are missing behind it, and which, by `pvtag.costs`."""
+"""What each tag that is offered costs: how many more elements are missing after it, and which, by `pvtag.costs`."""
 import contextlib
 import threading
 import time

@@ -20,7 +20,7 @@ from .script import Changed
 from .values import Names
 from .work import Refusal, Work
 
-# So long a document stays open behind its last window, in seconds.
+# So long a document stays open after its last window, in seconds.
 LEFT = 60.0
 
 
@@ -211,7 +211,7 @@ class Drawer:
         return {"url": address_of(self.document_for(found))}
 
     def document_for(self, each: Listed) -> str:
-        """The name of a document, which is made of a plain text; one that can't be opened is taken away again."""
+        """The name of a document, which is made of a plain text; one that can't be opened is removed again."""
         if not each.is_text:
             return each.name
         name = document_of(each.name)
@@ -228,7 +228,7 @@ class Drawer:
         return name
 
     def onward(self, name: str) -> Told:
-        """Where the next document is that isn't done, behind this one, and then from the first on; none where all others are."""
+        """Where the next document is that isn't done, after this one, and then from the first on; none where all others are."""
         done = self.marks.names()
         left = [each for each in listed(self.folder) if each.name != name and each.name not in done]
         behind = [each for each in left if in_order(each.name) > in_order(name)]

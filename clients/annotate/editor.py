@@ -184,7 +184,7 @@ class Editor:
         self.open, self.bad = (sum(row.verdict == verdict for row in rows) for verdict in ("possible", "impossible"))
 
     def judge(self, before: int) -> dict[int, str]:
-        """Takes over the verdicts of the lists that moves behind this number have changed, and tells them."""
+        """Takes over the verdicts of the lists that moves after this number have changed, and tells them."""
         if before == self.session.moves:
             return {}
         told, rows = {}, self.session.changed(before)
@@ -240,7 +240,7 @@ class Editor:
 
     # Trying.
     def tried(self, lines: Sequence[str], ask: Callable[[], Any]) -> Any:
-        """What is answered behind these lines, which are taken back; the refusal of one that can't be made."""
+        """What is answered after these lines, which are taken back; the refusal of one that can't be made."""
         start = self.ahead
         try:
             for line in lines:
@@ -286,13 +286,13 @@ class Editor:
 
     # Moves.
     def move(self, ask: Any) -> Told:
-        """Makes a move; the state behind it, or a refusal."""
+        """Makes a move; the state after it, or a refusal."""
         with self.lock:
             since = self.known(ask)
             return self.answer(since, lines_of(self.document, ask))
 
     def answer(self, since: int, lines: list[str]) -> Told:
-        """Makes these lines one move; the state behind it, or a refusal."""
+        """Makes these lines one move; the state after it, or a refusal."""
         refusal = self.make(Move(lines), [])
         return self.state(since) if refusal is None else self.refused(refusal)
 

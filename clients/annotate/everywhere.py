@@ -62,13 +62,13 @@ class Everywhere:
             return self.make(since, [self.lines_for(place, name, attrs) for place in places])
 
     def make(self, since: int, moves: list[list[str]]) -> Told:
-        """Makes of these what the session makes, one behind another, in one move; how many it refuses is told."""
+        """Makes of these what the session makes, one after another, in one move; how many it refuses is told."""
         lines, refused = self.tried(moves)
         answer = self.editor.answer(since, lines) if lines else self.editor.state(since)
         return {**answer, "refused": len(refused)}
 
     def tried(self, moves: list[list[str]], most: float = math.inf) -> tuple[list[str], list[int]]:
-        """The lines of those that the session makes, one behind another, and the numbers of those that it refuses; nothing
+        """The lines of those that the session makes, one after another, and the numbers of those that it refuses; nothing
         is changed. What isn't tried in so many seconds is in neither."""
         made: list[str] = []
         refused: list[int] = []
@@ -90,7 +90,7 @@ class Everywhere:
 
 def found(document: Document, text: str) -> Iterator[tuple[Stretch | None, str, Node]]:
     """The places of a text, in document order, each with the whole text that it is part of and the element that holds
-    that; and none behind each element."""
+    that; and none after each element."""
     for owner in in_order(document):
         for first, nodes in texts_of(owner):
             line = "".join("".join(map(shown, node.units)) for node in nodes)

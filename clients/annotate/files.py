@@ -56,7 +56,7 @@ def read(path: str) -> bytes | None:
 
 @contextlib.contextmanager
 def written_beside(path: str, source: bytes, like: str | None, is_strict: bool) -> Iterator[str]:
-    """A file with these bytes that is to be renamed, in the folder of this one; it is taken away where it wasn't."""
+    """A file with these bytes that is to be renamed, in the folder of this one; it is removed where it wasn't."""
     number, beside = tempfile.mkstemp(prefix=BESIDE, dir=os.path.dirname(path))
     try:
         with os.fdopen(number, "wb") as file:

@@ -52,7 +52,7 @@ def words() -> argparse.Namespace:
 
 
 def begin(asked: argparse.Namespace, program: list[str]) -> Editor:
-    """The session on the document; one that was made and can't be opened is taken away again."""
+    """The session on the document; one that was made and can't be opened is removed again."""
     try:
         return opened(asked, program)
     except Unopened as fault:
@@ -128,7 +128,7 @@ def main() -> None:
             raise Trouble("the standard output, for the page's address, is closed")
         serve(asked)
     except Ended as ended:
-        sys.exit(f"annotate: {told(ended, asked.dtd, asked.doc)}")
+        sys.exit(f"annotate: {told(ended, find(asked.program), asked.dtd, asked.root, asked.doc)}")
     except Trouble as trouble:
         sys.exit(f"annotate: {trouble}")
     except OSError as fault:

@@ -5,10 +5,11 @@ from xml.sax.saxutils import escape
 
 from .editor import Editor
 from .files import put_file
-from pvtag.faults import fault_of
+from pvtag import long
+from pvtag.faults import TOO_WIDE, fault_of
 from pvtag.masks import MaskedSource, mask
 from pvtag.places import Source
-from pvtag.program import Trouble, is_utf_8, read_file, shown_name
+from pvtag.program import RUNNING, Trouble, is_utf_8, read_file, shown_name
 from pvtag.session import Ended
 from .script import Script
 
@@ -62,7 +63,7 @@ def open_editor(program: list[str], dtd: str, root: str, doc: str, again: bool =
         return Editor(program, dtd, root, script, version)
     except Ended as ended:
         script.close()
-        raise Unopened(told(ended, dtd, doc)) from None
+        raise Unopened(told(ended, program, dtd, root, doc)) from None
     except BaseException:
         script.close()
         raise
@@ -72,13 +73,16 @@ class Unopened(Trouble):
     """A document that the program doesn't open."""
 
 
-def told(ended: Ended, dtd: str, doc: str) -> str:
-    """What a program that ended before it began says of the files."""
+def told(ended: Ended, program: list[str], dtd: str, root: str, doc: str) -> str:
+    """What a program that ended before it began says of the files. A document with a list that is too wide to be tagged may be judged all the same."""
     if ended.status is None or ended.status < 2:
         return str(ended)
     declarations, document = content(dtd), content(doc)
-    sources = {"dtd": Source(shown_name(dtd), declarations), "document": MaskedSource(shown_name(doc), mask(document, declarations))}
-    return str(fault_of(ended.status, ended.line, sources))
+    masked = mask(document, declarations)
+    sources = {"dtd": Source(shown_name(dtd), declarations), "document": MaskedSource(shown_name(doc), masked)}
+    fault = fault_of(ended.status, ended.line, sources)
+    wide = long.check(program, dtd, root, doc, RUNNING) if masked.is_plain and ended.line.startswith(TOO_WIDE) else None
+    return f"{fault}; {wide.sentence}" if wide is not None else str(fault)
 
 
 def content(path: str) -> bytes:

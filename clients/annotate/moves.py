@@ -21,7 +21,7 @@ BESIDE = (ATTRIBUTES, COMMENT)
 EDITS = ("wrap", "insert", "unwrap", "rename", "split", "join", "text", "addtext", "deltext")
 # The longest line of a session, in bytes.
 LONGEST = 1_048_576
-# The lines of a move that only prepare its edits, and those that only tidy up behind them.
+# The lines of a move that only prepare its edits, and those that only tidy up after them.
 CUTS = ("split ", "join ")
 # So much of an element's text is told in the history.
 EXCERPT = 40

@@ -1,6 +1,6 @@
 """Places of the document, as the page tells them, and what a session is told for them.
 
-The page tells a place as [kid, unit]: before that unit of the kid of a list, or behind the whole kid; without a kid, at
+The page tells a place as [kid, unit]: before that unit of the kid of a list, or after the whole kid; without a kid, at
 the list's end. A run goes from one place of a list to another. A stretch is a part of the texts that stand side by side
 in a list, by units counted through them.
 """
@@ -19,7 +19,7 @@ Spot = tuple[int, int | None]
 
 
 class Run(NamedTuple):
-    """The cuts that a run needs, its list's path, and from where to where it goes behind them."""
+    """The cuts that a run needs, its list's path, and from where to where it goes after them."""
 
     cuts: list[str]
     path: str
@@ -118,7 +118,7 @@ def units_before(owner: Node, first: int, spot: Spot) -> int:
 
 
 def spot_at(owner: Node, first: int, unit: int) -> Spot:
-    """The place behind so many units of the texts from this one on."""
+    """The place after so many units of the texts from this one on."""
     at = first
     while at < len(owner.kids) and owner.kids[at].kind == TEXT and unit >= len(owner.kids[at].units):
         unit -= len(owner.kids[at].units)

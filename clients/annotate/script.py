@@ -280,7 +280,7 @@ class Script:
         return path
 
     def close(self) -> None:
-        """Lets others have the script; one without a move is taken away."""
+        """Lets others have the script; one without a move is removed."""
         with contextlib.suppress(OSError):
             if not self.fresh and self.is_there and os.fstat(self.number).st_size <= len(f"{DOCUMENT}{self.began_with}\n"):
                 os.unlink(self.path)

@@ -20,7 +20,7 @@ from .work import Refusal
 FOLDER = os.path.join(os.path.dirname(os.path.abspath(__file__)), "page")
 TYPES = {".html": "text/html", ".css": "text/css", ".js": "text/javascript"}
 LONGEST = 1 << 20
-# So long it waits for a window behind the last one, in seconds: a page is loaded again, a machine sleeps.
+# So long it waits for a window after the last one, in seconds: a page is loaded again, a machine sleeps.
 PATIENCE = 3600.0
 HEADERS = {
     "Content-Security-Policy": "default-src 'none'; script-src 'self'; style-src 'self'; connect-src 'self'; "
@@ -53,7 +53,7 @@ class Place(Protocol):
     is_over: Callable[[], bool]
 
     def at(self, path: str) -> tuple[Asked, str]:
-        """Whom a path behind the token asks, and what is asked; a `Refusal` where there is nobody."""
+        """Whom a path after the token asks, and what is asked; a `Refusal` where there is nobody."""
 
     def close(self) -> None:
         """Ends all that runs for it."""
@@ -119,7 +119,7 @@ class Handler(BaseHTTPRequestHandler):
         try:
             status, kind, body = 200, *answer(self.checked_path())
         except Refusal as refusal:
-            # What came behind the head wasn't read, so the connection is of no more use.
+            # What came after the head wasn't read, so the connection is of no more use.
             self.close_connection = True
             status, kind, body = refusal.status, "text/plain", refusal.why.encode() + b"\n"
         except Exception:
@@ -137,7 +137,7 @@ class Handler(BaseHTTPRequestHandler):
         self.wfile.write(body)
 
     def checked_path(self) -> str:
-        """What stands behind the token, for a request that may ask."""
+        """What stands after the token, for a request that may ask."""
         if self.headers.get_all("Host") is None or set(self.headers.get_all("Host")) - self.server.hosts:
             raise Refusal(403, "another host")
         origins = {f"http://{host}" for host in self.server.hosts}

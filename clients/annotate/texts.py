@@ -16,7 +16,7 @@ GO = 400
 
 
 class Typed(NamedTuple):
-    """What was typed in one go: the stretch that it stands for, in the tree before, and the version behind it."""
+    """What was typed in one go: the stretch that it stands for, in the tree before, and the version after it."""
 
     side: Side
     stretch: Stretch
@@ -30,7 +30,7 @@ class Texts:
         self.last: Typed | None = None
 
     def type(self, ask: Any) -> Told:
-        """Puts a text in the place of a stretch; the state behind it with the place behind what was typed, or a
+        """Puts a text in the place of a stretch; the state after it with the place after what was typed, or a
         refusal."""
         editor, text = self.editor, plain(ask["text"])
         with editor.lock:
@@ -62,7 +62,7 @@ class Texts:
         return refusal
 
     def caret(self, stretch: Stretch, text: str) -> list[Any]:
-        """The place behind what was typed, as the page tells places: of the text before it, where there is one."""
+        """The place after what was typed, as the page tells places: of the text before it, where there is one."""
         owner, _ = element_of(self.editor.document, stretch.owner)
         at, unit = spot_at(owner, stretch.first, stretch.start + len(text))
         if unit is None and at > stretch.first:

@@ -1,4 +1,4 @@
-"""Completion: behind `<` the names that an element may have that begins here, behind `</` the name of the open
+"""Completion: after `<` the names that an element may have that begins here, after `</` the name of the open
 element, in a start tag names of attributes and their values."""
 import re
 from collections.abc import Mapping, Sequence
@@ -17,7 +17,7 @@ CLOSING, OPENING = re.compile(rb"</(?:" + NAME + rb")?\Z"), re.compile(rb"<(?:" 
 HIDING = (b"<!--", b"-->"), (b"<![CDATA[", b"]]>"), (b"<?", b"?>")
 # A name of this length and the `</` before it are looked for before the place.
 LONGEST = 1024
-# An element that begins here may end here, behind some of the next kids, or behind the last: at most so many are tried,
+# An element that begins here may end here, after some of the next kids, or after the last: at most so many are tried,
 # fewer in long lists.
 NEXT, TRIED = 6, 20_000
 PROPERTY, SNIPPET = 10, 2
@@ -55,7 +55,7 @@ def is_hidden(data: bytes, offset: int, kinds: Sequence[tuple[bytes, bytes]] = H
 
 
 def without(document: Document, start: int, offset: int) -> tuple[bytes, int]:
-    """The text without what is being typed, with a `>` that the editor has put behind it, and where that ends."""
+    """The text without what is being typed, with a `>` that the editor has put after it, and where that ends."""
     end = offset + (document.data[offset : offset + 1] == b">")
     return document.data[:start] + document.data[end:], end
 
@@ -155,7 +155,7 @@ def beginning(
 
 
 def tags_of(grammar: Grammar, name: str, new: NewElement, is_whole: bool, snippets: bool) -> str:
-    """What is put behind `<`: both tags where the element may end here, else its start tag."""
+    """What is put after `<`: both tags where the element may end here, else its start tag."""
     with_attributes = name + new.attributes.decode()
     shown, begun = (attributes.SPECIAL.sub(r"\\\g<0>", text) if snippets else text for text in (name, with_attributes))
     if not is_whole:

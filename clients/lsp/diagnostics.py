@@ -12,8 +12,8 @@ from .lists import WHITE, kids_of
 from .moving import Change
 from .nodes import Element, Node, Tree
 from .order import refresh
-from pvtag.faults import fault_of
-from pvtag.long import Counted
+from pvtag.faults import TOO_WIDE, fault_of
+from pvtag.long import Checked, Counted
 from pvtag.places import Source
 from pvtag.program import Trouble
 from pvtag.reasons import Reason
@@ -136,7 +136,8 @@ class Judging:
                 self.listed(session, grammar)
             self.attributes(grammar)
         except Ended as ended:
-            self.refused(ended)
+            wide = self.work.check_wide(plain, root, self.document.data) if ended.line.startswith(TOO_WIDE) else None
+            self.refused(ended, wide)
 
     def judge_form(self) -> None:
         """Without a DTD, or without a root: whether the text is well-formed."""
@@ -147,19 +148,20 @@ class Judging:
         return self.watch.publish(self.document, self.work, [told, *self.kept()])
 
     def attributes(self, grammar: Grammar) -> None:
-        """What is wrong with attributes, and what is to be said of entities, behind what is said of elements."""
+        """What is wrong with attributes, and what is to be said of entities, after what is said of elements."""
         found = list[Json]()
         self.work.aside(lambda: found.extend(attributes.diagnostics(self.document, grammar, self.work)))
         if found:
             self.publish([*self.of_elements, *found])
 
-    def refused(self, ended: Ended) -> None:
-        """The text is no document, or passes a limit."""
+    def refused(self, ended: Ended, wide: Checked | None) -> None:
+        """The text is no document, or passes a limit; what can become of it may be known all the same."""
         fault = fault_of(ended.status or 0, ended.line, {"document": Source("", self.document.data)})
         if fault.span is None and ended.status not in (7, 8):
             raise Trouble(str(fault))
         start, end = fault.span if fault.span is not None else (0, 0)
-        told = [self.diagnostic(start, max(start, end), ERROR, "fault", fault.sentence)]
+        sentence = f"{fault.sentence}; {wide.sentence}" if wide is not None else fault.sentence
+        told = [self.diagnostic(start, max(start, end), ERROR, "fault", sentence)]
         self.watch.publish(self.document, self.work, told + self.kept())
 
     def kept(self) -> list[Json]:
@@ -209,7 +211,7 @@ class Judging:
     def tell(
         self, tree: Tree, grammar: Grammar, count: int, missing: Counted | Refused | None, is_last: bool = True
     ) -> None:
-        """All diagnostics, as far as the reasons are known; nothing behind the last ones."""
+        """All diagnostics, as far as the reasons are known; nothing after the last ones."""
         with self.order:
             if not self.is_told:
                 self.is_told = is_last

@@ -23,7 +23,7 @@ Part = tuple[int, int]
 
 
 class Changes(NamedTuple):
-    """Other names for an element with what they cost, whether its tags may be taken away, and whether that mends a list."""
+    """Other names for an element with what they cost, whether its tags may be removed, and whether that mends a list."""
 
     names: list[Named]
     is_unwrapped: bool
@@ -133,7 +133,7 @@ def mending(session: Session, path: str, offered: Sequence[str], line: Callable[
 
 def changes_of(work: Work, grammar: Grammar, element: Element, data: bytes, uses: Mapping[str, int]) -> Changes:
     """The other names that an element may have, of which those that are used most are looked at first, and whether its tags
-    may be taken away."""
+    may be removed."""
     assert element.owner is not None
     owner, kids, below = element.owner.label, kids_of(element.owner, data), kids_of(element, data)
     alone, begun = Alone(owner, kids, element.at, below), time.monotonic()

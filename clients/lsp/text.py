@@ -89,7 +89,7 @@ class Text:
         return start, end
 
     def changed(self, change: Any) -> "Text":
-        """The text behind a change of the protocol: of a range, or of all."""
+        """The text after a change of the protocol: of a range, or of all."""
         if not isinstance(change, dict) or not isinstance(change.get("text"), str):
             raise Error(INVALID_PARAMS, "a change without a text")
         new = encoded(change["text"])
@@ -101,7 +101,7 @@ class Text:
         """The text with other bytes from `start` up to `end`. Only the lines that the edit touches are looked at."""
         data = b"".join((self.data[:start], new, self.data[end:]))
         first = bisect_right(self.starts, start) - 1
-        # An LF that comes to stand behind a CR makes one line end with it.
+        # An LF that comes to stand after a CR makes one line end with it.
         if first and self.data[self.starts[first] - 1] == 13:
             first -= 1
         last, more = bisect_right(self.starts, end), len(data) - len(self.data)

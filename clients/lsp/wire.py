@@ -24,7 +24,7 @@ class Error(Exception):
 
 
 class Reader:
-    """Reads messages. Behind bytes that are no message it goes on at the next header."""
+    """Reads messages. After bytes that are no message it goes on at the next header."""
 
     def __init__(self, stream: BinaryIO) -> None:
         self.stream, self.is_lost = stream, False

@@ -8,7 +8,7 @@ from typing import Any
 from . import memory
 from .grammar import Grammar, List, Plain
 from pvtag import long
-from pvtag.long import Counted, Inserted
+from pvtag.long import Checked, Counted, Inserted
 from pvtag.program import RUNNING, Running, Stopped, Trouble, took_too_long
 from pvtag.reasons import Reason
 from pvtag.session import Ended, Session
@@ -96,6 +96,11 @@ class Work:
         return grammar.known_reason(path, owner, kids)
 
     # Where a list of a document is too wide for a session.
+    def check_wide(self, plain: Plain, root: str, data: bytes) -> Checked | None:
+        """What can become of the document."""
+        with self.file_of(data) as path:
+            return long.check(plain.program, plain.path, root, path, self.runs)
+
     def need_wide(self, grammar: Grammar, root: str, data: bytes) -> Counted | None:
         """How many elements are missing."""
         with self.file_of(data) as path:

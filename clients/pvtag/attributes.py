@@ -310,7 +310,7 @@ class Attributes:
         return next((each for each in self.of(element) if each.name == name), None)
 
     def nearest(self, element: str, name: str) -> str | None:
-        """The declared attribute whose name is most like this one: the same behind another prefix first."""
+        """The declared attribute whose name is most like this one: the same after another prefix first."""
         names = [each.name for each in self.of(element)]
         return same_behind_prefix(name, names) or next(iter(difflib.get_close_matches(name, names, 1)), None)
 

@@ -28,7 +28,7 @@ Begin = Callable[[], "contextlib.AbstractContextManager[Session]"]
 
 
 class Known:
-    """What is known of one place, or of another that looks the same: how many more elements are missing behind names,
+    """What is known of one place, or of another that looks the same: how many more elements are missing after names,
     and which; the names with which nothing is missing in the lists that are changed, and those with which that isn't
     quickly told; and those with which the list itself is valid, whatever is missing in what is new."""
 
@@ -117,7 +117,7 @@ class Task:
         return None if isinstance(done, Refused) else Counter(NEW_TAG.findall(done.document.decode()))
 
     def tell_cost(self, name: str, is_quick: bool = False) -> None:
-        """Finds how many more elements are missing behind the move with this name; quickly or not at all where that is
+        """Finds how many more elements are missing after the move with this name; quickly or not at all where that is
         asked for."""
         if is_quick:
             ((reply, rows),) = self.tried([name], "verdicts")
@@ -158,7 +158,7 @@ class Task:
 
     def steps(self, wanted: list[str], of_all: bool) -> Iterator[None]:
         """Finds one thing a step: what is quickly told of each name, the costs of those that are wanted, the elements
-        that are missing behind these, and the costs of all others."""
+        that are missing after these, and the costs of all others."""
         while self.new:
             self.tell_cost(self.new[0], is_quick=True)
             self.new.pop(0)

@@ -102,7 +102,7 @@ class Dtd:
         return self.declarations.get(name)
 
     def model(self, name: str, longest: int = 60) -> str:
-        """The model of a name in one line, for a sentence: cut behind so many characters, "" where none is found."""
+        """The model of a name in one line, for a sentence: cut after so many characters, "" where none is found."""
         found = self.declaration(name)
         text = " ".join(found.model.split()) if found else ""
         return text if len(text) <= longest else re.split(r"[^\s|,(]*$", text[:longest])[0].rstrip() + "…"

@@ -60,6 +60,8 @@ STATUSES = {
     5: "there was too little memory",
     10: "the program couldn't be begun or built",
 }
+# How the line begins that refuses a document for a list that is too wide for a session.
+TOO_WIDE = "limit width "
 LIMITS = {
     "dtd-file": ("dtd", "a DTD has at most 4,194,304 bytes"),
     "document-file": ("document", "a document has at most 67,108,864 bytes"),
@@ -176,7 +178,7 @@ def line_fault(word: str, number: int, source: Source | None) -> Remark:
 
 
 def line_span(source: Source, number: int, skipped: int = 0) -> Span:
-    """A line by its number from 0, lines being ended by LF alone, behind so many that don't count."""
+    """A line by its number from 0, lines being ended by LF alone, after so many that don't count."""
     begin = 0
     for _ in range(number + skipped):
         begin = source.data.find(b"\n", begin) + 1 or len(source.data)

@@ -63,7 +63,7 @@ def mark_of(data: bytes) -> bytes:
 
 
 def marked(data: bytes, mark: bytes) -> bytes:
-    """The document with the mark behind the name of each start tag."""
+    """The document with the mark after the name of each start tag."""
     out, at = list[bytes](), 0
     for item in document_items(data):
         if item.kind in ("start", "empty") and (found := START.match(data, item.start)) is not None:

@@ -73,7 +73,7 @@ class Node:
 
     @property
     def start_tag(self) -> Span:
-        """An element's start tag or empty-element tag; the name in it begins one byte behind its start."""
+        """An element's start tag or empty-element tag; the name in it begins one byte after its start."""
         start = self.layout.starts[self.number]
         found = ITEM.match(self.layout.data, start) if self.number and self.kind == ELEMENT else None
         return Span(start, found.end() if found else start)
@@ -86,7 +86,7 @@ class Node:
 
     @property
     def inside(self) -> Span:
-        """What stands between an element's tags; empty, behind the tag, where it is written `<a/>`."""
+        """What stands between an element's tags; empty, after the tag, where it is written `<a/>`."""
         start = self.start_tag.end
         return Span(start, self.layout.closes.get(self.number, start))
 
@@ -126,7 +126,7 @@ class Node:
         return self.kind == TEXT and not self.source.strip(b" \t\r\n")
 
     def units(self) -> list[int]:
-        """The offset of each unit of a text, and behind them that of its end."""
+        """The offset of each unit of a text, and after them that of its end."""
         start, end = self.span
         return [*(found.start() for found in UNIT.finditer(self.layout.data, start, end)), end]
 
@@ -239,8 +239,8 @@ class Layout:
 
     def gap(self, offset: int) -> tuple[Node, int, int]:
         """The place in a list that an offset stands for: the element, the number of a kid, and the number of the unit
-        that its text is cut before. Unit 0 stands before the whole kid, also behind the last one. In a tag, a comment
-        or the like it is the place before or behind that, whichever is nearer; in a unit that before the unit."""
+        that its text is cut before. Unit 0 stands before the whole kid, also after the last one. In a tag, a comment
+        or the like it is the place before or after that, whichever is nearer; in a unit that before the unit."""
         node = self.at(offset)
         if node.kind == ELEMENT and (node.number == 0 or node.inside.start <= offset <= node.inside.end):
             behind = bisect.bisect_left(self.kids[node.number] or [], offset, key=self.starts.__getitem__)

@@ -154,7 +154,7 @@ def named(declared: Any) -> str:
 
 
 def in_order(rows: list[list[Any]]) -> list[list[Any]]:
-    """As they are declared: libxml2 puts each behind the first one, and those of namespaces before."""
+    """As they are declared: libxml2 puts each after the first one, and those of namespaces before."""
     bound = [row for row in rows if row[0].startswith("xmlns")]
     others = [row for row in rows if not row[0].startswith("xmlns")]
     return [*others[:1], *others[:0:-1], *bound]

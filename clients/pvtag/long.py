@@ -1,5 +1,5 @@
-"""The program `pvlong`, which is asked where `need` and `complete` find a list too wide: how many elements are missing, or
-between which numbers, and a document with so many inserted.
+"""The program `pvlong`, which is asked where a list is too wide: how many elements are missing, or between which numbers, a
+document with so many inserted, and whether the document is valid or can be made so.
 
 Where it isn't there, can't be run, takes too long or tells nothing, the answer is none.
 """
@@ -9,7 +9,7 @@ from typing import NamedTuple
 from .program import Answer, Running, Stopped, Trouble, find_long, run
 
 # What other tools may use; each has an example.
-__all__ = ("Counted", "Inserted")
+__all__ = ("Checked", "Counted", "Inserted")
 
 # The most that a run may take, in seconds.
 MOST = 60.0
@@ -37,6 +37,27 @@ class Counted(NamedTuple):
         return "1 element is missing" if self.most == 1 else f"{self} elements are missing"
 
 
+class Checked(NamedTuple):
+    """What can become of a document: how many of its lists aren't valid yet, or none where no insertions can make it valid.
+
+    >>> for left in (0, 1, None): print(Checked(left).sentence)
+    the document is valid
+    1 list isn't valid yet, and inserting elements can make the document valid
+    no insertions can make the document valid
+    """
+
+    left: int | None
+
+    @property
+    def sentence(self) -> str:
+        if self.left is None:
+            return "no insertions can make the document valid"
+        if not self.left:
+            return "the document is valid"
+        lists = "1 list isn't" if self.left == 1 else f"{self.left} lists aren't"
+        return f"{lists} valid yet, and inserting elements can make the document valid"
+
+
 class Inserted(NamedTuple):
     """A document with elements inserted that make it valid, and whether no fewer could.
 
@@ -46,6 +67,19 @@ class Inserted(NamedTuple):
 
     document: bytes
     is_least: bool
+
+
+def check(program: list[str], dtd: str, root: str, document: str, runs: Running) -> Checked | None:
+    """What can become of a document; the program is that of `pvtag`."""
+    answer = asked(program, runs, "check", dtd, root, document)
+    match answer.line.split(" ") if answer is not None else ():
+        case ["valid"]:
+            return Checked(0)
+        case ["possible", count]:
+            return Checked(int(count))
+        case ["impossible", _]:
+            return Checked(None)
+    return None
 
 
 def need(program: list[str], dtd: str, root: str, document: str, runs: Running) -> Counted | None:

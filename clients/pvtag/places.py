@@ -142,7 +142,7 @@ DECLARATION = re.compile(rb"<\?xml\s.*?\?>", re.S)
 
 
 def front_mark(data: bytes) -> int:
-    """The offset behind a byte order mark."""
+    """The offset after a byte order mark."""
     return len(BOM) if data.startswith(BOM) else 0
 
 

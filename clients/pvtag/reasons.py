@@ -69,7 +69,7 @@ class Reason(NamedTuple):
     declared: Pieces
 
     def sentences(self, where: Callable[[int], str] = lambda kid: "") -> list[str]:
-        """What is so, and what the DTD says where that is told. `where` gives what is put behind the mention of a kid,
+        """What is so, and what the DTD says where that is told. `where` gives what is put after the mention of a kid,
         as " (line 3)"."""
         told = [pieces for pieces in (self.so, self.declared) if pieces]
         return ["".join(piece if isinstance(piece, str) else where(piece) for piece in pieces) for pieces in told]
@@ -80,7 +80,7 @@ class Reason(NamedTuple):
 
 
 class RefusedEdit(NamedTuple):
-    """Why an edit was refused: the reason, by the document as it would be behind the edit; and of that list the number
+    """Why an edit was refused: the reason, by the document as it would be after the edit; and of that list the number
     of its element and those of its kids in the tree as it is, a cut text's for each of its parts, none of what is
     new.
 

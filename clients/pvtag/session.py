@@ -471,7 +471,7 @@ class Session:
         return rows if isinstance(rows, Refused) else [verdict_of(row) for row in rows.splitlines()]
 
     def changed(self, after: int) -> list[Verdict] | Refused:
-        """The lists that moves behind number `after` have changed, moves being counted from 1.
+        """The lists that moves after number `after` have changed, moves being counted from 1.
 
         >>> session.wrap("0.0", 0, 1, "salute") and session.changed(0)
         [Verdict(path='0.0', verdict='valid', stamp=1), Verdict(path='0.0.0', verdict='valid', stamp=1)]
@@ -576,7 +576,7 @@ class Session:
             yield self.output.read(len(piece))
 
     def body(self, size: int) -> bytes:
-        """So many bytes, and the LF behind them."""
+        """So many bytes, and the LF after them."""
         text = self.output.read(size + 1)
         if len(text) <= size:
             self.ended("")

@@ -2,7 +2,7 @@
 
 A try is a list alone: its kids stand in it without content, and a kid without content can be mended whenever an element
 of its name can. All tries of a run stand in one document, in an element of a name that isn't in the DTD and is declared
-ANY behind it. No other model holds that name but those declared ANY, which hold each kid of it as well, so nothing else
+ANY after it. No other model holds that name but those declared ANY, which hold each kid of it as well, so nothing else
 changes by it.
 """
 import functools

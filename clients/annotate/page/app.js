@@ -10,7 +10,7 @@ const others = new BroadcastChannel(location.pathname)
 // `made` is the element that the last change made or renamed, `where` the one whose list it changed, `changed` the place
 // there; `names` are those that the DTD declares.
 export const app = { tree: null, view: new View(host, host), state: null, made: null, where: null, changed: null, names: new Set() }
-// Called with whether something changed, behind each answer.
+// Called with whether something changed, after each answer.
 export const listeners = []
 // Called where an answer says that the document can't be saved as it is: what was asked for, and the answer.
 export const onTrouble = []

@@ -78,7 +78,7 @@ function rowOf(name, value, isMissing = false) {
   values.id = `values-${(lists += 1)}`
   cells[1].setAttribute("list", values.id)
   cells[2].type = "button"
-  cells[2].ariaLabel = "Take this attribute away"
+  cells[2].ariaLabel = "Remove this attribute"
   cells[2].addEventListener("click", () => row.remove())
   const look = () => judge(cells[0], cells[1], values, note)
   cells[0].addEventListener("input", look)

@@ -185,7 +185,7 @@ function boxOfPlace({ owner, from: [kid, unit], to }) {
   return { top: unit ? bottom - height : top, bottom, left: unit ? right : left, right, height }
 }
 
-// Where a caret stands in an element that holds nothing, or behind all that it holds.
+// Where a caret stands in an element that holds nothing, or after all that it holds.
 function boxIn(node) {
   const box = app.view.box(node)
   const first = (...all) => all.map((each) => box?.querySelector(each)).find(Boolean)
@@ -264,7 +264,7 @@ export function goOnAt(place, isCurrent) {
   scrollTo(caret.getBoundingClientRect())
 }
 
-// Behind a change what is chosen stays so, and the caret stays, or stands where something was changed. An element stays
+// After a change what is chosen stays so, and the caret stays, or stands where something was changed. An element stays
 // chosen that a menu is open for.
 listeners.push((changed) => {
   if (!changed) return

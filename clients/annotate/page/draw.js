@@ -191,7 +191,7 @@ export class View {
     this.number(chunk.rows[0]?.nodes[0]?.owner)
   }
 
-  // Draws all of it, and nothing is taken away until `letGo`.
+  // Draws all of it, and nothing is removed until `letGo`.
   fillAll() {
     this.isKept = true
     for (;;) {
@@ -359,7 +359,7 @@ function rowsOf(node) {
   return rows
 }
 
-// A long text in pieces, cut behind a line end where there is one.
+// A long text in pieces, cut after a line end where there is one.
 function piecesOf(node) {
   const length = lengthOf(node)
   const pieces = []

@@ -5,7 +5,7 @@ import { isEmpty, plainTextOf, stretchRound } from "./place.js"
 
 export const field = document.getElementById("typed")
 const composed = document.getElementById("composed")
-// So many characters before and behind what is chosen stand in the field, and so many of what is chosen at most.
+// So many characters before and after what is chosen stand in the field, and so many of what is chosen at most.
 const ROUND = 60
 const MOST = 10000
 // A field that holds fewer than these beside what is chosen is filled again, where there are more.
@@ -19,7 +19,7 @@ let wanted = held
 let put = () => {}
 let isWaiting = () => false
 
-// Called with how many characters before and behind what is chosen are replaced, and by which text; `waits` says whether
+// Called with how many characters before and after what is chosen are replaced, and by which text; `waits` says whether
 // some of that isn't in the document yet.
 export function onTyped(call, waits) {
   put = call
@@ -75,7 +75,7 @@ function takeOver() {
   if (isComposing || text === held.text) return
   const at = field.selectionEnd
   const [front, rest] = [held.text.slice(0, held.from), held.text.slice(held.to)]
-  // What stands behind the caret is what stood there, or less of it.
+  // What stands after the caret is what stood there, or less of it.
   let kept = text.length - at
   while (!rest.endsWith(text.slice(text.length - kept)) || /^[\udc00-\udfff]/.test(text.slice(text.length - kept))) kept -= 1
   const made = text.slice(0, text.length - kept)
@@ -94,7 +94,7 @@ field.addEventListener("compositionupdate", ({ data }) => compose(data))
 field.addEventListener("compositionend", () => {
   isComposing = false
   compose("")
-  // Some browsers put the text into the field only behind this event.
+  // Some browsers put the text into the field only after this event.
   setTimeout(takeOver)
   takeOver()
 })

@@ -14,7 +14,7 @@ const MOST = 10000
 // So long a pattern is looked for, in milliseconds.
 const LONG = 3000
 
-// The document's text with where each text begins in it, made anew behind a change.
+// The document's text with where each text begins in it, made anew after a change.
 let book = null
 let found = []
 let at = -1

@@ -67,7 +67,7 @@ function showNext(need) {
   button("next").title = `Elements: proved. Attributes: ${attributesSentence()}, by libxml2. Go to the next place that isn't finished (F8)`
 }
 
-// Asked for behind the last move: a moment after it, since it may take long, but at once where it took next to nothing;
+// Asked for after the last move: a moment after it, since it may take long, but at once where it took next to nothing;
 // where it did take long, only when it is wanted.
 let asking = 0
 let pause = 250

@@ -26,7 +26,7 @@ const DIGITS = 9
 // takes a name that isn't among the choices; `names` are those that are declared; `hint` stands where there is no choice,
 // `about` above them all. `inSight` is called where other choices come into sight. `each`, where it is there, takes a name
 // for each line or paragraph, by Alt+Enter, and `everywhere` one for all places of the text, by Shift+Enter. All of them take
-// the attributes too that were typed behind a name, where there is `typed`; `known` gives those that a name had before.
+// the attributes too that were typed after a name, where there is `typed`; `known` gives those that a name had before.
 export function openMenu({ closed, keepFocus = false, ...menu }) {
   const before = open
   open = { closed, names: new Set(), entered: null, ...menu }
@@ -100,7 +100,7 @@ function carryOut(choice, on) {
   take(choice.label, pairs)
 }
 
-// What is typed: a name, and where it stands for one, the attributes behind it; none where they can't be read.
+// What is typed: a name, and where it stands for one, the attributes after it; none where they can't be read.
 function typedIn(value) {
   const [, name, text] = open.typed === undefined ? [null, value.trim(), ""] : /^(\S*)\s*(.*)$/s.exec(value.trim())
   return { name, text, pairs: text ? pairsOf(text) : [] }

@@ -114,7 +114,7 @@ async function tellRow(row) {
   row.append(take)
 }
 
-// Asks what is missing in a list, behind what else is looked for: the program looks for one thing at a time, the last.
+// Asks what is missing in a list, after what else is looked for: the program looks for one thing at a time, the last.
 const PAUSE = 150
 async function quietly(node, row) {
   while (row.isConnected) {

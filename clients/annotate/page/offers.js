@@ -18,7 +18,7 @@ import { forget, isSaying, say, sentenceOf, showRefused, whyOf, withModel } from
 const SCREENFUL = 120
 // So long the names out of sight are counted too: under a large DTD that takes long for some hundred of them.
 const ALL = 2000
-// Where names stand that aren't counted: behind those that are, and before those that can't be.
+// Where names stand that aren't counted: after those that are, and before those that can't be.
 const UNCOUNTED = 1e9
 
 // What the open menu is for: what it offers, and where; none where no menu is open.
@@ -68,13 +68,13 @@ export function askToDelete(node) {
   const text = textOf(node).trim().replace(/\s+/g, " ")
   const all = { label: "Delete with content", note: text.length > 40 ? `${text.slice(0, 40)}…` : text, take: () => deleteAll(node) }
   begin({ fill: () => (app.tree.isThere(node) ? setChoices([all, ...partsOf(node)]) : shut(GONE)) })
-  openMenu({ name: `Take ⟨${node.name}⟩ away?`, box: boxOfChosen, around: boxRoundChosen, choices: [all, ...partsOf(node)], closed, keepFocus: isByTouch() })
+  openMenu({ name: `Remove ⟨${node.name}⟩?`, box: boxOfChosen, around: boxRoundChosen, choices: [all, ...partsOf(node)], closed, keepFocus: isByTouch() })
 }
 
 function partsOf(node) {
   return [
     { label: "Join with the next", take: () => make({ kind: "join", node: node.id }) },
-    { label: "Unwrap: take its tags away", take: () => make({ kind: "unwrap", node: node.id }) },
+    { label: "Unwrap: remove its tags", take: () => make({ kind: "unwrap", node: node.id }) },
   ]
 }
 
@@ -105,7 +105,7 @@ function choicesFor(node) {
   const choices = [
     { label: "Rename", take: () => offerNames(`Another name for ${name}`, { kind: "rename", node }) },
     { label: "Wrap", take: () => offerNames(`Tags round ${name}`, { kind: "wrap", run: runOver(node) }) },
-    { label: "Unwrap: take its tags away", take: () => make({ kind: "unwrap", node: node.id }) },
+    { label: "Unwrap: remove its tags", take: () => make({ kind: "unwrap", node: node.id }) },
     ...(empties.has(node.name) ? [] : [insert("Insert first in", " it", inside([node.kids[0] ?? null, 0]))]),
   ]
   if (node.kids.length > 0) choices.push(insert("Insert last in", " it", inside([null, 0])))

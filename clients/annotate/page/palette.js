@@ -72,7 +72,7 @@ export function editPalette(more = null) {
 
 function rowOf({ key = "", name = "", pairs = [], colour = "" }) {
   const drop = element("button", "drop", "✕")
-  Object.assign(drop, { type: "button", ariaLabel: "Take this tag away" })
+  Object.assign(drop, { type: "button", ariaLabel: "Remove this tag" })
   const row = element("tr", "", ...[["Key", key], ["Name", name], ["Attributes", pairsText(pairs)], ["Colour", colour]].map(field), element("td", "", drop))
   drop.addEventListener("click", () => row.remove())
   return row

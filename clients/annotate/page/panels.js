@@ -91,7 +91,7 @@ function makeButton(tag) {
   const node = news.get(Number(tag.dataset.tag))
   if (node.choices?.length > 1) tag.firstChild.replaceWith(choiceOf(node))
   Object.assign(tag, { role: "button", tabIndex: 0, ariaHidden: "false", ariaLabel: `Take over ${tag.textContent}` })
-  tag.title = "Take this element over"
+  tag.title = "Insert this element"
 }
 
 function whyNot({ no, list }) {
@@ -166,7 +166,7 @@ beside.addEventListener("close", async () => {
   if (answer) tell(`Written to ${answer.path}.`)
 })
 
-// Behind a dialog the document has the focus again.
+// After a dialog the document has the focus again.
 for (const dialog of document.querySelectorAll("dialog")) {
   dialog.addEventListener("close", () => rest())
 }

@@ -16,7 +16,7 @@ export function runOf(range, tree, host) {
   return trimmed(joined(start, from, end, to), range.collapsed)
 }
 
-// A run over an element, or from what is before or behind it up to it.
+// A run over an element, or from what is before or after it up to it.
 export function runOver(node, run = null) {
   const over = { owner: node.owner, from: [node, 0], to: [node, 1] }
   if (!run) return over
@@ -236,7 +236,7 @@ export function stepped([kid, unit], step, owner) {
   return [kids[at], Math.max(0, Math.min(place, lengthOf(kids[at])))]
 }
 
-// So many characters of the texts before a run at most, and of those behind it.
+// So many characters of the texts before a run at most, and of those after it.
 export function stretchRound({ owner, from, to }, most) {
   const [start, end] = [stepped(from, 0, owner), stepped(to, 0, owner)]
   const before = plainTextOf({ owner, from: stepped(from, -most, owner), to: start })

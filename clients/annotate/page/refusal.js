@@ -58,7 +58,7 @@ export function withModel(text, model) {
   return [...worded(text), " ", more]
 }
 
-// Says a sentence behind a node's tag, where it covers nothing; `take` may be offered with it. Parts of the sentence may be
+// Says a sentence after a node's tag, where it covers nothing; `take` may be offered with it. Parts of the sentence may be
 // elements that are missing and may have several names: they are chosen here.
 export function say(node, text, take = null, model = "") {
   told = node

@@ -4,7 +4,7 @@ import { rest } from "./choose.js"
 
 const panels = new Map()
 
-// A panel that is filled when it is shown, and behind each change; gives what shows or hides it.
+// A panel that is filled when it is shown, and after each change; gives what shows or hides it.
 export function panel(id, opener, fill) {
   const box = document.getElementById(id)
   panels.set(box, document.getElementById(opener))

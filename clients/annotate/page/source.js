@@ -1,4 +1,4 @@
-// The document as it would be written, what has changed of it since it was saved, and its other forms to be taken away.
+// The document as it would be written, what has changed of it since it was saved, and its other forms to download.
 import { question } from "./app.js"
 import { make } from "./draw.js"
 

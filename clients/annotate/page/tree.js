@@ -73,7 +73,7 @@ export class Tree {
   }
 
   // Marks a place of a list: it follows what becomes of it, until it is let go. `leans` says on which side of a cut it
-  // stays, where it is cut there: 1 behind it, -1 before it.
+  // stays, where it is cut there: 1 after it, -1 before it.
   mark(owner, [kid, unit], leans = -1) {
     const mark = { owner, kid, unit, leans, isLost: false }
     this.marks.add(mark)
@@ -184,7 +184,7 @@ export class Tree {
     return names
   }
 
-  // The next list in document order that isn't valid, behind this node's, or the first where there is none.
+  // The next list in document order that isn't valid, after this node's, or the first where there is none.
   nextOpen(after, step) {
     const open = [...this.all()].filter((node) => node.kids && (node.verdict ?? "valid") !== "valid")
     if (step < 0) open.reverse()
@@ -227,7 +227,7 @@ export function sliceOf(node, from, to) {
   return typeof units === "string" ? units.slice(from, to) : units.slice(from, to).join("")
 }
 
-// The place behind the last line end up to there, or the place itself where there is none behind `from`.
+// The place after the last line end up to there, or the place itself where there is none after `from`.
 export function lineEndBefore(node, from, to) {
   const end = unitsOf(node).lastIndexOf("\n", to - 1)
   return end >= from ? end + 1 : to

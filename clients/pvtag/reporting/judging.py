@@ -156,7 +156,7 @@ class Judge:
     def checked(self, given: Given) -> Answer:
         """What `check` answers for a document."""
         asked = given.under.path, given.under.root, given.path
-        return self.many.check(*asked, self.most) or self.run("check", *asked)
+        return self.many.ask("check", *asked, self.most) or self.run("check", *asked)
 
     def row(self, path: str) -> Row:
         """What this document comes to."""
@@ -258,7 +258,8 @@ class Judge:
     def missing(self, given: Given) -> Counted | None:
         """How many elements are missing."""
         asked = given.under.path, given.under.root, given.path
-        words = self.run("session", *asked, given=b"need\n").line.split(" ")
+        told = self.many.ask("need", *asked, self.most) or self.run("session", *asked, given=b"need\n")
+        words = told.line.split(" ")
         if words[0] == "need":
             return Counted(int(words[1]), int(words[1]))
         if words[:2] != ["no", "wide"] or self.long is None:

@@ -10,8 +10,13 @@ from pvtag.program import RUNNING, Answer, Stopped, is_made, is_utf_8
 
 # So many processes wait for a document at most, under all DTDs.
 MOST_IDLE = 64
-# The status with which `pvtag` prints a line, by the line's first word. Any other line is asked of `pvtag` itself.
-STATUSES = {b"valid": 0, b"possible": 0, b"impossible": 1, b"document": 7, b"limit": 8}
+# The status with which `pvtag` prints a line, by how the line begins. Any other line is asked of `pvtag` itself.
+STATUSES = {b"valid": 0, b"possible": 0, b"impossible": 1, b"document": 7, b"limit": 8, b"need": 0, b"no impossible": 0, b"no wide": 0, b"no heavy": 0}
+
+
+def status_of(line: bytes) -> int | None:
+    words = line.split()
+    return next((STATUSES[begun] for begun in (b" ".join(words[:count]) for count in (1, 2)) if begun in STATUSES), None)
 
 
 def find_many(program: list[str]) -> list[str] | None:
@@ -33,11 +38,11 @@ class Died(Exception):
 
 
 class Process:
-    """One `pvmany check`, under a DTD and a root."""
+    """One `pvmany`, with its words: a question, a DTD and a root."""
 
-    def __init__(self, program: list[str], under: tuple[str, str]) -> None:
-        self.under, self.held = under, b""
-        self.run = RUNNING.start([*program, "check", *under], stderr=subprocess.DEVNULL)
+    def __init__(self, program: list[str], words: tuple[str, str, str]) -> None:
+        self.words, self.held = words, b""
+        self.run = RUNNING.start([*program, *words], stderr=subprocess.DEVNULL)
 
     def line(self, name: bytes, end: float) -> bytes | None:
         """The line for the document of this name, none where it isn't there by then. Where the process ends it has died."""
@@ -76,10 +81,10 @@ class Many:
     def __init__(self, program: list[str] | None) -> None:
         self.program, self.lock, self.idle = program, threading.Lock(), list[Process]()
 
-    def taken(self, under: tuple[str, str]) -> Process | None:
-        """A process under this DTD and root that waited."""
+    def taken(self, words: tuple[str, str, str]) -> Process | None:
+        """A process with these words that waited."""
         with self.lock:
-            found = next((it for it in self.idle if it.under == under), None)
+            found = next((it for it in self.idle if it.words == words), None)
             if found is not None:
                 self.idle.remove(found)
             return found
@@ -91,14 +96,15 @@ class Many:
         if over is not None:
             over.end()
 
-    def check(self, dtd: str, root: str, path: str, most: float) -> Answer | None:
-        """What `pvtag check` answers for a document within so many seconds: past them the status is -1. None where there is no such answer here,
-        and `pvtag` is to be asked itself: a process died at this document, had no memory for it, or can't be told its name."""
+    def ask(self, question: str, dtd: str, root: str, path: str, most: float) -> Answer | None:
+        """What `pvtag check`, or a session to `need`, answers for a document within so many seconds: past them the status is -1. None where there is
+        no such answer here, and `pvtag` is to be asked itself: a process died at this document, had no memory for it, or can't be told its name."""
         if self.program is None or not all(map(is_utf_8, (dtd, root, path))):
             return None
         end = time.monotonic() + most
+        words = question, dtd, root
         try:
-            process = self.taken((dtd, root)) or Process(self.program, (dtd, root))
+            process = self.taken(words) or Process(self.program, words)
         except OSError:
             return None
         try:
@@ -108,7 +114,7 @@ class Many:
         except BaseException:
             process.end()
             raise
-        status = STATUSES.get(line.split(b" ")[0].strip()) if line else None
+        status = status_of(line) if line else None
         if line:
             self.put_back(process)
         else:
