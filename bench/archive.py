@@ -1,38 +1,63 @@
-"""Times reports on many documents beside xmllint, by the time that passes, and weighs them. Words: the repository's folder, how many documents, how
-many bytes each has, and how many small ones the memory is told of.
+"""Times reports on many documents beside xmllint, and weighs them. Words: the repository's folder, how many documents, how many bytes each has, and
+how many small ones the memory is told of.
 
 The documents are valid letters under examples/letter.dtd and, where it is installed with lxml, sections under DocBook, made plain by tools/flatten.
-Told are documents a second of `clients/report`, of the same again with nothing changed, of the program by `xargs`, and of `xmllint --noout --dtdvalid`
-by `xargs` with the same DTD and with DocBook as it is published, each with as many at a time as there are processors; and which part of the first
-xmllint's number each is. Then the memory at the peak of a report on a hundredth and a tenth of the small documents, of 1 kB, and on all of them. With
-`--write` the tables are put into docs/SPEED.md. Nothing else is to run meanwhile.
+Judged are they by `clients/report`, by the same again with nothing changed, by a `pvmany` for each processor, by the program with `xargs -n1`, and by
+`xmllint --noout --dtdvalid` with `xargs -n1` and `-n50`, by the same DTD and by DocBook as it is published, each with as many at a time as there are
+processors. Told are documents a second, the processor time of a document, and which part that is of xmllint's, fifty documents a call. Then what a
+draft under DocBook takes of which every tenth pair of tags is removed, or in which little more than lists and words is tagged: one `pvmany` for
+all, and the program for each. Then the memory at the peak of a report on a hundredth and a tenth of the small documents, of 1 kB, and on all of them.
+With `--write` the tables are put into docs/SPEED.md. Nothing else is to run meanwhile.
 """
 import os
+import random
+import resource
 import shutil
 import subprocess
 import sys
 import tempfile
 import time
 from collections.abc import Iterator
+from concurrent.futures import ThreadPoolExecutor
 from pathlib import Path
 from typing import NamedTuple
 
 import large
+from check import without_tags
 from page import put
-from timing import TIME, program_of
+from timing import TIME, program_of, told_time
 
 TOP = Path(__file__).resolve().parent.parent
 LETTER = TOP / "examples" / "letter.dtd"
 PARAGRAPH = "<p>I have met <person>Mr Adams</person> in <place>Delft</place> on <date>3 May 1764</date>, who sends his regards to all.</p>\n"
+PROCESSORS = len(os.sched_getaffinity(0))
+# So many drafts, of so many bytes, go through one process.
+DRAFTS, DRAFT_BYTES = 1_000, 10_000
+# In tables: what has an aim, and what others are told as parts of.
+MANY, PEER = "`pvmany check`", "`xmllint`, fifty a call"
 
 
 class Kind(NamedTuple):
-    """Documents: what they are, their DTD, its root, one of them, and the DTD as it is published, where that is another."""
+    """Documents: what they are, their DTD, its root, one of them, the part of xmllint's time that is aimed at, if one is, and the DTD as it is
+    published, where that is another."""
     title: str
     dtd: Path
     root: str
     text: str
+    aim: float | None = None
     published: str | None = None
+
+
+class Took(NamedTuple):
+    """The seconds that passed, and those of processors."""
+    passed: float
+    used: float
+
+
+class Run(NamedTuple):
+    """The words of a command, and its input."""
+    words: list[str]
+    given: bytes = b""
 
 
 def letter(size: int) -> str:
@@ -41,33 +66,51 @@ def letter(size: int) -> str:
     return front + PARAGRAPH * max(1, (size - len(front) - len(end)) // len(PARAGRAPH)) + end
 
 
-def kinds(size: int, folder: Path) -> Iterator[Kind]:
-    """The kinds of documents, of about so many bytes each."""
-    yield Kind("letters", LETTER, "letter", letter(size))
+def docbook(folder: Path) -> Path | None:
+    """DocBook, made plain."""
     python = large.tests.python_with_lxml()
-    if python and os.path.exists(large.tests.MANUALS):
-        os.environ["XML_CATALOG_FILES"] = large.tests.CATALOGS
-        flat = folder / "docbook.dtd"
-        flat.write_text(large.tests.run(python, large.tests.TOOL, large.tests.MANUALS).stdout)
-        yield Kind("sections under DocBook", flat, large.DOCBOOK.root, large.text_of(large.DOCBOOK, size) + "\n", large.tests.MANUALS)
-    else:
+    if not python or not os.path.exists(large.tests.MANUALS):
         print("skipped: documents under DocBook (no docbook-xml, or no lxml)")
+        return None
+    os.environ["XML_CATALOG_FILES"] = large.tests.CATALOGS
+    flat = folder / "docbook.dtd"
+    flat.write_text(large.tests.run(python, large.tests.TOOL, large.tests.MANUALS).stdout)
+    return flat
 
 
-def write_documents(folder: Path, text: str, count: int) -> list[Path]:
+def kinds(size: int, flat: Path | None) -> Iterator[Kind]:
+    """The kinds of documents, of about so many bytes each."""
+    yield Kind("letters", LETTER, "letter", letter(size), 0.5)
+    if flat:
+        yield Kind("sections under DocBook", flat, large.DOCBOOK.root, large.text_of(large.DOCBOOK, size) + "\n", 0.3, large.tests.MANUALS)
+
+
+def write_documents(folder: Path, texts: Iterator[str], count: int) -> list[Path]:
     """So many documents, each another one by its number."""
     files = [folder / f"{number // 1000:03}" / f"{number:06}.xml" for number in range(count)]
     for number, file in enumerate(files):
         file.parent.mkdir(parents=True, exist_ok=True)
-        file.write_text(f"{text}<!-- {number} -->\n")
+        file.write_text(f"{next(texts)}<!-- {number} -->\n")
     return files
 
 
-def seconds(words: list[str], given: bytes = b"") -> float:
-    """How long a command takes, whatever its status."""
-    start = time.monotonic()
-    subprocess.run(words, input=given, stdout=subprocess.DEVNULL, stderr=subprocess.DEVNULL, check=False)
-    return time.monotonic() - start
+def alike(text: str) -> Iterator[str]:
+    while True:
+        yield text
+
+
+def listed(files: list[Path]) -> bytes:
+    return b"".join(os.fsencode(file) + b"\0" for file in files)
+
+
+def took(*runs: Run) -> Took:
+    """What these runs take side by side, whatever their statuses are."""
+    start, before = time.monotonic(), resource.getrusage(resource.RUSAGE_CHILDREN)
+    with ThreadPoolExecutor(len(runs)) as pool:
+        for ran in [pool.submit(subprocess.run, run.words, input=run.given, stdout=subprocess.DEVNULL, stderr=subprocess.DEVNULL, check=False) for run in runs]:
+            ran.result()
+    after = resource.getrusage(resource.RUSAGE_CHILDREN)
+    return Took(time.monotonic() - start, after.ru_utime + after.ru_stime - before.ru_utime - before.ru_stime)
 
 
 def report_of(program: str, kind: Kind, texts: Path, out: Path) -> list[str]:
@@ -75,34 +118,73 @@ def report_of(program: str, kind: Kind, texts: Path, out: Path) -> list[str]:
             str(texts)]
 
 
-def rates(program: str, kind: Kind, count: int, folder: Path) -> dict[str, float]:
-    """Documents a second, by what judges them."""
-    texts, jobs = folder / "texts", str(len(os.sched_getaffinity(0)))
-    listed = b"".join(os.fsencode(file) + b"\0" for file in write_documents(texts, kind.text, count))
-    by_xargs = ["xargs", "-0", "-P", jobs, "-n", "1"]
-    report = report_of(program, kind, texts, folder / "report")
-    runs = {"`clients/report`": (report, b""), "the same again": (report, b""),
-            "`pvtag check` by `xargs`": ([*by_xargs, program, "check", str(kind.dtd), kind.root], listed)}
+def many_of(program: str) -> str | None:
+    """The program for many documents, if it is built beside the other."""
+    many = Path(program).with_name("pvmany")
+    return str(many) if many.is_file() else None
+
+
+def by_xargs(words: list[str], files: list[Path], each: int) -> Run:
+    return Run(["xargs", "-0", "-P", str(PROCESSORS), "-n", str(each), *words], listed(files))
+
+
+def runs_of(program: str, kind: Kind, folder: Path, files: list[Path]) -> Iterator[tuple[str, int, list[Run]]]:
+    """What judges the documents, how many it judges, and its runs."""
+    report = Run(report_of(program, kind, folder / "texts", folder / "report"))
+    yield "`clients/report`", len(files), [report]
+    yield "the same again", len(files), [report]
+    many = many_of(program)
+    if many:
+        shares = [files[at::PROCESSORS] for at in range(PROCESSORS)]
+        yield MANY, len(files), [Run([many, "check", str(kind.dtd), kind.root], listed(share)) for share in shares if share]
+    yield "`pvtag check` by `xargs`", len(files), [by_xargs([program, "check", str(kind.dtd), kind.root], files, 1)]
     if shutil.which("xmllint"):
-        for dtd, title in ((str(kind.dtd), "`xmllint` by `xargs`"), (kind.published, "`xmllint`, the DTD as published")):
-            if dtd:
-                runs[title] = ([*by_xargs, "xmllint", "--nonet", "--noout", "--dtdvalid", dtd], listed)
-    found = {title: count / seconds(words, given) for title, (words, given) in runs.items()}
-    shutil.rmtree(texts)
-    return found
+        lint = ["xmllint", "--nonet", "--noout", "--dtdvalid"]
+        yield PEER, len(files), [by_xargs([*lint, str(kind.dtd)], files, 50)]
+        yield "`xmllint`, one a call", len(files), [by_xargs([*lint, str(kind.dtd)], files, 1)]
+        if kind.published:
+            few = files[: max(len(files) // 10, 1)]
+            yield "`xmllint`, the DTD as published, fifty a call", len(few), [by_xargs([*lint, kind.published], few, 50)]
 
 
-def tables(program: str, count: int, size: int) -> Iterator[str]:
+def tables(program: str, count: int, size: int, flat: Path | None) -> Iterator[str]:
     """A table of rates for each kind."""
-    with tempfile.TemporaryDirectory(prefix="pvtag-archive-") as made:
-        for kind in kinds(size, Path(made)):
-            with tempfile.TemporaryDirectory(prefix="pvtag-archive-") as folder:
-                found = rates(program, kind, count, Path(folder))
-            peer = found.get("`xmllint` by `xargs`")
-            yield from (f"{count:,} {kind.title}, of {len(kind.text) / 1000:.0f} kB each:", "", "| Judged by | Documents a second | Part of `xmllint`'s |",
-                        "|---|---|---|")
-            yield from (f"| {title} | {rate:,.0f} | {f'{rate / peer:.2f}' if peer else ''} |" for title, rate in found.items())
-            yield ""
+    for kind in kinds(size, flat):
+        with tempfile.TemporaryDirectory(prefix="pvtag-archive-") as made:
+            folder = Path(made)
+            files = write_documents(folder / "texts", alike(kind.text), count)
+            found = {title: (judged, took(*runs)) for title, judged, runs in runs_of(program, kind, folder, files)}
+        peer = found[PEER][1].used / found[PEER][0] if PEER in found else None
+        yield from (f"{count:,} {kind.title}, of {len(kind.text) / 1000:.0f} kB each:", "",
+                    "| Judged by | Documents a second | Processor time of a document | Part of `xmllint`'s |", "|---|---|---|---|")
+        for title, (judged, it) in found.items():
+            used = it.used / judged
+            aim = f" ({kind.aim})" if title == MANY else ""
+            yield f"| {title} | {judged / it.passed:,.0f} | {told_time(used)} | {f'{used / peer:.2f}{aim}' if peer else ''} |"
+        yield ""
+
+
+def drafts(program: str, flat: Path | None) -> Iterator[str]:
+    """A table of what drafts under DocBook take."""
+    many = many_of(program)
+    if not (many and flat):
+        return
+    random.seed(1)
+    texts = {"every tenth pair of tags is removed": (alike(without_tags(large.text_of(large.DOCBOOK, DRAFT_BYTES))), " (2 ms)", " (10 ms)"),
+             "little more than lists and words is tagged": (iter(lambda: large.few_tags(large.DOCBOOK, DRAFT_BYTES), None), "", "")}
+    words = [str(flat), large.DOCBOOK.root]
+    yield from (f"A draft under DocBook, of {DRAFT_BYTES / 1000:.0f} kB, of {DRAFTS:,}:", "", "| Draft | `pvmany check` | `pvmany need` | `pvtag check` | `pvtag session`, `need` |",
+                "|---|---|---|---|---|")
+    for title, (made, checked, needed) in texts.items():
+        with tempfile.TemporaryDirectory(prefix="pvtag-archive-") as folder:
+            files = write_documents(Path(folder), made, DRAFTS)
+            few = files[: DRAFTS // 20]
+            cells = [told_time(took(Run([many, "check", *words], listed(files))).used / len(files)) + checked,
+                     told_time(took(Run([many, "need", *words], listed(files))).used / len(files)) + needed,
+                     told_time(sum(took(Run([program, "check", *words, str(file)])).used for file in few) / len(few)),
+                     told_time(sum(took(Run([program, "session", *words, str(file)], b"need\n")).used for file in few) / len(few))]
+        yield f"| {title} | {' | '.join(cells)} |"
+    yield ""
 
 
 def memory(program: str, count: int) -> Iterator[str]:
@@ -112,19 +194,21 @@ def memory(program: str, count: int) -> Iterator[str]:
     with tempfile.TemporaryDirectory(prefix="pvtag-archive-") as folder:
         for part in (count // 100, count // 10, count):
             texts, out, told = Path(folder) / f"texts-{part}", Path(folder) / f"report-{part}", Path(folder) / "told"
-            write_documents(texts, kind.text, part)
-            seconds([TIME, "-f", "%M", "-o", str(told), *report_of(program, kind, texts, out)])
+            write_documents(texts, alike(kind.text), part)
+            took(Run([TIME, "-f", "%M", "-o", str(told), *report_of(program, kind, texts, out)]))
             yield f"| {part:,} | {int(told.read_text().split()[-1]) / 1000:.0f} MB |"
 
 
 def main() -> None:
     count, size, small = (int(word.replace(",", "")) for word in sys.argv[2:5])
     program, load = program_of(str(TOP)), os.getloadavg()[0]
-    lines = [f"On {len(os.sched_getaffinity(0))} processors under a load of {load:.0f}, by the time that passed."] + [""]
-    for part in (tables(program, count, size), memory(program, small) if os.path.exists(TIME) else iter(())):
-        for line in part:
-            lines.append(line)
-            print(line, flush=True)
+    lines = [f"On {PROCESSORS} processors under a load of {load:.0f}. A number in brackets is an aim.", ""]
+    with tempfile.TemporaryDirectory(prefix="pvtag-archive-") as folder:
+        flat = docbook(Path(folder))
+        for part in (tables(program, count, size, flat), drafts(program, flat), memory(program, small) if os.path.exists(TIME) else iter(())):
+            for line in part:
+                lines.append(line)
+                print(line, flush=True)
     if "--write" in sys.argv:
         put(str(TOP), "bench/run archive", lines)
 

@@ -53,10 +53,17 @@ class Taken(NamedTuple):
     stolen: float
     others: float
 
+    @property
+    def on_clock(self) -> str:
+        return in_words(self.clock)
+
     def told(self) -> str:
-        clock = f"{self.clock / 60:.0f} minutes" if self.clock > 300 else f"{self.clock:.0f} seconds"
-        used = f"{self.processor / 60:.0f} minutes" if self.processor > 300 else f"{self.processor:.0f} seconds"
-        return f"{clock}, and {used} of processors, of whose time the host stole {self.stolen:.0%} and other work had {self.others:.0%}"
+        used = in_words(self.processor)
+        return f"{self.on_clock}, and {used} of processors, of whose time the host stole {self.stolen:.0%} and other work had {self.others:.0%}"
+
+
+def in_words(seconds: float) -> str:
+    return f"{seconds / 60:.0f} minutes" if seconds > 300 else f"{seconds:.0f} seconds"
 
 
 def machine_time() -> tuple[int, int, int]:
@@ -88,7 +95,7 @@ def expect_valid(answer: bytes) -> None:
 
 def figures(first: Taken, proved: Taken | None, count: int, load: float) -> list[str]:
     where = f"on {count} processors of {os.cpu_count()}, that had a load of {load:.1f} when it began"
-    told = [f"From a clone and nothing kept, the first answer, without proofs, came after {first.told()}, {where}."]
+    told = [f"From a clone and nothing kept, the first answer, without proofs, came after {first.on_clock}, {where}."]
     return [*told, f"The program was then proved and built in {proved.told()}."] if proved else told
 
 

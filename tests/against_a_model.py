@@ -5,7 +5,7 @@ it, and undoes by making the edits before again on the document that was opened.
 before, which it decides list by list, over all spans of a list. It also tries all insertions of at most `MOST` elements
 (lib/search.py): where some make the document valid, no list may be impossible. The least number of insertions is the reply to
 `need`, which isn't asked where they are more than `MOST` and the document can be made valid. The moves of each script are made once more,
-and `need` asked behind each: behind some of them, and at first, it is compared with that of a fresh session on the same document. Documents
+and `need` asked after each: after some of them, and at first, it is compared with that of a fresh session on the same document. Documents
 are opened whatever their verdicts are. Prints each difference, and how many lines passed; ends with 1 where one failed.
 """
 import os
@@ -57,7 +57,7 @@ def suits(name, node):
 
 
 def joins(places, doc):
-    """The paths of texts with a text behind them."""
+    """The paths of texts with a text after them."""
     texts = {path for path, _ in places if path and is_text(doc.node_at(path))}
     return [path for path in texts if path[:-1] + (path[-1] + 1,) in texts]
 
@@ -134,7 +134,7 @@ def script_line(doc, near=None):
 
 
 def play(session, length):
-    """A script of so many lines, the replies to it, and the document behind each line. In some scripts `need` is asked behind each move, so
+    """A script of so many lines, the replies to it, and the document after each line. In some scripts `need` is asked after each move, so
     that the program is asked it of a session that has moved. In some the edits stay with one list for a while: in it, in what it stands in,
     and back."""
     script, replies, documents, asks = [], [], [], random.random() < 0.3
@@ -156,7 +156,7 @@ def play(session, length):
 
 
 def expected(session, length):
-    """A script, the bytes that the program must write, the documents behind its lines, and its status."""
+    """A script, the bytes that the program must write, the documents after its lines, and its status."""
     script, replies, documents = play(session, length)
     if random.random() < 0.1:
         script += ["quit", "show"]
@@ -170,12 +170,12 @@ def run(program, root, script, last_feed, document="d.xml"):
 
 
 def without_path(reply):
-    """A reply to `need` without the path in it: texts side by side are one where the document is read, so that those behind have other paths."""
+    """A reply to `need` without the path in it: texts side by side are one where the document is read, so that those after have other paths."""
     return reply.rpartition(b" ")[0] if reply.startswith(b"no ") else reply
 
 
 def needs_afresh(program, root, opened, script, documents):
-    """What a session replies to `need` at first and behind each move, and what is replied to it by sessions that are begun on some of the
+    """What a session replies to `need` at first and after each move, and what is replied to it by sessions that are begun on some of the
     documents as they are then: the pairs."""
     moves = [(line, document) for line, document in zip(script, documents) if line.rstrip("\r").partition(" ")[0] in MOVES]
     asked = ["need"] + [each for line, _ in moves for each in (line, "need")]

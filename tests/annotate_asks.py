@@ -1,4 +1,4 @@
-"""Tries what the page of `clients/annotate` asks for, behind random moves: what is missing and taken over, what tags
+"""Tries what the page of `clients/annotate` asks for, after random moves: what is missing and taken over, what tags
 cost, what is typed, attributes.
 
 Words: PROGRAM SEED. Prints each difference, and how many cases passed; ends with 1 where one failed.

@@ -533,7 +533,7 @@ def opens_files_alone(program):
 
 
 def puts_back_what_is_removed(program):
-    """A script that is removed while its document is open is there again behind the next move, for this program alone; one that another
+    """A script that is removed while its document is open is there again after the next move, for this program alone; one that another
     program put there isn't written to."""
     with Place(program) as place:
         editor = place.open()

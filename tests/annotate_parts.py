@@ -109,7 +109,7 @@ def is_there(document, node):
 
 
 def keeps_the_tree(program):
-    """What the tree tells is what the session shows, behind each edit and each undo."""
+    """What the tree tells is what the session shows, after each edit and each undo."""
     made = 0
     with tempfile.TemporaryDirectory() as folder:
         path = os.path.join(folder, "a.xml")
@@ -223,7 +223,7 @@ def wrap_in_gone(editor):
 
 
 def saves(program):
-    """Save writes the document, moves can be taken back behind it, also at the next start, and nothing that changed is
+    """Save writes the document, moves can be taken back after it, also at the next start, and nothing that changed is
     written over."""
     with tempfile.TemporaryDirectory() as folder:
         path = os.path.join(folder, "doc.xml")

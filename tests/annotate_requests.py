@@ -241,7 +241,7 @@ def loses_nothing(program):
 
 
 def ends_behind_the_last_window(program):
-    """It ends in a while behind the last window, and in no while behind another, or one that is loaded again."""
+    """It ends in a while after the last window, and in no while after another, or one that is loaded again."""
     stay = 1
     while not stays_for_windows(program, stay):
         # A machine so busy that a window can't be loaded again in time.

@@ -317,10 +317,11 @@ def try_telling(trial: Trial) -> None:
         ("pvtag why HERE \xe9\u4e00.-_:9 HERE", 2, ""),
         ("pvtag drill 20000", 0, ""),
         ("pvtag no words", 0, ""),
-        ("pvlong", 2, "a command is expected first: one of need, complete"),
+        ("pvlong", 2, "a command is expected first: one of check, need, complete"),
         ("pvlong need HERE r none", 3, "none: there is no such file"),
         ("pvlong need HERE r HERE", 0, ""),
-        ("pvlong check HERE r HERE", 2, "`check` is no command: they are need, complete"),
+        ("pvlong check HERE r HERE", 0, ""),
+        ("pvlong valid HERE r HERE", 2, "`valid` is no command: they are check, need, complete"),
     ):
         name, *rest = words.replace("HERE", there).split()
         run = trial.start(name, *rest, STATUS=str(status), PATH="/nowhere")

@@ -1,7 +1,7 @@
 """Compares `check` with the opening of a session, whose verdicts it must tell.
 
 Words: PROGRAM ROUNDS SEED. A round is one made DTD and eight made documents: random ones, the same with elements within others, without some
-pairs of tags, with names that the DTD doesn't have, and cut or broken bytes. Behind them come lists near the width that verdicts may have, and
+pairs of tags, with names that the DTD doesn't have, and cut or broken bytes. After them come lists near the width that verdicts may have, and
 long lists that aren't valid, with as many tokens as `check` judges by one thread, one less and more. Where the session opens, `check` must tell
 its first impossible list or the number of its possible ones; where it doesn't, its line and status. Prints each difference, and how many
 cases passed; ends with 1 where one failed.

@@ -37,7 +37,7 @@ class Denial:
         need(at == len(data), f"table line {lines}")
 
     def takes(self, lines, line):
-        """Takes a line, and tells whether it may stand behind so many lines before it."""
+        """Takes a line, and tells whether it may stand after so many lines before it."""
         if lines == 0:
             return line == b"pvdeny 1"
         if lines == 1:

@@ -38,7 +38,7 @@ class Dtd:
         self.declared = len(declarations)
         need(len(set(self.names)) == self.declared, "dtd twice")
         # `parts` are pairs of a kind and members, which are numbers of parts, or of one name; `behind` tells of the members of sequences which
-        # member stands behind, or none.
+        # member stands after, or none.
         self.parts, self.behind = [], {}
         self.models = [self.model(spec) for _, spec in declarations]
         self.columns = len(self.names) + len(self.parts)
@@ -83,7 +83,7 @@ class Dtd:
         return self.numbered(tree)
 
     def tree(self, tokens):
-        """The first particle, as a kind and its members, and the tokens behind it."""
+        """The first particle, as a kind and its members, and the tokens after it."""
         need(tokens and tokens[0][0] not in (",", "|", ")"), "dtd model")
         (token, sign), tokens = tokens[0], tokens[1:]
         made = ("name", token)
@@ -180,7 +180,7 @@ def is_character(found):
 
 
 class Document:
-    """What stands before the root and behind it, and the events of the root."""
+    """What stands before the root and after it, and the events of the root."""
 
     def __init__(self, data, root):
         try:
@@ -203,7 +203,7 @@ class Document:
         return at
 
     def read_root(self, at):
-        """Reads the events from there on, and gives the place behind the root."""
+        """Reads the events from there on, and gives the place after the root."""
         self.events, names = [], []
         while True:
             tag = TAG.match(self.text, at)

@@ -1,7 +1,7 @@
 """Compares how a session cuts and joins texts with a model that keeps a text as the list of its units.
 
 Words: PROGRAM ROUNDS SEED. A round is one text, of characters of one to four bytes, references, white space and literal CR LF, alone or mixed;
-the first ones are long, or made of one kind of unit. It is cut at every place, the piece behind the cut is put into an element, which shows
+the first ones are long, or made of one kind of unit. It is cut at every place, the piece after the cut is put into an element, which shows
 where it was cut, and both are undone; a place that is none is tried too. Then pieces of it are cut and joined at random, in all orders, and
 shown. Prints each difference, and how many cases passed; ends with 1 where one failed.
 """

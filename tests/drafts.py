@@ -24,7 +24,7 @@ def members(names, most):
 
 
 def content(names, at):
-    """A model of names that are mostly declared behind this one, so that most names have small trees."""
+    """A model of names that are mostly declared after this one, so that most names have small trees."""
     later = names[at + 1:] or names
     near = later if random.random() < 0.7 else names
     form = random.choice(["empty"] + ["text"] * 2 + ["mixed"] * 4 + ["star"] * 3 + ["plus", "sequence", "sequence"])

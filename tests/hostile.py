@@ -1,6 +1,6 @@
 """Attacks the program as hostile files, a hostile input and a failing machine would.
 
-Words: PROGRAM [SECONDS]. Behind so many seconds, 200 where none are given, what is left isn't tried, which is said. `dtd`,
+Words: PROGRAM [SECONDS]. After so many seconds, 200 where none are given, what is left isn't tried, which is said. `dtd`,
 `valid`, `check` and `session` are run on DTDs, documents and scripts made to cost much, at the limits and past them, and on files that change;
 each command on files that are no files, are endless, or may not be read; with little memory, stack and few files; and with an output that is
 full, closed, slow or refuses. What each run must answer is told by `docs/COMMANDS.md` and `docs/FORMATS.md`. A run must take less than a minute
@@ -157,7 +157,7 @@ def try_memory(trial):
         trial.expect("few files, no threads and a small stack", words, (status, said), limits=few, script=[script])
 
 
-# The files of some commands behind the DTD.
+# The files of some commands after the DTD.
 BEHIND = {"why": ["swapped.xml"], "verify": ["draft.xml", "draft.pack"], "deny": ["swapped.xml", "swapped.denial"],
           "standoff": ["hello.txt", "ranges.txt"]}
 
@@ -259,7 +259,7 @@ def try_pipes(trial):
 
 
 def try_changing_files(trial):
-    """A document that grows, and one that is cut short and grows again, while it is read: blanks behind its root."""
+    """A document that grows, and one that is cut short and grows again, while it is read: blanks after its root."""
     stop = threading.Event()
 
     def grow():

@@ -272,6 +272,7 @@ class Trial(Counting):
                 (head + b"\n" * (MOST_BYTES - len(head)), "table line 3")]:
             self.tell(f"{wanted}, of {len(denial)} bytes", lambda: need(small.told(denial) == wanted, small.told(denial)))
         self.tell("the most values", lambda: self.most(program))
+        self.tell("a list that is just narrow enough", lambda: self.narrow(program))
         self.tell("a list too wide", lambda: self.wide(program))
 
     def most(self, program):
@@ -281,6 +282,12 @@ class Trial(Counting):
         told = output(program, "why", "a.dtd", "r", "d.xml")
         need(told == (8, b"limit tables\n"), f"{told[0]}: {told[1][:200]!r}")
 
+    def narrow(self, program):
+        """The widest list that isn't too wide: the table of `why` has more columns than the limit counts."""
+        write("a.dtd", "<!ELEMENT r (#PCDATA" + "".join(f"|a{number}" for number in range(4000)) + ")*><!ELEMENT z EMPTY>")
+        write("d.xml", f"<r>{'x<!---->' * 8384}<z/></r>")
+        status, told = output(program, "why", "a.dtd", "r", "d.xml")
+        need((status, told[:8], told[-5:]) == (0, b"pvdeny 1", b"\nend\n"), f"{status}: {told[:200]!r}")
 
     def wide(self, program):
         write("a.dtd", "<!ELEMENT r (#PCDATA" + "".join(f"|a{number}" for number in range(4000)) + ")*>")

@@ -28,7 +28,7 @@ class Command(NamedTuple):
     said: bytes
 
     def called(self, files: list[str]) -> list[str]:
-        """The words with other files: the DTD stands before the root's name, the others behind it."""
+        """The words with other files: the DTD stands before the root's name, the others after it."""
         name, *root = self.words
         return [name, *files[:1], *root, *files[1:]]
 

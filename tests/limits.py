@@ -24,7 +24,7 @@ MOST, BESIDE = 4, 0.5
 
 
 class Case(NamedTuple):
-    """Words behind the program's name, and what it reads."""
+    """Words after the program's name, and what it reads."""
     title: str
     words: list[str]
     script: bytes = b""

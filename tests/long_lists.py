@@ -1,9 +1,10 @@
-"""Tries sessions on documents with long lists: what one tells behind random moves, against sessions that are begun afresh.
+"""Tries sessions on documents with long lists: what one tells after random moves, against new sessions.
 
 Words: PROGRAM DOCUMENTS SEED, and the most seconds, where less is wanted; of each content model there is one document at least. A document has
 lists of 300 to 2,000 kids, two of them with owners of one name. Edits come at the front, in the middle and at the end of these lists, and of
-lists as long that come of a wrap; they stay with one list for a while or go to and fro; edits that are refused, `undo` and `redo` stand between.
-At each third line or so a session is begun on the document that `show` gives: all verdicts, the reply to the next edit and the verdicts behind it
+lists as long that come of a wrap; they stay with one list for a while or go back and forth; edits that are refused, offers in the same list and in
+others, `undo` and `redo` stand between.
+At each third line or so a session is begun on the document that `show` gives: all verdicts, the reply to the next edit and the verdicts after it
 are to be the same, and `ok` is to tell how many of them are possible and impossible. `check` is to tell the same of the document. The last line
 tells how many of these passed.
 """
@@ -39,7 +40,7 @@ class Element(NamedTuple):
 
 class Content(NamedTuple):
     """The content of a list's owner: its declaration, and what words for it are made of, names and `#` for a text: groups, in any order, with what
-    stands before and behind them. Of some words kids are left out."""
+    stands before and after them. Of some words kids are left out."""
     model: str
     groups: list[str]
     front: str = ""
@@ -55,7 +56,7 @@ CONTENTS = {
     "h": Content("(head?, p*)", ["p"], "head"),
     "c": Content("(x | y | c)*", ["x", "y", "y", "c"]),
     "s": Content("(x, y)*", ["x y"], lacks=True),
-    # One that isn't, one of which a token more shifts all that is behind it, and a large one.
+    # One that isn't, one of which a token more shifts all that is after it, and a large one.
     "n": Content("((x, x) | (x, y))*", ["x x", "x y"]),
     "w": Content("((x, x))*", ["x x"]),
     "k": Content(f"({LARGE})*", ["y " * 36, "x y " * 36, "y y x y " * 12]),
@@ -99,7 +100,7 @@ def has_joined_texts(kids: tuple[Element | str, ...]) -> bool:
 
 
 def apart(kids: list[Element | str]) -> tuple[Element | str, ...]:
-    """These kids without a text that stands behind another."""
+    """These kids without a text that stands after another."""
     return tuple(kid for before, kid in pairwise([Element("r"), *kids]) if not (isinstance(before, str) and isinstance(kid, str)))
 
 
@@ -148,7 +149,7 @@ def written(node: Element | str) -> str:
     return node if isinstance(node, str) else f"<{node.name}>{''.join(map(written, node.kids))}</{node.name}>"
 
 
-# Edits: a line, and the root behind it, none where it can't be made.
+# Edits: a line, and the root after it, none where it can't be made.
 Edit = tuple[str, Element | None]
 Places = tuple[int, ...]
 
@@ -412,13 +413,38 @@ class Game:
         wanted = checked(rows(self.session.ask("verdicts")))
         self.expect("check", said.strip() == wanted, f"{said} for {wanted}")
 
+    def place(self) -> Places:
+        """The path of the list that is edited, or of another one, long or in one."""
+        if random.random() < 0.5:
+            return self.lists.last
+        places: Places = (random.randrange(len(self.lists.root.kids)),)
+        within = [at for at, kid in enumerate(node_at(self.lists.root, places).kids) if isinstance(kid, Element) and kid.kids]
+        return (*places, random.choice(within)) if within and random.random() < 0.3 else places
+
     def question(self) -> str:
-        """A question of what may stand in the list that is edited, or of nothing."""
-        places = self.lists.last
+        """A question of what may stand in a list, or of nothing."""
+        places = self.place()
         start, end = run_of(len(node_at(self.lists.root, places).kids))
         return random.choice([f"offer {path(places)} {start} {end}", f"offer {path(places)}", "history x"])
 
+    def look_around(self) -> None:
+        """Asks of some lists what may stand there, and tries edits of them that are mostly refused."""
+        for _ in range(random.choice([0, 0, 1, 1, 2, 4])):
+            question = self.question()
+            reply = self.session.ask(question)[0]
+            self.expect(question, reply.startswith(("offer ", "no ")), reply)
+            if random.random() < 0.5:
+                self.edited(self.unproductive())
+
+    def unproductive(self) -> Edit:
+        """A wrap that can be made only where an impossible list is replaced by another."""
+        places = self.place()
+        kids = node_at(self.lists.root, places).kids
+        start, end = run_of(len(kids))
+        return f"wrap {path(places)} {start} {end} u", replaced(self.lists.root, places, start, end, (Element("u", kids[start:end]),))
+
     def move(self, number: int) -> None:
+        self.look_around()
         way = random.random()
         if way < 0.10:
             self.made.append("undo")

@@ -291,7 +291,7 @@ def completes(program):
 
 
 def completes_what_was_chosen(program):
-    """What is completed makes the tags whole, also where an editor has put a `>` behind the `<`."""
+    """What is completed makes the tags whole, also where an editor has put a `>` after the `<`."""
     with Client(program) as client:
         client.open(URI, DRAFT)
         place = DRAFT.index("met")

@@ -234,7 +234,7 @@ def waits_for_no_other_document(program):
         about = {"textDocument": {"uri": uri_of("a.xml", folder)}}
         for method in ("documentSymbol", "foldingRange", "documentLink"):
             client.ask(f"textDocument/{method}", about)
-        # One that waits behind others is answered at once, and so are all when their document is closed.
+        # One that waits after others is answered at once, and so are all when their document is closed.
         client.tell("$/cancelRequest", {"id": numbers[5]})
         same(client.answer(numbers.pop(5))["error"]["code"], -32800, "the last of a document's")
         client.tell("textDocument/didClose", about)

@@ -2,7 +2,7 @@
 
 Words: PROGRAM COUNT SEED, and the most seconds. The names that are offered are those with which a session makes the
 wrap, and the edited text is what it shows then. What a session misses (`need`) is inserted by an action: the text
-behind it is valid, and without the new tags it is the old one. Prints each difference, and how many cases passed; ends
+after it is valid, and without the new tags it is the old one. Prints each difference, and how many cases passed; ends
 with 1 where one failed.
 """
 import os

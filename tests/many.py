@@ -4,6 +4,7 @@ Words: PVMANY PVTAG COUNT SEED. COUNT documents go through one process. The last
 """
 import os
 import random
+import re
 import shutil
 import subprocess
 import sys
@@ -17,7 +18,7 @@ from lib.counting import Expecting  # noqa: E402
 TOP = Path(__file__).resolve().parent.parent
 DTD = str(TOP / "examples" / "letter.dtd")
 # The questions that it takes.
-QUESTIONS = ("valid", "check")
+QUESTIONS = ("valid", "check", "need")
 # Documents by the name of their file: good ones, and one of each kind of fault.
 DOCUMENTS = {
     "valid.xml": (TOP / "examples" / "letter.xml").read_bytes(),
@@ -34,9 +35,16 @@ DOCUMENTS = {
     "bytes.xml": b"<letter>\xff</letter>",
     "root.xml": b"<p/>",
     "strange.xml": b"<letter><strange/></letter>",
+    "wide.xml": b"<letter>" + b"<p/>" * 2000 + b"</letter>",
     "two lines\n.xml": (TOP / "examples" / "letter.xml").read_bytes(),
     "caf\u00e9.xml": (TOP / "examples" / "letter.xml").read_bytes(),
 }
+# A DTD, a root, and parts that make a valid document below it.
+TEMPLATES = (
+    (DTD, "letter", ("<opener><dateline><place>Delft</place>, <date>3 May</date></dateline><salute>Dear</salute></opener>",
+                "<body><p>a <person>b</person> c</p><lb/><p>d<lb/></p></body>", "<closer>Yours, <person>e</person></closer>")),
+    (str(TOP / "examples" / "article.dtd"), "doc", ("<head>a</head>", "<sec><title>b</title><p>c<br/></p></sec>")),
+)
 # Names of no file that can be read: a folder, none, and bytes that aren't UTF-8.
 NO_FILES = [b"folder", b"nothing.xml", b"", b"a\xff.xml", b"x" * 5000]
 PATIENCE = 600
@@ -68,9 +76,10 @@ class Trial(Expecting):
             (folder / name).write_bytes(data)
         self.lines = {question: {name.encode(): self.line_of(question, name) for name in DOCUMENTS} for question in QUESTIONS}
 
-    def line_of(self, question: str, name: str) -> bytes:
-        """What `pvtag` prints for this document."""
-        return subprocess.run([self.one, question, DTD, "letter", name], cwd=self.folder, capture_output=True, check=False).stdout
+    def line_of(self, question: str, name: str, dtd: str = DTD, root: str = "letter") -> bytes:
+        """What `pvtag` prints for this document; in a session, if it is asked what is missing."""
+        command, given = (question, b"") if question != "need" else ("session", b"need\n")
+        return subprocess.run([self.one, command, dtd, root, name], cwd=self.folder, input=given, capture_output=True, check=False).stdout
 
     def begin(self, question: str) -> "subprocess.Popen[bytes]":
         return subprocess.Popen([self.many, question, DTD, "letter"], cwd=self.folder, stdin=subprocess.PIPE, stdout=subprocess.PIPE, stderr=subprocess.DEVNULL)
@@ -157,9 +166,49 @@ def stays_flat(trial: Trial, question: str, count: int) -> None:
         trial.expect("memory that stays", peaks[-1] <= peaks[1] * 1.1 + 512, peaks)
 
 
+def stripped(trial: Trial) -> tuple[str, str, bytes]:
+    """A DTD, its root, and a document that lacks the tags of some names, and may have two parts in the other order."""
+    dtd, root, whole = trial.chance.choice(TEMPLATES)
+    parts = [part * trial.chance.choice((1, 1, 2, 5)) if number else part for number, part in enumerate(whole)]
+    if trial.chance.random() < 0.2:
+        parts.reverse()
+    text = f"<{root}>{''.join(parts)}</{root}>"
+    for name in {*re.findall(r"<(\w+)", "".join(parts))}:
+        text = re.sub(f"</?{name}/?>", "", text) if trial.chance.random() < 0.4 else text
+    return dtd, root, text.encode()
+
+
+def remembers(trial: Trial, count: int) -> None:
+    """What is missing in random documents, each asked twice of a process, against a session on each."""
+    asked: dict[tuple[str, str], dict[bytes, bytes]] = {}
+    for number in range(count):
+        dtd, root, text = stripped(trial)
+        name = f"stripped-{number}.xml"
+        (trial.folder / name).write_bytes(text)
+        asked.setdefault((dtd, root), {})[name.encode()] = trial.line_of("need", name, dtd, root)
+    for (dtd, root), lines in asked.items():
+        names = [*lines, *trial.chance.sample([*lines], len(lines))]
+        wanted = b"".join(name + b"\0" + lines[name] for name in names)
+        told = trial.ask("need", dtd, root, given=b"".join(name + b"\0" for name in names))
+        trial.expect("what is missing in random documents", told == (0, wanted), (dtd, told[1][-300:]))
+        trial.expect("some of each kind", {line.split()[0] for line in lines.values()} == {b"need", b"no"}, lines)
+
+
+def refuses_numbers(trial: Trial) -> None:
+    """More elements are missing than are counted, and a list is too wide for a verdict, among others."""
+    (trial.folder / "doubling.dtd").write_text("".join(f"<!ELEMENT t{number} (t{number + 1}, t{number + 1})>\n" for number in range(20)) + "<!ELEMENT t20 EMPTY>\n")
+    for name, text in (("one.xml", b"<t19/>"), ("all.xml", b"<t0/>"), ("long.xml", b"<t0>" + b"<t1/>" * 1_600_000 + b"</t0>")):
+        (trial.folder / name).write_bytes(text)
+    for root, names in (("t0", ["all.xml", "one.xml", "all.xml", "long.xml", "one.xml"]), ("t19", ["one.xml", "all.xml", "one.xml"])):
+        wanted = [name.encode() + b"\0" + trial.line_of("need", name, "doubling.dtd", root) for name in names]
+        told = trial.ask("need", "doubling.dtd", root, given=b"".join(name.encode() + b"\0" for name in names))
+        trial.expect("numbers that aren't told", told == (0, b"".join(wanted)), (told, wanted))
+        trial.expect("why they aren't", root != "t0" or [line.split(b"\0")[1] for line in wanted[::3]] == [b"no heavy\n", b"limit width 0\n"], wanted)
+
+
 def refuses(trial: Trial) -> None:
     """Words, DTDs and devices in fault: nothing is answered, with the status and the line of `pvtag`."""
-    for words in ((), ("valid",), ("check", DTD), ("valid", DTD, "1"), ("check", DTD, "letter", "valid.xml"), ("session", DTD, "letter")):
+    for words in ((), ("valid",), ("check", DTD), ("need", DTD, "letter", "letter"), ("valid", DTD, "1"), ("check", DTD, "letter", "valid.xml"), ("session", DTD, "letter")):
         trial.expect("words that are no request", trial.ask(*words) == (2, b"usage\n"), words)
     (trial.folder / "bad.dtd").write_text("<!ELEMENT a (b)>\n<!ELEMENT a (b)>\n")
     (trial.folder / "limit.dtd").write_text(f"<!ELEMENT a {'(' * 70}b{')' * 70}>\n")
@@ -195,6 +244,22 @@ def reports(trial: Trial) -> None:
         trial.expect("a report by it", told == wanted, (told, wanted, ran.stderr))
 
 
+def reports_missing(trial: Trial) -> None:
+    """`clients/report --need` tells the same by it and by `pvtag` alone."""
+    alone = trial.folder / "alone"
+    alone.mkdir()
+    shutil.copy(trial.one, alone / "pvtag")
+    # Where a list is too wide, `pvlong` is asked, if it is there.
+    names = [name for name in DOCUMENTS if "\n" not in name and name != "wide.xml"]
+    rows = []
+    for program in (trial.one, str(alone / "pvtag")):
+        ran = subprocess.run([TOP / "clients" / "report", "--program", program, "--format", "tsv", "--no-attributes", "--need", "--jobs", "2", DTD, "letter", *names],
+                             cwd=trial.folder, capture_output=True, text=True, timeout=PATIENCE, check=False)
+        told = [line.split("\t") for line in ran.stdout.splitlines() if not line.startswith("#")]
+        rows.append({row[0]: dict(zip(told[0], row, strict=False)) | {"seconds": ""} for row in told[1:]})
+    trial.expect("a report on what is missing", rows[0] == rows[1] and rows[0]["draft.xml"]["missing"] == "1", rows)
+
+
 def main(many: str, one: str, count: str, seed: str) -> int:
     # A program without proofs keeps what was freed for a while, unless it is told not to.
     os.environ.setdefault("ASAN_OPTIONS", "quarantine_size_mb=0:thread_local_quarantine_size_kb=0")
@@ -205,8 +270,11 @@ def main(many: str, one: str, count: str, seed: str) -> int:
             answers_pieces(trial, question)
             answers_at_once(trial, question)
             stays_flat(trial, question, int(count))
+        remembers(trial, 150)
+        refuses_numbers(trial)
         refuses(trial)
         reports(trial)
+        reports_missing(trial)
     return trial.ended()
 
 

@@ -121,6 +121,7 @@ def try_installed(trial: Trial, deb: Path) -> None:
         ("an unknown word", ["pvtag", "--version"], 2, "usage\n"),
         ("the other program", ["pvlong", "need", *letter], 0, "need 0\n"),
         ("the program for many documents", ["pvmany", "valid", *letter[:2]], 0, ""),
+        ("its words", ["pvmany", "--help"], 0, "usage: pvmany valid DTD ROOT\n"),
         ("reasons", ["pvtag-why", *swapped], 0, "`closer`"),
         ("a report", ["pvtag-report", *letter], 0, '"verdict": "valid"'),
         ("the page's words", ["pvtag-annotate", "--help"], 0, "usage: "),
@@ -139,6 +140,9 @@ def try_installed(trial: Trial, deb: Path) -> None:
                             (["pvtag", "check", "none.dtd", "a", "none.xml"], "pvtag: none.dtd: there is no such file\n"), (["pvlong", "need"], "pvlong: need takes 3")):
         told = trial.inside(*words)
         trial.expect("a sentence", told.stderr.startswith(sentence) and told.returncode == (3 if "none" in sentence else 2), (words, told))
+    told = trial.inside("/bin/sh", "-c", "cd /usr/bin; PATH=/nowhere; ./pvmany --version")
+    version = (trial.root / "usr/share/doc/pvtag/built").read_text().splitlines()[0].partition(" ")[2]
+    trial.expect("its version", (told.returncode, told.stdout) == (0, f"pvmany {version}\n"), told)
     told = trial.inside("/bin/sh", "-c", "cd /usr/bin; PATH=/nowhere; ./pvtag valid " + " ".join(letter))
     trial.expect("the script alone, without other commands", (told.returncode, told.stdout, told.stderr) == (0, "valid\n", ""), told)
     opens_page(trial, letter)
@@ -149,7 +153,7 @@ def try_installed(trial: Trial, deb: Path) -> None:
         with gzip.open(trial.root / f"usr/share/man/man1/{name}.1.gz", "rt") as file:
             manual = file.read()
         trial.expect("what the manual tells", "rattle-kit" in manual or name not in ("pvtag", "pvlong", "pvmany"), manual[-600:])
-        told = trial.inside(name, "--help").stdout if name not in ("pvtag", "pvlong", "pvmany", "pvtag-flatten") else ""
+        told = trial.inside(name, "--help").stdout if name not in ("pvtag", "pvlong", "pvtag-flatten") else ""
         trial.expect("it names itself as it was called", not told or told.startswith(f"usage: {name} "), told[:200])
         options = set(re.findall("^ {2,}(?:-., )?(--[a-z-]+)", told, re.MULTILINE))
         trial.expect("the completion of its options", options <= set(completed(name, "-")), (name, options))
@@ -226,7 +230,7 @@ def try_completion(trial: Trial) -> None:
     for words, wanted in ((["n"], "need"), ([""], "need complete"), (["need", blank, "l"], "letter lb")):
         told = subprocess.run(["bash", "-c", script, TOP / "tools/completion.bash", other, *words], capture_output=True, text=True, check=False)
         trial.expect("a completion of pvlong", told.stdout == f"{wanted}\n", (words, told))
-    for words, wanted in (([""], "valid check"), (["c"], "check"), (["check", blank, "l"], "letter lb")):
+    for words, wanted in (([""], "valid check need --help --version"), (["c"], "check"), (["need", blank, "l"], "letter lb")):
         told = subprocess.run(["bash", "-c", script, TOP / "tools/completion.bash", str(trial.clone / "build/pvmany"), *words], capture_output=True, text=True,
                               check=False)
         trial.expect("a completion of pvmany", told.stdout == f"{wanted}\n", (words, told))

@@ -46,7 +46,7 @@ class Spans:
         return {(i, j) for i, k in one for m, j in other if k == m}
 
     def repeated(self, spans):
-        """One or more of these, one behind another."""
+        """One or more of these, one after another."""
         whole = set(spans)
         while True:
             more = whole | self.joined(whole, spans)

@@ -122,7 +122,11 @@ says "pvlong, another question" 2 "usage$lf" ".check. is no command: they are ne
 says "pvlong, a missing DTD" 3 "" "nothing.dtd: there is no such file" "$pvlong" need nothing.dtd doc hello.xml
 says "pvlong, a missing document" 3 "" "nothing.xml: there is no such file" "$pvlong" need a.dtd doc nothing.xml
 expect "pvlong, by a pipe" 0 "need 2$lf" bash -c 'printf "<doc><head/>t</doc>" | "$0" need a.dtd doc /dev/stdin' "$pvlong"
-says "pvmany, no words" 2 "usage$lf" "one of valid, check" "$pvmany"
+says "pvmany, no words" 2 "usage$lf" "one of valid, check, need" "$pvmany"
+expect "pvmany, its words" 0 "usage: pvmany valid DTD ROOT$lf" bash -c '"$0" --help | head -n 1' "$pvmany"
+expect "pvmany, its words and a full device" 4 "" bash -c '"$0" --help >/dev/full 2>/dev/null' "$pvmany"
+expect "pvmany, its version" 0 "pvmany $(cd "$top/tools" && python3 -B -c 'import version; print(version.version_of())' 2>/dev/null || echo unknown)$lf" "$pvmany" --version
+says "pvmany, a word too many" 2 "usage$lf" ".--help. is no command: they are valid, check, need" "$pvmany" --help check
 says "pvmany, a document too many" 2 "usage$lf" "valid takes 2 arguments, DTD ROOT, and has 3" "$pvmany" valid a.dtd doc hello.xml
 says "pvmany, a missing DTD" 3 "" "nothing.dtd: there is no such file" "$pvmany" valid nothing.dtd doc
 expect "pvlong, a full device" 4 "" bash -c '"$0" complete a.dtd doc hello.xml >/dev/full' "$pvlong"
@@ -169,7 +173,7 @@ for bytes in '\xff' '\xed\xa0\x80' '\xc0\xaf' '\xe0\x80\xaf' '\xf4\x90\x80\x80' 
     dtd "$bytes in a literal" 6 "dtd syntax 1"
 done
 
-# Parameter entities: sixteen, each of which refers twice to the one before; the limits and one past them; a text declaration behind them.
+# Parameter entities: sixteen, each of which refers twice to the one before; the limits and one past them; a text declaration after them.
 doubled() {
     printf '<!ENTITY %% e0 "">'
     for k in $(seq 16); do printf '<!ENTITY %% e%d "&#37;e%d;&#37;e%d;">' "$k" $((k - 1)) $((k - 1)); done

@@ -1,8 +1,9 @@
 """Tries what a session remembers of the weights of lists, where more lists differ than it remembers.
 
-Words: PROGRAM SEED. A document has 50,000 lists, no two alike, of which each lacks elements; how many is told by a formula. `need` is asked behind
+Words: PROGRAM SEED. A document has 50,000 lists, no two alike, of which each lacks elements; how many is told by a formula. `need` is asked after
 random edits, undo and redo, and compared with the sum of the formula, and with what a fresh session tells. What is remembered is to take no more
-than a bound. The last line tells how many passed.
+than a bound. Of a document whose lists are valid it is 0, also again after edits that are undone, and after offers and refused edits in two lists.
+The last line tells how many passed.
 """
 import os
 import random
@@ -41,6 +42,11 @@ class Asked:
         assert self.run.stdin and self.run.stdout
         self.run.stdin.write(f"{line}\n".encode())
         self.run.stdin.flush()
+        return self.read()
+
+    def read(self) -> str:
+        """The next line of a reply."""
+        assert self.run.stdout
         return self.run.stdout.readline().decode().strip()
 
     def peak(self) -> float:
@@ -102,6 +108,31 @@ def tries(program: str, told: Expecting) -> None:
     fresh.end()
 
 
+def tries_whole(program: str, told: Expecting) -> None:
+    """Asks `need` of a document with two long lists that are valid but for some moves."""
+    Path("d.xml").write_text("<r>" + f"<a>{'<b/><c/>' * KIDS}<d/></a>" * 2 + "</r>", encoding="ascii")
+    session = Asked(program)
+    told.expect("need of a valid document", session.ask("need") == "need 0")
+    for _ in range(MOVES * 8):
+        number, kid = random.randrange(2), random.choice("bcd")
+        at = random.randint(0, 2 * KIDS)
+        asked = session.ask(f"offer 0.{number} {at} {at}")
+        told.expect("an offer", asked.startswith("offer "), asked)
+        for _ in range(int(asked.split()[1])):
+            session.read()
+        told.expect("a refused edit", session.ask(f"wrap 0.{1 - number} 0 {at} b").startswith("no impossible" if at else "ok"))
+        if at == 0:
+            told.expect("need behind it", session.ask("need") == "need 1")
+            told.expect("undo of it", session.ask("undo").startswith("ok"))
+        reply, word = session.ask(f"insert 0.{number} {at} {kid}"), "bc" * KIDS
+        told.expect(f"insert {at} {kid}", reply.startswith("no impossible" if kid == "d" else "ok"), reply)
+        if kid != "d":
+            told.expect("need of it", session.ask("need") == f"need {missing(word[:at] + kid + word[at:]) - 1}")
+            told.expect("undo", session.ask("undo").startswith("ok"))
+        told.expect("need of the valid document again", session.ask("need") == "need 0")
+    session.end()
+
+
 def main() -> int:
     program, told = os.path.abspath(sys.argv[1]), Expecting()
     random.seed(int(sys.argv[2]))
@@ -109,6 +140,7 @@ def main() -> int:
         os.chdir(folder)
         Path("a.dtd").write_text(DTD, encoding="ascii")
         tries(program, told)
+        tries_whole(program, told)
         os.chdir("/")
     return told.ended()
 

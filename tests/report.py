@@ -108,6 +108,10 @@ def try_kinds(trial: Trial) -> bytes:
         trial.expect("place and sentence", kind < 2 or (row["line"] >= 1 and len(row["sentence"]) > 10), row)
     listed = b"".join(os.fsencode(trial.file(it)) + b"\0" for it in range(len(trial.kinds)))
     trial.expect("by a list and one job", rows_of(trial.over("--need", "-0", "--jobs", "1", given=listed)[1]) == rows)
+    # The script above stands alone; beside the program itself `pvmany` may be built.
+    asked = subprocess.run([sys.executable, REPORT, "--program", trial.variables["PVTAG"], str(trial.dtd), "letter", "--need", str(trial.texts)],
+                           capture_output=True, timeout=PATIENCE, check=False)
+    trial.expect("by `pvmany`", asked.returncode == 0 and rows_of(asked.stdout) == rows, asked.stderr)
     tabbed = trial.over("--need", "--format", "tsv", str(trial.texts))[1].decode().splitlines()
     names = tabbed[1].split("\t")
     for line, row in zip(tabbed[2:], rows):

@@ -91,7 +91,7 @@ CHECKS = [
         "accepted is least"),
     row("hostile_packs", "packs that were changed", "", 3600, "python3 tests/hostile_packs.py PVTAG 100 1",
         "`verify` on packs of `complete` and on hostile ones made from them: it answers as `tests/check_pack.py`, and what it accepts "
-        "is least, as the search and `need` tell it; packs at the limits"),
+        "is least, as the search and `need` say; packs at the limits"),
     row("hostile_denials", "denials, and those that were changed", "", 3600, "python3 tests/hostile_denials.py PVTAG 150 1 240",
         "`why` on random documents, against a search and the rules; `deny` on its denials and on hostile ones made from them, with a "
         "judge written from `docs/FORMATS.md` (`tests/check_denial.py`): what is denied the search finds impossible; denials and lists "
@@ -116,11 +116,11 @@ CHECKS = [
     row("long", "wide lists: bounds and completions", "", 3600, "python3 tests/long.py PVLONG PVTAG 1 150",
         "`pvlong`: its bounds against `need`, the search that inserts elements and derivations by spans, on small documents; under "
         "DocBook, XHTML, the DTDs of `examples/` and made ones, that what it completes is valid, keeps texts and tags, and has as many "
-        "new elements as it tells, and that no more are missing than tags were removed; files in fault"),
+        "new elements as it prints, and that no more are missing than tags were removed; files in fault"),
     row("many", "many documents by one process", "", 3600, "python3 tests/many.py PVMANY PVTAG 10000 1",
         "`pvmany`: each line against that of `pvtag` for the same document, with every kind of fault among good ones; 10,000 documents "
-        "in one process, whose memory stays; names in any pieces, and an answer before more is asked; files, input and output in fault; reports by it, also where it dies or "
-        "hangs"),
+        "in one process, whose memory stays; names in any pieces, and an answer before more is asked; what is missing in random documents, "
+        "each asked twice, against sessions; files, input and output in fault; reports by it, also where it dies or hangs"),
     row("completions", "completions: valid, whole, least", "", 3600, "python3 tests/completions.py PVTAG 400 1 60",
         "`need` and `complete` in sessions: the number against the search that inserts elements; what is shown is valid, also by "
         "`xmllint` where there is one, keeps texts and tags, and has that many elements more"),
@@ -135,7 +135,7 @@ CHECKS = [
     row("package", "the package, in a bare root", "", 3600, "python3 tests/package.py PVTAG PVLONG PVMANY",
         "the package that `tools/package` makes, unpacked in a bare root"),
     row("check_by_session", "check against the opening of a session", "", 3600, "python3 tests/check_by_session.py PVTAG 300 1",
-        "`check` against the verdicts that a session tells, on random documents, broken ones too, on lists near the width for "
+        "`check` against the verdicts that a session prints, on random documents, broken ones too, on lists near the width for "
         "verdicts, and on as many tokens of long lists as one thread judges"),
     row("against_a_model", "sessions against a model", "", 3600, "python3 tests/against_a_model.py PVTAG 20000 7",
         "sessions on random documents, impossible ones too, 20,000 lines, against a model of a session"),

@@ -2,7 +2,8 @@
 prose of the pages keeps to 120 columns, it and the messages of the clients to the words of the field, and that by cmark, where it is installed, no
 list, heading or table of a page comes about by accident; that each check has its file's name, and docs/PROVED.md their table; the file that each
 choice of docs/DECISIONS.md names; that each edit which the gate leaves out still has its place; that no line of a crate is longer than 200 columns,
-and that a file of proofs is named after its subject. Prints each finding, and how many files and pages passed; ends with 1 where one failed."""
+and that a file of proofs or of definitions is named after its subject. Prints each finding, and how many files and pages passed; ends with 1
+where one failed."""
 import re
 import shutil
 import subprocess
@@ -25,8 +26,16 @@ CHOICE = re.compile(r"^- \*\*.*?(?=^- \*\*|^## |\Z)", re.MULTILINE | re.DOTALL)
 MOST_EDITS = 3
 # So many columns a line of a crate has, at most.
 MOST_COLUMNS = 200
-# A participle says what is done, but not to what.
+# A participle says what is done, but not to what, and an adjective what a thing is like, but not which.
 PARTICIPLE = re.compile(r"[A-Z][a-z]+(?:ing|ed)")
+BARE = frozenset("""
+    Absent Accepts Across After Again Alike Alone Among Apart Around Before Begun Behind Below Beside Between Both Broken Brought Built Chosen
+    Deep Distinct Done Each Equal Every Exact Exclusive Exists Few Firsts Found Fresh Furthest Given Gone Grow Grown Held Inside Kept Known Laid
+    Least Leasts Left Live Lost Made Many Meant Met Most Narrow Next None Once One Optimal Others Outside Paid Piecewise Productive Proper Ready
+    Same Seen Shallow Shown Sound Spread Stands Taken Told Unbroken Undone Unknown Whole Wholes Wide Within Without Written
+""".split())
+# What ends like a participle and is a noun, or a type that the file is about.
+NOUNS = frozenset(["Judged", "Making", "Meaning", "Merging", "Numbering", "Opening", "Spelling", "Tested"])
 # What parts the cells of a table, and its second row.
 BAR = re.compile(r"(?<!\\)\|")
 RULE = re.compile(r"[|: -]+$")
@@ -160,6 +169,13 @@ def edits() -> Iterator[tuple[str, str]]:
         yield edit.name, what if file.is_file() else f"{edit.relative_to(TOP)}: it names no file"
 
 
+def is_named(where: Path) -> bool:
+    """Whether a file of proofs or of definitions has a name that says what it is about."""
+    if "specs" in where.parts:
+        return where.stem in NOUNS or not PARTICIPLE.fullmatch(where.stem)
+    return "proofs" not in where.parts or where.stem not in BARE and not PARTICIPLE.fullmatch(where.stem)
+
+
 def crate_files() -> Iterator[tuple[str, str]]:
     """Each file of the crates, and which of its lines are too long, or that its name says no subject."""
     for file in sorted(it for kind in ("*.rt", "*.antt") for it in TOP.glob(f"crates/*/*/**/{kind}")):
@@ -168,8 +184,7 @@ def crate_files() -> Iterator[tuple[str, str]]:
             continue
         long = [number for number, line in enumerate(file.read_text(encoding="utf-8").splitlines(), 1) if len(line) > MOST_COLUMNS]
         what = f"{where}:{long[0]}: a line of more than {MOST_COLUMNS} columns" if long else ""
-        is_bare = "proofs" in where.parts and PARTICIPLE.fullmatch(file.stem)
-        yield str(where), what or (f"{where}: a participle names no subject" if is_bare else "")
+        yield str(where), what or ("" if is_named(where) else f"{where}: its name says no subject")
 
 
 def findings() -> Iterator[tuple[str, str]]:

@@ -78,7 +78,7 @@ class Costs:
         return found
 
     def repeated(self, row):
-        """One or more of these, one behind another."""
+        """One or more of these, one after another."""
         whole = row
         while True:
             more = self.least([whole, self.joined(row, whole)])

@@ -14,7 +14,7 @@ import threading
 sys.dont_write_bytecode = True
 
 from lib.annotate.fixture import ARTICLE, FOLDER, TOP, Server, need, run_cases, same  # noqa: E402
-from lib.beside import VALID, WIDE, Beside  # noqa: E402
+from lib.beside import MANY_PARTS, VALID, WIDE, Beside  # noqa: E402
 from lib.lsp_client import CAPABILITIES, Client, edited, edits_of, finished, uri_of  # noqa: E402
 from lib.waiting import PATIENCE, until  # noqa: E402
 
@@ -147,8 +147,40 @@ def command_completes(program, other=None):
             need(said in ran.stderr and bool(said) == bool(ran.stderr), f"what is said of it: {ran.stderr}")
 
 
-CASES = [page_asks, page_tells_ranges, moves_end_it, server_tells, server_ends_it, reports_tell, command_completes]
-OF_BOTH = [page_asks, server_tells, reports_tell, command_completes]
+# What `check` of `pvlong` answers, of a list that is too wide for a session, and what is said of it.
+CHECKED = (
+    ("<r>{}<b/></r>", "0 valid", "the document is valid"),
+    ("<r>{}</r>", "0 possible 1", "1 list isn't valid yet, and inserting elements can make the document valid"),
+    ("<r><b/>{}</r>", "1 impossible 0", "no insertions can make the document valid"),
+)
+
+
+def sessions_refuse(program, other=None):
+    """What the language server and the page say of a document with a list that is too wide for a session."""
+    with Beside(program, other) as beside:
+        dtd, doc = (os.path.join(beside.folder, name) for name in ("many.dtd", "doc.xml"))
+        with open(dtd, "w", encoding="utf-8") as file:
+            file.write(MANY_PARTS)
+        for form, answer, told in CHECKED:
+            text = form.format("<a/>" * 3000)
+            if other is None:
+                beside.tells("8 no wide 0", "8 no wide 0", answer)
+            with open(doc, "w", encoding="utf-8") as file:
+                file.write(text)
+            with Client(beside.program) as client:
+                uri = "file://" + doc
+                client.open(uri, f"<!DOCTYPE r SYSTEM 'many.dtd'>\n{text}")
+                (message,) = [each["message"] for each in client.diagnostics(uri, bool)]
+                same(message, f"this list has too many kids under this DTD; {told}", "a diagnostic")
+            with contextlib.suppress(FileNotFoundError):
+                os.unlink(doc + ".pvtag")
+            words = [os.path.join(TOP, "clients", "annotate", "annotate"), "--program", beside.program, dtd, "r", doc]
+            ran = subprocess.run(words, capture_output=True, text=True, timeout=PATIENCE)
+            need(ran.returncode == 1 and ran.stderr.endswith(f"this list has too many kids under this DTD; {told}\n"), f"the page isn't opened: {ran}")
+
+
+CASES = [page_asks, page_tells_ranges, moves_end_it, server_tells, server_ends_it, reports_tell, command_completes, sessions_refuse]
+OF_BOTH = [page_asks, server_tells, reports_tell, command_completes, sessions_refuse]
 
 
 def main():

@@ -34,12 +34,55 @@ is_utf_8() {
     esac
 }
 
+# The version of the checkout, or of the package, which is without the file that finds the first.
+version() {
+    version=unknown
+    if [ -r "$top/tools/version.py" ]; then
+        version=$(cd "$top/tools" && python3 -B -c 'import version; print(version.version_of())' 2>/dev/null) || version=unknown
+    elif [ -r "$top/../../share/doc/pvtag/built" ]; then
+        read -r _ version <"$top/../../share/doc/pvtag/built"
+    fi
+    printf '%s %s\n' "$name" "$version"
+}
+
+case $name.${1-}.$# in
+pvmany.--help.1)
+    printf '%s' 'usage: pvmany valid DTD ROOT
+       pvmany check DTD ROOT
+       pvmany need DTD ROOT
+
+Takes names of documents from the standard input, each ended by a null byte, as
+`find -print0` writes them. For each it prints the name, a null byte and a line,
+before it asks for more of the input:
+
+  valid    valid, or invalid PATH
+  check    valid, possible OPEN, or impossible PATH
+  need     need K, or no impossible PATH, no wide PATH, no heavy
+
+or why there is no such answer: document .., limit .., no file or no memory.
+
+  --help       prints this
+  --version    prints the version
+
+Exit status: 0 if all names were answered, 2 if the arguments are wrong, 3 if
+reading the DTD or the input fails, 4 if writing fails, 5 if memory runs out, 6
+if the DTD is refused, 8 if a limit is passed, 10 if the arguments are not UTF-8
+or there is no program.
+' || exit 4
+    exit
+    ;;
+pvmany.--version.1)
+    version || exit 4
+    exit
+    ;;
+esac
+
 is_utf_8 "$@" && case $name.${1-}.$# in
-pvtag.valid.4 | pvtag.check.4 | pvtag.session.4 | pvtag.complete.4 | pvtag.why.4 | pvlong.need.4 | pvlong.complete.4)
+pvtag.valid.4 | pvtag.check.4 | pvtag.session.4 | pvtag.complete.4 | pvtag.why.4 | pvlong.check.4 | pvlong.need.4 | pvlong.complete.4)
     is_name "$3" && is_file "$2" && is_file "$4"
     ;;
 pvtag.verify.5 | pvtag.deny.5 | pvtag.standoff.5) is_name "$3" && is_file "$2" && is_file "$4" && is_file "$5" ;;
-pvmany.valid.3 | pvmany.check.3) is_name "$3" && is_file "$2" ;;
+pvmany.valid.3 | pvmany.check.3 | pvmany.need.3) is_name "$3" && is_file "$2" ;;
 pvtag.dtd.2) is_file "$2" ;;
 pvtag.drill.2) is_count "$2" ;;
 *) false ;;
@@ -79,17 +122,17 @@ command=${1-}
 count=$(($# - 1))
 case $name in
 pvtag) commands='valid, check, session, complete, why, verify, deny, standoff, dtd, drill' ;;
-pvmany) commands='valid, check' ;;
-*) commands='need, complete' ;;
+pvmany) commands='valid, check, need' ;;
+*) commands='check, need, complete' ;;
 esac
 case $status.$name.$command in
 2.*.)
     say "a command is expected first: one of $commands"
     ;;
-2.pvtag.valid | 2.pvtag.check | 2.pvtag.session | 2.pvtag.complete | 2.pvtag.why | 2.pvlong.need | 2.pvlong.complete)
+2.pvtag.valid | 2.pvtag.check | 2.pvtag.session | 2.pvtag.complete | 2.pvtag.why | 2.pvlong.check | 2.pvlong.need | 2.pvlong.complete)
     say_words 3 'DTD ROOT DOC' && say "ROOT is to be a name, and \`$3\` is none"
     ;;
-2.pvmany.valid | 2.pvmany.check) say_words 2 'DTD ROOT' && say "ROOT is to be a name, and \`$3\` is none" ;;
+2.pvmany.valid | 2.pvmany.check | 2.pvmany.need) say_words 2 'DTD ROOT' && say "ROOT is to be a name, and \`$3\` is none" ;;
 2.pvtag.verify) say_words 4 'DTD ROOT DOC CERTIFICATE' && say "ROOT is to be a name, and \`$3\` is none" ;;
 2.pvtag.deny) say_words 4 'DTD ROOT DOC DENIAL' && say "ROOT is to be a name, and \`$3\` is none" ;;
 2.pvtag.standoff) say_words 4 'DTD ROOT TEXT RANGES' && say "ROOT is to be a name, and \`$3\` is none" ;;

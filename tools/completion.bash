@@ -22,8 +22,8 @@ _pvtag_files() { compopt -o default 2>/dev/null; }
 _pvtag() {
     local word=${COMP_WORDS[COMP_CWORD]} command=${COMP_WORDS[1]}
     local program=${COMP_WORDS[0]} commands='valid check session complete verify why deny standoff dtd drill'
-    [[ ${program##*/} != pvlong ]] || program=${program%pvlong}pvtag commands='need complete'
-    [[ ${program##*/} != pvmany ]] || program=${program%pvmany}pvtag commands='valid check'
+    [[ ${program##*/} != pvlong ]] || program=${program%pvlong}pvtag commands='check need complete'
+    [[ ${program##*/} != pvmany ]] || program=${program%pvmany}pvtag commands='valid check need --help --version'
     COMPREPLY=()
     case $command.$COMP_CWORD in
     *.1) mapfile -t COMPREPLY < <(compgen -W "$commands" -- "$word") ;;

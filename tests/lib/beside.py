@@ -3,6 +3,8 @@ import contextlib
 import os
 import tempfile
 
+# Under a DTD of so many parts a session takes lists of some two thousand kids.
+MANY_PARTS = f"<!ELEMENT r (a*, b)><!ELEMENT a EMPTY><!ELEMENT b EMPTY><!ELEMENT n ({','.join(['a?'] * 32_000)})>"
 WIDE = f"<doc>{'<p>words</p>' * 3000}</doc>"
 VALID = WIDE.replace("<doc>", "<doc><head></head><sec>").replace("</doc>", "</sec></doc>")
 # It keeps a line for each run, and inserts what a wide document lacks. One that is held waits.
@@ -34,9 +36,9 @@ class Beside:
         os.chmod(self.other, 0o755)
         self.tells("0 need 2", "0 ")
 
-    def tells(self, count, completion):
-        """What it answers from now on, each behind its status; a completed document where no line is told."""
-        for name, answer in (("need", count), ("complete", completion)):
+    def tells(self, count, completion, check="0 valid"):
+        """What it answers from now on, each after its status; a completed document where no line is told."""
+        for name, answer in (("need", count), ("complete", completion), ("check", check)):
             with open(f"{self.other}.{name}", "w", encoding="utf-8") as file:
                 file.write(answer + "\n")
 

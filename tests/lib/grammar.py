@@ -119,7 +119,7 @@ def least_of(models) -> dict[str, float]:
 
 
 def random_particle(depth: int, names: list[str], forms: list[str], most: int, is_plain: bool = False):
-    """A particle of these forms, a group of which has so many members at most; in a plain one no sign stands right behind another."""
+    """A particle of these forms, a group of which has so many members at most; in a plain one no sign stands right after another."""
     form = random.choice(forms)
     if depth == 0 or form == "name":
         return ("name", random.choice(names))

@@ -7,7 +7,7 @@ import time
 
 from lib.hostile_files import KB, MB, NONE
 
-# A run may take so much processor time, and is ended behind so many times as long.
+# A run may take so much processor time, and is ended after so many times as long.
 SECONDS = 60
 TIMES = 10
 # The most memory of a run, in MB: what `docs/COMMANDS.md` tells under "Time and memory", and some 80 MB that this test takes itself, with room.
@@ -68,7 +68,7 @@ class Trial:
         return os.path.join(self.folder, name)
 
     def is_late(self, name):
-        """Whether the time is over: then this, and what comes behind it, isn't tried, which is said."""
+        """Whether the time is over: then this, and what comes after it, isn't tried, which is said."""
         if time.monotonic() < self.end:
             return False
         print(f"skipped: {name} and what comes behind it (no time)", flush=True)

@@ -28,7 +28,7 @@ def nodes_of(text):
 
 
 def parts_of(text):
-    """What stands before the root, the root, and what stands behind it."""
+    """What stands before the root, the root, and what stands after it."""
     nodes = nodes_of(text)
     at, = [at for at, node in enumerate(nodes) if isinstance(node, tuple)]
     return nodes[:at], nodes[at], nodes[at + 1:]

@@ -75,7 +75,7 @@ def at(text, place, width=utf16):
 
 
 def edited(text, edits, width=utf16):
-    """A text behind edits, which are of one version of it."""
+    """A text after edits, which are of one version of it."""
     spans = [
         (at(text, each["range"]["start"], width), at(text, each["range"]["end"], width), number, each["newText"])
         for number, each in enumerate(edits)

@@ -99,7 +99,7 @@ def weights(dtd, word, rules=None):
 
 
 def pieces_of(pack):
-    """The lines before the body, the body, and the lines behind it."""
+    """The lines before the body, the body, and the lines after it."""
     found = re.search(rb"^body ([0-9]+)\n", pack, re.M)
     end = found.end() + int(found[1])
     return pack[:found.start()].splitlines(), pack[found.end():end], pack[end + 1:].splitlines()

@@ -52,7 +52,7 @@ def either(ps):
 
 @lru_cache(None)
 def behind(p, x):
-    """What may stand behind the name x in a word of the particle."""
+    """What may stand after the name x in a word of the particle."""
     form = p[0]
     if form == "name":
         return DONE if p[1] == x else NONE
@@ -98,7 +98,7 @@ class Search:
         return form in ("?", "*") or all(map(self.has_word, p[1:]))
 
     def after(self, model, token):
-        """The model of what may stand behind a token; nothing where it may not stand there."""
+        """The model of what may stand after a token; nothing where it may not stand there."""
         form = model[0]
         if form == "any":
             return model if token == "data" or token in self.models else None

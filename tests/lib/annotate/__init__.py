@@ -9,7 +9,7 @@
     texts     texts and attributes, the same tag again, and finding
     views     for everyone: what is told to those who hear it, contrasts, dark and narrow windows, fingers
     files     its files, and what a window says of them
-    drawing   what it draws of a document, behind moves and of a large one
+    drawing   what it draws of a document, after moves and of a large one
     trial     a letter that is finished in it
     letter    that letter, its DTD and what becomes of it
 """

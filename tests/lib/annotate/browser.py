@@ -17,7 +17,7 @@ from selenium.webdriver.common.actions.action_builder import ActionBuilder  # no
 from selenium.webdriver.common.by import By  # noqa: E402
 from selenium.webdriver.common.keys import Keys  # noqa: E402
 
-# Where the words of a text are on the page: the middle of the first occurrence's first and last character, behind so
+# Where the words of a text are on the page: the middle of the first occurrence's first and last character, after so
 # many others.
 WHERE = """
 const [words, nth] = arguments
@@ -123,7 +123,7 @@ class Page:
         self.rest()
 
     def rest(self):
-        """Waits for what the page does behind an event, until it has all its answers, and all that moves has come to
+        """Waits for what the page does after an event, until it has all its answers, and all that moves has come to
         rest."""
         self.driver.execute_async_script(RESTED)
 
@@ -207,7 +207,7 @@ class Page:
         return f"{self.find('#next').text} {self.find('#missing').text}".strip()
 
     def notes(self):
-        """The choices of the menu with their notes, each behind the name of its group."""
+        """The choices of the menu with their notes, each after the name of its group."""
         return self.js(NOTES)
 
     def type(self, *keys):

@@ -1,4 +1,4 @@
-"""The page of `clients/annotate`: what it draws of a document, behind moves and of a large one. Cases of
+"""The page of `clients/annotate`: what it draws of a document, after moves and of a large one. Cases of
 `annotate.py`."""
 import itertools
 import random
@@ -58,7 +58,7 @@ def random_move(server):
 
 
 def draws_what_changed(driver, program):
-    """Behind random moves the page has the tree that the program has, and its boxes are those of a page that is loaded
+    """After random moves the page has the tree that the program has, and its boxes are those of a page that is loaded
     anew."""
     text = "<doc><head>Head</head>" + "".join(f"Some text {k} &amp; more 𐀀 of it, " + ("long " * 1500 if k == 3 else "") for k in range(5)) + "</doc>"
     with Server(program, text, ARTICLE, "doc") as server:

@@ -85,7 +85,7 @@ def asks_before_it_closes(driver, program):
 
 
 def goes_on_behind_dialogs(driver, program):
-    """Behind a preview, and behind help, the keys are the document's again."""
+    """After a preview, and after help, the keys are the document's again."""
     with Server(program, LETTER) as server:
         page = Page(driver, server.url)
         for button, dialog in (("#preview", "#completed"), ("#help", "#keys")):
@@ -93,7 +93,7 @@ def goes_on_behind_dialogs(driver, program):
             soon(lambda: page.find(dialog).is_displayed(), True, dialog)
             page.keys(Keys.ENTER)
             soon(lambda: page.find(dialog).is_displayed(), False, f"{dialog} is closed")
-            # The focus goes back behind the event of its closing.
+            # The focus goes back after the event of its closing.
             page.rest()
             page.keys(Keys.CONTROL, "a")
             page.keys(Keys.ENTER)

@@ -183,7 +183,7 @@ def takes_over_a_preview(driver, program):
         same(page.written(), before, "to where it began")
 
 
-# Choices come in, and Enter and a click at once, which were meant for what stood there; and both again behind a moment, by a clock of its own.
+# Choices come in, and Enter and a click at once, which were meant for what stood there; and both again after a moment, by a clock of its own.
 MOVED = """
 const [done] = arguments
 import('./menu.js').then(({ openMenu, setChoices, closeMenu }) => {

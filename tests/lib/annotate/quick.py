@@ -245,7 +245,7 @@ def tags_places_with_attributes(driver, program):
 
 
 def takes_attributes_behind_a_name(driver, program):
-    """Attributes that are typed behind a name come with the tag, in one move; on all places of the text by Shift+Enter, on each line
+    """Attributes that are typed after a name come with the tag, in one move; on all places of the text by Shift+Enter, on each line
     by Alt+Enter."""
     body = "<body><p>I met Mr Adams. Mr Adams is well.</p>\nOne\nTwo\n</body>"
     with Server(program, LETTER.replace(BODY, body)) as server:

@@ -109,7 +109,7 @@ def types_by_keyboards(driver, program):
 
 
 def keeps_the_caret(driver, program):
-    """Behind a move, an undo and a menu the caret stands where it did, and keys go on from there."""
+    """After a move, an undo and a menu the caret stands where it did, and keys go on from there."""
     with Server(program, LETTER) as server:
         page = Page(driver, server.url, unlocked=True)
         page.wrap("person", "Mr Adams")

@@ -8,7 +8,7 @@ from selenium.webdriver.common.keys import Keys
 
 LETTER = "<letter><opener>Dear brother,</opener>\n<closer>Yours</closer><body n='1'><p>I have met <person>Mr Adams</person>.</p><p></p></body></letter>\n"
 # Each text that is seen, with its contrast: the relation of the luminances of its colour and of the nearest ground
-# behind it.
+# after it.
 CONTRASTS = """
 const channel = (value) => (value /= 255) <= 0.03928 ? value / 12.92 : ((value + 0.055) / 1.055) ** 2.4
 const parts = (colour) => colour.match(/[\\d.]+/g).map(Number)
