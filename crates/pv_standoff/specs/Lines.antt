@@ -24,9 +24,8 @@ IsNoRange line = (r : Range) → SpellsRange line r → ⊥
 -- the lines spell the ranges, one each
 abbrev pub SpellRanges : List (List ℕ) → List Range → Type 0
 SpellRanges [] [] = Unit {0}
-SpellRanges [] (r ∷ rs) = ⊥
-SpellRanges (line ∷ lines) [] = ⊥
 SpellRanges (line ∷ lines) (r ∷ rs) = SpellsRange line r × SpellRanges lines rs
+SpellRanges _ _ = ⊥
 
 -- Behind so many lines, which are ranges, fewer than there may be, stands a line that is none.
 pub record IsFirstNoRange (bytes : List ℕ) (k : ℕ) : Type 0 where

@@ -1,8 +1,7 @@
 -- The spans of a tree, and when a document stands for a text and ranges.
 use Rattle.std.specs.Prelude.{◌≡◌, ◌≢◌, ℕ, ◌+◌, List, [], ◌∷◌, ◌++◌, length, map}
 use Rattle.pv_tree.specs.Marks.{blank_mark}
-use Rattle.pv_tree.specs.Plain.{tagged, Tree, element, text_node, cdata_node, misc_node, Forest}
-use Rattle.pv_tree.specs.Plain.{no_trees, tree, PlainDoc}
+use Rattle.pv_tree.specs.Plain.{tagged, Tree, element, text_node, Forest, no_trees, tree, PlainDoc}
 use Rattle.pv_tree.specs.declared.nodes.Mark.{Mark}
 use Rattle.pv_standoff.specs.Ranges.{IsSortedFrom}
 use Rattle.pv_standoff.specs.declared.ranges.Range.{Range}
@@ -12,8 +11,7 @@ abbrev mutual
   pub units_of : Tree Mark → List (List ℕ)
   units_of (element x attrs ending kids mark) = units_of_all kids
   units_of (text_node units) = units
-  units_of (cdata_node bytes) = []
-  units_of (misc_node bytes) = []
+  units_of _ = []
 
   pub units_of_all : Forest Mark → List (List ℕ)
   units_of_all no_trees = []
@@ -31,9 +29,7 @@ abbrev mutual
   pub spans_of : ℕ → Tree Mark → List Span
   spans_of n (element x attrs ending kids mark) =
       record { from = n; to = n + length (units_of_all kids); name = x } ∷ spans_of_all n kids
-  spans_of n (text_node units) = []
-  spans_of n (cdata_node bytes) = []
-  spans_of n (misc_node bytes) = []
+  spans_of n _ = []
 
   pub spans_of_all : ℕ → Forest Mark → List Span
   spans_of_all n no_trees = []
@@ -46,8 +42,7 @@ abbrev mutual
   IsBare (element x attrs ending kids mark) =
       (attrs ≡ []) × (ending ≡ tagged []) × (mark ≡ blank_mark) × AreBare kids
   IsBare (text_node units) = units ≢ []
-  IsBare (cdata_node bytes) = ⊥
-  IsBare (misc_node bytes) = ⊥
+  IsBare _ = ⊥
 
   pub AreBare : Forest Mark → Type 0
   AreBare no_trees = Unit {0}
@@ -55,10 +50,8 @@ abbrev mutual
 
 -- the tree is a text
 abbrev pub IsTextNode : Tree Mark → Type 0
-IsTextNode (element x attrs ending kids mark) = ⊥
 IsTextNode (text_node units) = Unit {0}
-IsTextNode (cdata_node bytes) = ⊥
-IsTextNode (misc_node bytes) = ⊥
+IsTextNode _ = ⊥
 
 -- the first of some trees is a text
 abbrev pub BeginsWithText : Forest Mark → Type 0
@@ -69,9 +62,7 @@ BeginsWithText (tree t rest) = IsTextNode t
 abbrev mutual
   pub HasApart : Tree Mark → Type 0
   HasApart (element x attrs ending kids mark) = AreApart kids
-  HasApart (text_node units) = Unit {0}
-  HasApart (cdata_node bytes) = Unit {0}
-  HasApart (misc_node bytes) = Unit {0}
+  HasApart _ = Unit {0}
 
   pub AreApart : Forest Mark → Type 0
   AreApart no_trees = Unit {0}
