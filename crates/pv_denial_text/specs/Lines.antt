@@ -46,8 +46,6 @@ pub record IsRowInRange (r : Row) : Type 0 where
 
 -- the numbers of the line are in range, and a row has a value
 abbrev pub IsInRange : DenialLine → Type 0
-IsInRange version_line = Unit {0}
 IsInRange (list_line path) = AreNumbers path
-IsInRange (cause_line c) = Unit {0}
 IsInRange (row_line r) = IsRowInRange r
-IsInRange end_line = Unit {0}
+IsInRange _ = Unit {0}

@@ -5,8 +5,7 @@ use Rattle.pv_denial.specs.Rows.{most_values, values_in}
 use Rattle.pv_denial.specs.declared.denials.Denial.{Denial}
 use Rattle.pv_denial.specs.declared.denials.Row.{Row}
 use Rattle.pv_denial_text.specs.Fronts.{Begins}
-use Rattle.pv_denial_text.specs.Lines.{DenialLine, cause_line, end_line, list_line, row_line}
-use Rattle.pv_denial_text.specs.Lines.{version_line}
+use Rattle.pv_denial_text.specs.Lines.{DenialLine, end_line, row_line}
 use Rattle.pv_denial_text.specs.Texts.{AreLines, IsDenialText, MayFollow, last_line, lines_text}
 use Rattle.pv_denial_text.specs.declared.errors.TableError.{TableError}
 use Rattle.pv_denial_text.specs.declared.errors.TableError.TheVariants.{Limit, NoMemory, Syntax}
@@ -18,11 +17,8 @@ MAX_DENIAL_BYTES = 134217728
 -- how many values the rows among some lines have
 abbrev pub values_among : List DenialLine → ℕ
 values_among [] = 0
-values_among (version_line ∷ lines) = values_among lines
-values_among (list_line path ∷ lines) = values_among lines
-values_among (cause_line c ∷ lines) = values_among lines
 values_among (row_line r ∷ lines) = length r.values + values_among lines
-values_among (end_line ∷ lines) = values_among lines
+values_among (line ∷ lines) = values_among lines
 
 -- These lines, which may stand after this one, stand at the front, and this after them.
 pub record Stand (before : Option DenialLine) (bytes : List ℕ) (lines : List DenialLine)

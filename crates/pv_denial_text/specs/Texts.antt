@@ -7,34 +7,11 @@ use Rattle.pv_denial.specs.declared.denials.Row.{Row}
 use Rattle.pv_denial_text.specs.Lines.{DenialLine, IsInRange, cause_line, end_line, line_text}
 use Rattle.pv_denial_text.specs.Lines.{list_line, row_line, version_line}
 
-abbrev pub IsVersion : DenialLine → Type 0
-IsVersion version_line = Unit {0}
-IsVersion (list_line path) = ⊥
-IsVersion (cause_line c) = ⊥
-IsVersion (row_line r) = ⊥
-IsVersion end_line = ⊥
-
-abbrev pub IsList : DenialLine → Type 0
-IsList version_line = ⊥
-IsList (list_line path) = Unit {0}
-IsList (cause_line c) = ⊥
-IsList (row_line r) = ⊥
-IsList end_line = ⊥
-
-abbrev pub IsCauseLine : DenialLine → Type 0
-IsCauseLine version_line = ⊥
-IsCauseLine (list_line path) = ⊥
-IsCauseLine (cause_line c) = Unit {0}
-IsCauseLine (row_line r) = ⊥
-IsCauseLine end_line = ⊥
-
 -- a row of this property, or the end
 abbrev pub IsRowOrEnd : (Row → Type 0) → DenialLine → Type 0
-IsRowOrEnd MayStand version_line = ⊥
-IsRowOrEnd MayStand (list_line path) = ⊥
-IsRowOrEnd MayStand (cause_line c) = ⊥
 IsRowOrEnd MayStand (row_line r) = MayStand r
 IsRowOrEnd MayStand end_line = Unit {0}
+IsRowOrEnd MayStand _ = ⊥
 
 -- the first row's site is before the second's
 abbrev pub IsRowBefore : Row → Row → Type 0
@@ -43,12 +20,12 @@ IsRowBefore q r = IsSiteBefore (plain_site q.site) (plain_site r.site)
 -- The line may stand after this one, or at the start of a text where there is none: the version,
 -- the list, the cause, any number of rows, and the end. Rows ascend strictly by kind and number.
 abbrev pub MayFollow : Option DenialLine → DenialLine → Type 0
-MayFollow None line = IsVersion line
-MayFollow (Some version_line) line = IsList line
-MayFollow (Some (list_line path)) line = IsCauseLine line
+MayFollow None version_line = Unit {0}
+MayFollow (Some version_line) (list_line path) = Unit {0}
+MayFollow (Some (list_line path)) (cause_line c) = Unit {0}
 MayFollow (Some (cause_line c)) line = IsRowOrEnd (λ r. Unit {0}) line
 MayFollow (Some (row_line q)) line = IsRowOrEnd (IsRowBefore q) line
-MayFollow (Some end_line) line = ⊥
+MayFollow _ line = ⊥
 
 -- each line is in range and may stand after the one before it, the first one after this
 abbrev pub AreLines : Option DenialLine → List DenialLine → Type 0
