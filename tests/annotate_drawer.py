@@ -2,7 +2,10 @@
 
 Words: PROGRAM, and names of cases, all where there are none. Prints each difference, and how many cases passed; ends with 1 where one failed.
 """
+import contextlib
 import functools
+import io
+import itertools
 import json
 import os
 import subprocess
@@ -237,6 +240,20 @@ def closes_what_is_left(program):
             drawers.LEFT = kept
 
 
+def refuses_nonsense(program):
+    """A request of another form than the page's is refused, of the list and of a document, and nothing is printed for it."""
+    with Folder(program, {"a.xml": VALID}) as folder, contextlib.redirect_stderr(io.StringIO()) as said:
+        drawer = folder.drawer()
+        document = drawer.at("a.xml/")[0]
+        for asked, names in ((drawer, ("mark", "begin")), (document, ("hello", "bye", "mark"))):
+            for name, what in itertools.product(names, ([], "x", 5, None, {}, {"url": 5, "done": "x", "window": []})):
+                fault = fault_of(lambda: asked.answer(name, what))
+                need(isinstance(fault, Refusal) and fault.status == 400, f"{name} {what}: {fault!r}")
+        same(said.getvalue(), "", "what is printed")
+        need(document.work is None and not os.path.exists(folder.path + ".pvtag"), "nothing was opened or marked")
+        same(ask(drawer, "mark", {"url": "x.xml", "done": True}), {"trouble": "that isn't in the folder any more"}, "a document that isn't there")
+
+
 def refuses_other_names(program):
     """A path names a document of the list and nothing else."""
     with Folder(program, {"a.xml": VALID, "b b%2f.xml": VALID}) as folder:
@@ -258,12 +275,6 @@ def refuses_other_names(program):
         drawer.folder = folder.path
         need("isn't what annotate writes there" in ask(drawer, "list")["trouble"], "what is done can't be read")
         same(ask(drawer, f"{address_of('b b%2f.xml')}/hello")["drawer"]["at"], 0, "and a document is shown all the same")
-        for what in ([], "x"):
-            fault = fault_of(lambda: drawer.at(f"{address_of('b b%2f.xml')}/hello")[0].answer("hello", what))
-            need(isinstance(fault, Refusal) and fault.status == 400, f"{what}: {fault!r}")
-        for what in ([], {"url": 5}, {}, "x"):
-            fault = fault_of(lambda: drawer.answer("mark", what))
-            need(isinstance(fault, Refusal) and fault.status == 400 or fault is None, f"{what}: {fault!r}")
     with Server(program, None) as server:
         os.mkdir(server.path("letters"))
         server.write(VALID, "letters/a.xml")
@@ -382,7 +393,8 @@ def body_of(text):
     return text[text.index("<letter"):]
 
 
-CASES = [half_the_moves_for_the_last_ten, lists_documents, judges_again, keeps_what_is_done, begins_documents, opens_documents, makes_moves_again, closes_what_is_left, refuses_other_names]
+CASES = [half_the_moves_for_the_last_ten, lists_documents, judges_again, keeps_what_is_done, begins_documents, opens_documents, makes_moves_again,
+         closes_what_is_left, refuses_nonsense, refuses_other_names]
 
 
 def main():

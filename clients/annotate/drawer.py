@@ -46,8 +46,7 @@ class Entry:
             return answered(lambda: OF_ENTRY[name](self, ask))
         if name == "bye":
             return answered(lambda: self.bye(ask))
-        if not isinstance(ask, dict):
-            raise Refusal(400, "that is no request")
+        ask = request(ask, **({"window": str} if name == "hello" else {}))
         try:
             work = self.begin(name == "hello" and bool(ask.get("again")))
         except Trouble as trouble:
@@ -58,7 +57,7 @@ class Entry:
             if name != "hello":
                 return work.answer(name, ask)
             told = work.answer(name, ask)
-            self.windows.add(str(ask["window"]))
+            self.windows.add(ask["window"])
             return {**told, "drawer": self.drawer.place_or_name(self.name)}
         finally:
             with self.lock:
@@ -77,7 +76,7 @@ class Entry:
 
     def bye(self, ask: Any) -> Told:
         """A window was closed; where it was the last, and none comes, the document is closed in a while."""
-        self.windows.discard(str(ask["window"]))
+        self.windows.discard(request(ask, window=str)["window"])
         work = self.work
         if work is not None:
             work.answer("bye", ask)
@@ -194,13 +193,14 @@ class Drawer:
 
     def mark(self, ask: Any) -> Told:
         """Marks a document of the list as done, or not."""
-        name = self.named(ask).name
-        self.marks.put(name, bool(ask["done"]))
-        return {"done": bool(ask["done"])}
+        is_done = request(ask, done=bool)["done"]
+        self.marks.put(self.named(ask).name, is_done)
+        return {"done": is_done}
 
     def named(self, ask: Any) -> Listed:
         """What the page speaks of."""
-        found = next((each for each in listed(self.folder) if address_of(each.name) == ask["url"]), None)
+        url = request(ask, url=str)["url"]
+        found = next((each for each in listed(self.folder) if address_of(each.name) == url), None)
         if found is None:
             raise Trouble("that isn't in the folder any more")
         return found
@@ -246,6 +246,13 @@ def told_of(row: Row) -> Told:
     return {"verdict": row.verdict, "missing": row.missing, "faults": row.faults, "sentence": shown(place + (row.sentence or ""))}
 
 
+def request(ask: Any, **fields: type) -> dict[str, Any]:
+    """What is asked, which is an object that has these fields, each of its type; a `Refusal` otherwise."""
+    if not isinstance(ask, dict) or not all(isinstance(ask.get(name), kind) for name, kind in fields.items()):
+        raise Refusal(400, "that is no request")
+    return ask
+
+
 def answered(call: Callable[[], Told]) -> Told:
     """What is answered, or `trouble`, a sentence for the user."""
     try:
@@ -263,6 +270,6 @@ OF_DRAWER: dict[str, Callable[[Drawer, Any], Told]] = {
     "hello": Drawer.hello, "bye": lambda *_: {}, "list": Drawer.list_, "mark": Drawer.mark, "begin": Drawer.begun,
 }
 OF_ENTRY: dict[str, Callable[[Entry, Any], Told]] = {
-    "mark": lambda entry, ask: entry.drawer.mark({"url": address_of(entry.name), "done": ask["done"]}),
+    "mark": lambda entry, ask: entry.drawer.mark({**request(ask), "url": address_of(entry.name)}),
     "onward": lambda entry, _: entry.drawer.onward(entry.name),
 }
