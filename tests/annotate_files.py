@@ -508,7 +508,7 @@ def opens_files_alone(program):
             made(place.path, kind, place)
             start = time.monotonic()
             fault = fault_of(lambda: Script(place.path))
-            need(isinstance(fault, Trouble | OSError) and time.monotonic() - start < 60, f"a {kind} for a document: {fault!r}")
+            need(isinstance(fault, Trouble | OSError) and time.monotonic() - start < PATIENCE, f"a {kind} for a document: {fault!r}")
             if kind != "socket":
                 need(isinstance(fault, Trouble), f"a sentence for a {kind}: {fault!r}")
             words = [sys.executable, os.path.join(FOLDER, "annotate"), LETTER, "letter", place.path, "--program", program, "--from"]

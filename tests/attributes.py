@@ -365,10 +365,10 @@ def try_remarks(trial: Trial) -> None:
     doubling = "".join(f'<!ENTITY e{at} "&e{at + 1};&e{at + 1};">' for at in range(60)) + '<!ENTITY e60 "x">'
     many = "".join(f"&e{at};" for at in range(61)) * 50
     data = f"<!DOCTYPE a [{doubling}]><a b='{many}'>{many}</a>".encode()
-    start = time.monotonic()
+    start = time.process_time()
     masked = mask(data)
     spelled = masked.spelled()
-    trial.tell("it is bounded", time.monotonic() - start < 60 and len(masked.data) < 4 * len(data) and len(spelled) < 20 << 20, len(spelled))
+    trial.tell("it is bounded", time.process_time() - start < 60 and len(masked.data) < 4 * len(data) and len(spelled) < 20 << 20, len(spelled))
     for at in range(0, len(data), 997):
         trial.tell("offsets", masked.offset(masked.masked_offset(at)) <= at, at)
 
@@ -467,12 +467,12 @@ def try_growth(trial: Trial) -> None:
         b'<!DOCTYPE a [<!ENTITY x "">' + references + b"]><a>" + b"".join(b"&e%d;" % at for at in range(8)) + b"</a>",
     ]
     for document in documents:
-        start = time.monotonic()
+        start = time.process_time()
         masked = mask(document, b"<!ELEMENT a ANY>" + declared)
         is_back = masked.restored(masked.data) == document
         trial.tell("a growing one", is_back and len(masked.data) < 3 * len(document) + 1000, document[:60], len(masked.data))
         same = same_length(document)
-        trial.tell("of the same length", len(same) == len(document) and time.monotonic() - start < 60, document[:60], time.monotonic() - start)
+        trial.tell("of the same length", len(same) == len(document) and time.process_time() - start < 60, document[:60], time.process_time() - start)
 
 
 # ---- the commands ----

@@ -253,7 +253,7 @@ def waits_once_for_attributes(_):
     declared.attributes = types.SimpleNamespace(declares_any=True)
     grammar, begun = Grammar(declared, "a"), time.monotonic()
     same([grammar.new_element(f"n{number}") for number in range(300)], [NOTHING] * 300, "nothing is known")
-    need(time.monotonic() < begun + 10 * SOON, "each name has waited")
+    need(time.monotonic() < begun + 100 * SOON, "each name has waited")
 
 
 def ends_all_runs(program):

@@ -47,7 +47,7 @@ TEMPLATES = (
 )
 # Names of no file that can be read: a folder, none, and bytes that aren't UTF-8.
 NO_FILES = [b"folder", b"nothing.xml", b"", b"a\xff.xml", b"x" * 5000]
-PATIENCE = 600
+PATIENCE = 1800
 # Stands for `pvmany` where it dies at a document, hangs at one, or has no memory for one.
 STAND_IN = f"""#!{sys.executable}
 import os, time

@@ -111,9 +111,9 @@ expect "a longer line" 8 "no history${lf}limit line 2$lf" bash -c '{ printf "und
 # script SIZE: so many bytes, each line of which has 65,536 with its LF
 script() { yes "$(head -c 65535 /dev/zero | tr '\0' x)" | head -c "$1"; }
 export -f script
-expect "the longest script" 0 "4096 no command$lf" bash -c 'script 268435456 | timeout 600 "$0" session a.dtd doc hello.xml | uniq -c | sed "s/^ *//"' "$pvtag"
-expect "a longer script" 0 "4096 no command${lf}1 limit script$lf" bash -c 'script 268435457 | timeout 600 "$0" session a.dtd doc hello.xml | uniq -c | sed "s/^ *//"' "$pvtag"
-expect "its status" 8 "" bash -c 'script 268435457 | timeout 600 "$0" session a.dtd doc hello.xml >/dev/null' "$pvtag"
+expect "the longest script" 0 "4096 no command$lf" bash -c 'script 268435456 | timeout 3000 "$0" session a.dtd doc hello.xml | uniq -c | sed "s/^ *//"' "$pvtag"
+expect "a longer script" 0 "4096 no command${lf}1 limit script$lf" bash -c 'script 268435457 | timeout 3000 "$0" session a.dtd doc hello.xml | uniq -c | sed "s/^ *//"' "$pvtag"
+expect "its status" 8 "" bash -c 'script 268435457 | timeout 3000 "$0" session a.dtd doc hello.xml >/dev/null' "$pvtag"
 
 # The program for wide lists.
 says "what acts on a terminal" 2 "usage$lf" '.x?.31m. is no command: .*' "$pvlong" "$(printf 'x\033[31m')"
@@ -134,11 +134,11 @@ expect "pvlong, a full device" 4 "" bash -c '"$0" complete a.dtd doc hello.xml >
 # Drills.
 expect "a drill" 0 "drill 3 lines 7 ok 4 refused 3 open 1 checked 7$lf" "$pvtag" drill 3
 expect "a larger drill" 0 "drill 100 lines 233 ok 133 refused 100 open 33 checked 233$lf" "$pvtag" drill 100
-expect "the largest drill" 0 "drill 20000 lines 46666 ok 26666 refused 20000 open 6666 checked 46666$lf" timeout 600 "$pvtag" drill 20000
+expect "the largest drill" 0 "drill 20000 lines 46666 ok 26666 refused 20000 open 6666 checked 46666$lf" timeout 3000 "$pvtag" drill 20000
 seq 20000 | awk 'BEGIN { printf "<doc><head>drill</head>" } { printf "<sec>t%d</sec>", $1 } END { printf "</doc>" }' >large.xml
 seq 20000 | awk '{ printf "wrap 0.%d 0 1 br\nwrap 0.%d 0 1 p\n", $1, $1; if ($1 % 3 == 0) print "undo" }' >large.txt
 seq 20000 | awk 'BEGIN { open = 20000 } { printf "no impossible 0.%d.0\nok 2 %d 0\n", $1, --open; if ($1 % 3 == 0) print "ok 1", ++open, 0 }' >replies.txt
-expect "its lines in a session" 0 "46666 no impossible 0.1.0 ok 2 19999 0 ok 2 6666 0$lf" timeout 600 bash -c '"$0" session a.dtd doc large.xml <large.txt |
+expect "its lines in a session" 0 "46666 no impossible 0.1.0 ok 2 19999 0 ok 2 6666 0$lf" timeout 3000 bash -c '"$0" session a.dtd doc large.xml <large.txt |
     tee got.txt | awk "NR == 1 || NR == 2 { first = first \" \" \$0 } { last = \$0 } END { print NR first, last }"' "$pvtag"
 expect "each of its replies" 0 "" cmp got.txt replies.txt
 for size in 0 20001 007 +3 x; do says "a drill of $size" 2 "usage$lf" "N is to be a number from 1 to 20000, and .$size. is none" "$pvtag" drill "$size"; done

@@ -181,7 +181,7 @@ CHECKS = [
         "no document waits for another one's DTD, and all runs end with it"),
     row("lsp_wraps", "the actions of the language server", "", 3600, "python3 tests/lsp_wraps.py PVTAG 400 1 120",
         "the language server's actions on random selections against a session's `wrap`; what it inserts is least and valid"),
-    row("lsp_editors", "the language server in editors", "+nvim +emacs +dtds", 3600, "python3 tests/lsp_editors.py PVTAG 150",
+    row("lsp_editors", "the language server in editors", "+nvim +emacs +dtds", 3600, "python3 tests/lsp_editors.py PVTAG 300",
         "the server in both editors, by their own clients"),
     row("annotate_parts", "the parts of the page", "", 3600, "python3 tests/annotate_parts.py PVTAG 1",
         "the parts of the page of `clients/annotate`: its tree against a session after random edits, its script cut at each byte, a "
@@ -203,7 +203,7 @@ CHECKS = [
         "words, for which nothing waits; values of attributes from what has them and from a table of names; comments; other forms of the "
         "document; reasons with first names; that under 60 names the wanted one is among the first five in nine of ten moves, where another "
         "letter lies beside it"),
-    row("annotate_drawer", "a folder of documents on the page", "+lxml", 1800, "python3 tests/annotate_drawer.py PVTAG",
+    row("annotate_drawer", "a folder of documents on the page", "+lxml", 3600, "python3 tests/annotate_drawer.py PVTAG",
         "the list of a folder's documents: each with the verdict that `report` has of it, judged again where it changed; marks in a file "
         "that several write; texts that begin documents; documents that another has open, that changed outside, or were left; "
         "thirty letters, of which the last ten take at most half the moves of the first ten"),
@@ -217,16 +217,16 @@ CHECKS = [
     row("wide_clients", "what clients say of wide lists", "", 3600, "python3 tests/wide_clients.py PVTAG PVLONG",
         "what the page, the language server and reports say of a list that is too wide to count, by `pvlong` and by a stand-in for it: "
         "numbers, ranges, nothing; that a move ends what is asked"),
-    row("build", "the build, with a stand-in for the kit", "", 1200, "python3 tests/build.py",
+    row("build", "the build, with a stand-in for the kit", "", 3600, "python3 tests/build.py",
         "`tools/build`, with a stand-in for the kit"),
-    row("runner", "the run of these checks", "", 1200, "python3 tests/runner.py",
+    row("runner", "the run of these checks", "", 3600, "python3 tests/runner.py",
         "`tests/run.py` itself: what fails, hangs, is skipped or interrupted"),
-    row("style", "files by pyflakes and shellcheck, pages by their form", "+cmark +pyflakes3 +shellcheck", 1200, "python3 tests/style.py",
+    row("style", "files by pyflakes and shellcheck, pages by their form", "+cmark +pyflakes3 +shellcheck", 3600, "python3 tests/style.py",
         "nothing of what the program does: that these tools find nothing in Python files and shell scripts; that prose of the pages "
         "keeps to 120 columns, it and the messages of clients to the words of the field, that no list, heading or table comes about "
         "by accident, and that this table is that of `tests/run.py`; that each choice of `docs/DECISIONS.md` names a file that is there, "
         "and each edit of a crate a text that is there once"),
-    row("definitions", "the page of definitions against its sources", "", 1200, "tools/definitions --check",
+    row("definitions", "the page of definitions against its sources", "", 3600, "tools/definitions --check",
         "that the tables of `docs/DEFINITIONS.md` are those of the comments above the definitions, and that each definition which a "
         "public contract cites has a sentence; that two crates define no name except those that `docs/DEVELOPING.md` lists"),
 ]

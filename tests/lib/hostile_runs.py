@@ -9,7 +9,7 @@ from lib.hostile_files import KB, MB, NONE
 
 # A run may take so much processor time, and is ended after so many times as long.
 SECONDS = 60
-TIMES = 10
+TIMES = 30
 # The most memory of a run, in MB: what `docs/COMMANDS.md` tells under "Time and memory", and some 80 MB that this test takes itself, with room.
 MEMORY = {"dtd": 100, "valid": 300, "check": 4200, "session": 4200, "verify": 1200, "deny": 400, "standoff": 150, "drill": 100}
 

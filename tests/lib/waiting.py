@@ -8,7 +8,7 @@ from typing import TypeVar
 T = TypeVar("T")
 
 # So many seconds something may take that takes a moment where nothing else runs.
-PATIENCE = 300
+PATIENCE = 900
 
 
 def until(told: Callable[[], T], seconds: float = PATIENCE) -> T:
