@@ -34,7 +34,7 @@ from lib.trees import items_of  # noqa: E402
 
 TOP = published.TOP
 # The most seconds that one run may take: it is ended then, and has failed.
-LONGEST = 60
+LONGEST = 600
 # The DTDs of examples/, each with the name of a root and its documents.
 EXAMPLES = {
     "article.dtd": ("doc", ["article.xml", "draft.xml", "outline.xml", "report.xml"]),
