@@ -228,7 +228,8 @@ CHECKS = [
         "and each edit of a crate a text that is there once"),
     row("definitions", "the page of definitions against its sources", "", 3600, "tools/definitions --check",
         "that the tables of `docs/DEFINITIONS.md` are those of the comments above the definitions, and that each definition which a "
-        "public contract cites has a sentence; that two crates define no name except those that `docs/DEVELOPING.md` lists"),
+        "public contract cites has a sentence; that the files which the pages name are there; that two crates define no name except those that "
+        "`docs/DEVELOPING.md` lists"),
 ]
 
 
