@@ -18,7 +18,7 @@ from pvtag.program import RUNNING, Trouble, shown_name
 from pvtag.reporting.rows import Row, shown
 from .script import Changed
 from .values import Names
-from .work import Refusal, Work
+from .work import Refusal, Work, request
 
 # So long a document stays open after its last window, in seconds.
 LEFT = 60.0
@@ -244,13 +244,6 @@ def told_of(row: Row) -> Told:
     """What a document comes to, as the page shows it."""
     place = f"{row.line}:{row.column}: " if row.line is not None else ""
     return {"verdict": row.verdict, "missing": row.missing, "faults": row.faults, "sentence": shown(place + (row.sentence or ""))}
-
-
-def request(ask: Any, **fields: type) -> dict[str, Any]:
-    """What is asked, which is an object that has these fields, each of its type; a `Refusal` otherwise."""
-    if not isinstance(ask, dict) or not all(isinstance(ask.get(name), kind) for name, kind in fields.items()):
-        raise Refusal(400, "that is no request")
-    return ask
 
 
 def answered(call: Callable[[], Told]) -> Told:

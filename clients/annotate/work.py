@@ -38,6 +38,13 @@ class Refusal(Exception):
         self.status, self.why = status, why
 
 
+def request(ask: Any, **fields: type) -> dict[str, Any]:
+    """What is asked, which is an object that has these fields, each of its type; a `Refusal` otherwise."""
+    if not isinstance(ask, dict) or not all(isinstance(ask.get(name), kind) for name, kind in fields.items()):
+        raise Refusal(400, "that is no request")
+    return ask
+
+
 class Work:
     # The page that is shown where none is named.
     home = "index.html"
@@ -88,7 +95,7 @@ class Work:
         asked once more: what raised that wasn't made."""
         editor = self.editor
         told: Told = {}
-        editor.asker.window = str(ask.get("window", "")) if isinstance(ask, dict) else ""
+        editor.asker.window = str(request(ask).get("window", ""))
         for _ in range(2):
             try:
                 return {**self.answered(name, ask), **told}
