@@ -1,5 +1,5 @@
 -- The tests before one, which a pack passes.
-use Rattle.std.proofs.Common.{Bool, List, arith, false, true, ℕ, ◌<◌, ◌≡◌}
+use Rattle.std.proofs.Common.{Bool, List, arith, false, true, ℕ, ◌<◌, ◌≡◌, ◌≤◌}
 use Rattle.pv_dtd.specs.Plain.{PlainDtd}
 use Rattle.pv_tree.specs.Plain.{PlainDoc}
 use Rattle.pv_tree.specs.declared.nodes.Mark.{Mark}
@@ -16,40 +16,15 @@ module _ {M : Type 0} (g : PlainDtd) (root : List ℕ) (doc : PlainDoc M) (pack 
   abbrev P : Why → Type 0
   P test = PassesTest g root doc pack body test
 
-  abbrev Before : Why → Type 0
-  Before test = (earlier : Why) → rank earlier < rank test → P earlier
-
-  before-kept : P why.Body → P why.Marks → Before why.Kept
-  before-kept a b why.Body lt = a
-  before-kept a b why.Marks lt = b
-  before-kept a b why.Kept lt = absurd (omega arith)
-  before-kept a b why.Validity lt = absurd (omega arith)
-  before-kept a b why.Closure lt = absurd (omega arith)
-  before-kept a b why.Totals lt = absurd (omega arith)
-
-  before-validity : P why.Body → P why.Marks → P why.Kept → Before why.Validity
-  before-validity a b k why.Body lt = a
-  before-validity a b k why.Marks lt = b
-  before-validity a b k why.Kept lt = k
-  before-validity a b k why.Validity lt = absurd (omega arith)
-  before-validity a b k why.Closure lt = absurd (omega arith)
-  before-validity a b k why.Totals lt = absurd (omega arith)
-
-  before-closure : P why.Body → P why.Marks → P why.Kept → P why.Validity → Before why.Closure
-  before-closure a b k v why.Body lt = a
-  before-closure a b k v why.Marks lt = b
-  before-closure a b k v why.Kept lt = k
-  before-closure a b k v why.Validity lt = v
-  before-closure a b k v why.Closure lt = absurd (omega arith)
-  before-closure a b k v why.Totals lt = absurd (omega arith)
-
-  before-totals : P why.Body → P why.Marks → P why.Kept → P why.Validity → P why.Closure → Before why.Totals
-  before-totals a b k v s why.Body lt = a
-  before-totals a b k v s why.Marks lt = b
-  before-totals a b k v s why.Kept lt = k
-  before-totals a b k v s why.Validity lt = v
-  before-totals a b k v s why.Closure lt = s
-  before-totals a b k v s why.Totals lt = absurd (omega arith)
+  -- the tests below a place in their order
+  below : (n : ℕ) → (0 < n → P why.Body) → (1 < n → P why.Marks) → (2 < n → P why.Kept) → (3 < n → P why.Validity) → (4 < n → P why.Closure) → (5 < n → P why.Totals) →
+      (test : Why) → rank test < n → P test
+  below n a b k v s t why.Body lt = a lt
+  below n a b k v s t why.Marks lt = b lt
+  below n a b k v s t why.Kept lt = k lt
+  below n a b k v s t why.Validity lt = v lt
+  below n a b k v s t why.Closure lt = s lt
+  below n a b k v s t why.Totals lt = t lt
 
   all-pass : P why.Body → P why.Marks → P why.Kept → P why.Validity → P why.Closure → P why.Totals → (test : Why) → P test
   all-pass a b k v s t why.Body = a
@@ -59,17 +34,26 @@ module _ {M : Type 0} (g : PlainDtd) (root : List ℕ) (doc : PlainDoc M) (pack 
   all-pass a b k v s t why.Closure = s
   all-pass a b k v s t why.Totals = t
 
+  none : {A : Type 0} (k n : ℕ) → n ≤ k → k < n → A
+  none k n le lt = absurd (omega arith)
+
+  first : (test : Why) → P why.Body → ((earlier : Why) → rank earlier < rank test → P earlier) → (P test → ⊥) → FailsFirst g root doc pack test
+  first test is-body before fails = record { body = body; is_body = is-body; before = before; fails = fails }
+
   pub at-kept : P why.Body → P why.Marks → (P why.Kept → ⊥) → FailsFirst g root doc pack why.Kept
-  at-kept a b not-kept = record { body = body; is_body = a; before = before-kept a b; fails = not-kept }
+  at-kept a b not-kept =
+      first why.Kept a (below 2 (λ lt. a) (λ lt. b) (none 2 2 (omega arith)) (none 3 2 (omega arith)) (none 4 2 (omega arith)) (none 5 2 (omega arith))) not-kept
 
   pub at-validity : P why.Body → P why.Marks → P why.Kept → (P why.Validity → ⊥) → FailsFirst g root doc pack why.Validity
-  at-validity a b k not-valid = record { body = body; is_body = a; before = before-validity a b k; fails = not-valid }
+  at-validity a b k not-valid =
+      first why.Validity a (below 3 (λ lt. a) (λ lt. b) (λ lt. k) (none 3 3 (omega arith)) (none 4 3 (omega arith)) (none 5 3 (omega arith))) not-valid
 
   pub at-closure : P why.Body → P why.Marks → P why.Kept → P why.Validity → (P why.Closure → ⊥) → FailsFirst g root doc pack why.Closure
-  at-closure a b k v not-closed = record { body = body; is_body = a; before = before-closure a b k v; fails = not-closed }
+  at-closure a b k v not-closed =
+      first why.Closure a (below 4 (λ lt. a) (λ lt. b) (λ lt. k) (λ lt. v) (none 4 4 (omega arith)) (none 5 4 (omega arith))) not-closed
 
   pub at-totals : P why.Body → P why.Marks → P why.Kept → P why.Validity → P why.Closure → (P why.Totals → ⊥) → FailsFirst g root doc pack why.Totals
-  at-totals a b k v s not-so = record { body = body; is_body = a; before = before-totals a b k v s; fails = not-so }
+  at-totals a b k v s not-so = record { body = body; is_body = a; before = below 5 (λ lt. a) (λ lt. b) (λ lt. k) (λ lt. v) (λ lt. s) (none 5 5 (omega arith)); fails = not-so }
 
   pub accepted : P why.Body → P why.Marks → P why.Kept → P why.Validity → P why.Closure → P why.Totals → PassesAllTests g root doc pack
   accepted a b k v s t = record { body = body; passes = all-pass a b k v s t }

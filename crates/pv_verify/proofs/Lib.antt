@@ -2,6 +2,6 @@
 pub mod LeastByTests
 pub mod EarlierTests
 pub mod MadePack
-pub mod RefusedBodies
+pub mod TestedBodies
 pub mod OneAnswer
 pub mod Refusals
