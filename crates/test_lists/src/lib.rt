@@ -11,6 +11,8 @@ mod need;
 #[cfg(test)]
 mod packs;
 #[cfg(test)]
+mod random;
+#[cfg(test)]
 mod threads;
 #[cfg(test)]
 mod verdicts;

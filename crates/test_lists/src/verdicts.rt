@@ -4,5 +4,4 @@
 mod changing;
 mod games;
 mod last;
-mod random;
 mod rows;
