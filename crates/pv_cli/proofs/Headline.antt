@@ -30,6 +30,7 @@ use Rattle.pv_cli.specs.declared.verb.Verb.TheVariants.{Session}
 use Rattle.pv_conversation.proofs.Beginnings.{session_begins}
 use Rattle.pv_conversation.proofs.ContinuedScripts.{more_changes_nothing}
 use Rattle.pv_opening.proofs.OneOpening.{AreSameOpened, GoesWith, ReadsOne, ReadsOneDtd, opening_sure, went_on}
+use Rattle.pv_conversation.proofs.Likeness.{same_response}
 use Rattle.pv_conversation.proofs.OneSession.{guarding_sure, quit_on, within_or_past}
 
 -- the replies to a whole script, and that they are the response
@@ -39,10 +40,6 @@ record Ends (session : PlainSession) (script : List ℕ) (r : PlainResponse) : T
   place : Place
   replies : Replies silent 1 session (lines_of script) out place
   is_response : r ≡ record { status = Done; output = out }
-
-same_response : (ending : RunEnding) (r s : PlainResponse) → ending ≡ responds r →
-    ending ≡ responds s → r ≡ s
-same_response ending r s at is = cc
 
 ends : (session : PlainSession) (script silent : List ℕ) (at_end : Bool) (ending : RunEnding)
     (r : PlainResponse) → IsWithin script → ending ≡ responds r →

@@ -16,8 +16,9 @@ use Rattle.pv_conversation.specs.Script.{MAX_SCRIPT_BYTES, lines_within}
 use Rattle.pv_conversation.specs.Session.{EndsSession, Place, Replies, finished, quitted, past_line, past_script, input_failed, output_failed, no_lines, at_line, at_quit, all_told, limited}
 use Rattle.pv_conversation.proofs.LineCounts.{counts_all, counts_front}
 use Rattle.pv_conversation.proofs.ContinuedScripts.{lines_on, more_changes_nothing}
-use Rattle.pv_conversation.proofs.Limits.{IsReadAs, feeds_more, lines_more_are, past_lines, past_long, past_short, read_all, read_lines, read_long_line, read_within}
-use Rattle.pv_conversation.proofs.Replies.{appends_none, replies_more, replies_quit}
+use Rattle.pv_conversation.proofs.Limits.{IsReadAs, feeds_more, lines_more_are, past_lines, past_long, past_short, read_all, read_lines, read_long_line, read_within, true_is_no_false}
+use Rattle.pv_conversation.proofs.Replies.{replies_more, replies_quit}
+use Rattle.pv_io.proofs.Streams.{appends_none}
 
 begun_is : (held : HeldLine) → held.whole ≡ false → begun_line held ≡ held.bytes
 begun_is held is = rw is refl
@@ -273,9 +274,6 @@ told_is_no_fault out o is = cc
 
 pub limit_is_no_fault : (text out o : List ℕ) → limited out text ≡ input_fault o → ⊥
 limit_is_no_fault text out o is = cc
-
-true_is_no_false : true ≡ false → ⊥
-true_is_no_false is = cc
 
 -- the last line, which no LF ends
 last_line : (W : List ℕ → Type 0) (first : CountedSession) (script : List ℕ) (current : CountedSession) (held : HeldLine) (number : ℕ) →

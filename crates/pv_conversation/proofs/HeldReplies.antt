@@ -4,7 +4,7 @@ use Rattle.std.proofs.lemmas.List.{append-nil, length-append, take-append-le}
 use Rattle.std.specs.Io.KnownBytes.{Appends}
 use Rattle.pv_io.specs.Causes.{AppendsFront}
 use Rattle.pv_conversation.specs.ReplyBuffer.{HoldsReplies}
-use Rattle.pv_conversation.proofs.Replies.{appends_behind, appends_none, front_behind}
+use Rattle.pv_io.proofs.Streams.{appends_behind, appends_none, front_behind}
 
 -- Where replies were written and held, those after them are held or written too, or written in part where the output fails.
 pub holds_more : (old mid now : Option (List ℕ)) (held still text out : List ℕ) → HoldsReplies old mid held out → HoldsReplies mid now still (held ++ text) → HoldsReplies old now still (out ++ text)

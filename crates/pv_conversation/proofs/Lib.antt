@@ -21,6 +21,5 @@ pub mod OpenedSessions
 pub mod ConversationPieces
 pub mod Replies
 pub mod ReplyTexts
-pub mod Scripts
 pub mod Texts
 pub mod VerdictLines

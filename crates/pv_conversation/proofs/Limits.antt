@@ -36,7 +36,7 @@ cut_stays [] qs any = cc
 cut_stays (p ∷ ps) qs any = cut_first p ps qs (is_line_too_long p) refl any (cut_stays ps qs)
 
 -- and what is not cut off goes on
-true_is_no_false : true ≡ false → ⊥
+pub true_is_no_false : true ≡ false → ⊥
 true_is_no_false is = cc
 
 go_first : (p : List ℕ) (ps qs : List (List ℕ)) (b : Bool) → is_line_too_long p ≡ b → list_any is_line_too_long (p ∷ ps) ≡ false →

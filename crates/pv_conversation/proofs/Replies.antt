@@ -1,9 +1,7 @@
 -- The replies to a script, line by line.
-use Rattle.std.proofs.Common.{◌≡◌, ℕ, suc, ◌+◌, ◌<◌, ◌≤◌, Bool, true, false, List, [], ◌∷◌, ◌++◌, length, take, Option, Some, None, refl, sym, ap, ◌∙◌, append_assoc, arith}
-use Rattle.std.proofs.Math.Seq.{take-append-add}
+use Rattle.std.proofs.Common.{◌≡◌, ℕ, suc, ◌+◌, ◌<◌, ◌≤◌, Bool, true, false, List, [], ◌∷◌, ◌++◌, refl, sym, ap, ◌∙◌, append_assoc, arith}
 use Rattle.std.proofs.lemmas.Grind.{common_steps}
-use Rattle.std.specs.Io.KnownBytes.{Appends}
-use Rattle.pv_io.specs.Causes.{AppendsFront}
+use Rattle.std.proofs.lemmas.List.{append-nil}
 use Rattle.pv_script.specs.Commands.{SpellsCommand}
 use Rattle.pv_script.specs.Replies.{reply_bytes}
 use Rattle.pv_script.specs.declared.commands.Command.TheVariants.{Quit}
@@ -80,28 +78,6 @@ later_silent other silent number next session middle (line ∷ lines) out here l
     answered (still_among number other silent false (omega arith) is) to (later_silent other silent (suc number) next after middle lines below here less at by) whole
 later_silent other silent number next session middle (line ∷ lines) out here less at (ended is quits none ends) = cc
 
--- a front of the bytes after what was appended is a front of all
-pub front_behind : (old mid new : Option (List ℕ)) (done piece : List ℕ) → Appends old mid done → AppendsFront mid new piece → AppendsFront old new (done ++ piece)
-front_behind None mid new done piece before front = (0, omega arith, tt)
-front_behind (Some o) None new done piece before front = absurd before
-front_behind (Some o) (Some m) None done piece before front = absurd front.2
-front_behind (Some o) (Some m) (Some w) done piece before front =
-    let taken = take-append-add done piece front.0 in
-    (length done + front.0, grind (arith, common_steps, front.1), front.2 ∙ ap (λ h. h ++ take front.0 piece) before ∙ append_assoc o done (take front.0 piece) ∙ ap (λ h. o ++ h) (sym taken))
-
-pub appends_behind : (old mid new : Option (List ℕ)) (done piece : List ℕ) → Appends old mid done → Appends mid new piece → Appends old new (done ++ piece)
-appends_behind None mid new done piece before after = tt
-appends_behind (Some o) None new done piece before after = absurd before
-appends_behind (Some o) (Some m) None done piece before after = absurd after
-appends_behind (Some o) (Some m) (Some w) done piece before after = grind (arith, common_steps, before, after)
-
-pub appends_none : (old : Option (List ℕ)) → Appends old old []
-appends_none None = tt
-appends_none (Some o) = grind (arith, common_steps)
-
-pub whole : {A : Type 0} (xs : List A) → xs ++ [] ≡ xs
-whole xs = grind (arith, common_steps)
-
 -- lines and the next: its reply after theirs
 pub record RepliesMore (number : ℕ) (first : CountedSession) (lines : List (List ℕ)) (line : List ℕ) (out text : List ℕ) (after : CountedSession) : Type 0 where
   pub silent : List ℕ
@@ -120,7 +96,7 @@ replies_more silent number first current lines line out text after below replies
       silent = silent;
       below = all_below_next number silent below;
       replies = joins_replies silent 1 number first.session current.session lines (line ∷ []) out text (at_line (suc number) after.session) replies
-          (answered (not_among number silent below) by (no_lines refl refl) (is ∙ sym (whole (reply_bytes told))));
+          (answered (not_among number silent below) by (no_lines refl refl) (is ∙ sym (append-nil (reply_bytes told))));
       counts = counts_then silent 1 number lines line first.checked current.checked after.checked next counts (replied_goes current.session after.session line told (is_among number silent) by) one;
     }
 replies_more silent number first current lines line out text after below replies counts (told_nothing stays is one) =
@@ -130,7 +106,7 @@ replies_more silent number first current lines line out text after below replies
       below = (omega arith, all_below_next number silent below);
       replies = joins_replies (number ∷ silent) 1 number first.session current.session lines (line ∷ []) out text (at_line (suc number) after.session)
           (later_silent number silent 1 number first.session current.session lines out (at_line number current.session) (omega arith) refl replies)
-          (without_memory (among_first number silent) (no_lines refl (ap (at_line (suc number)) stays)) (is ∙ sym (whole (reply_bytes NoMemory))));
+          (without_memory (among_first number silent) (no_lines refl (ap (at_line (suc number)) stays)) (is ∙ sym (append-nil (reply_bytes NoMemory))));
       counts = counts_then (number ∷ silent) 1 number lines line first.checked current.checked after.checked next
           (counts_silent number silent 1 lines first.checked current.checked counts) (was_silent (among_first number silent)) one;
     }
@@ -140,4 +116,4 @@ pub replies_quit : (silent : List ℕ) (number : ℕ) (first current : PlainSess
     Replies silent 1 first (lines ++ line ∷ []) out at_quit
 replies_quit silent number first current lines line out below replies is =
     let both = joins_replies silent 1 number first current lines (line ∷ []) out [] at_quit replies (ended (not_among number silent below) is refl refl) in
-    rw (whole out) at both
+    rw (append-nil out) at both

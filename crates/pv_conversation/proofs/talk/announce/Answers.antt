@@ -1,6 +1,6 @@
 use Rattle.std.proofs.Common.{◌++◌, refl}
 use Rattle.pv_opening.specs.ShownCourses.{cut_off}
-use Rattle.pv_conversation.proofs.Replies.{front_behind}
+use Rattle.pv_io.proofs.Streams.{front_behind}
 use Rattle.pv_conversation.proofs.talk.announce.Goals as goal
 
 pub returns-in-Err : goal.returns-in-Err

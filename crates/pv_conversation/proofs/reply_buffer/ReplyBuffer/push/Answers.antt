@@ -1,6 +1,6 @@
 use Rattle.std.proofs.lemmas.Result.{err_from_is_err_and}
 use Rattle.pv_conversation.proofs.HeldReplies.{holds_no_more}
-use Rattle.pv_conversation.proofs.Replies.{front_behind}
+use Rattle.pv_io.proofs.Streams.{front_behind}
 use Rattle.pv_conversation.proofs.reply_buffer.ReplyBuffer.push.Goals as goal
 
 pub returns-in_err-write_all-clause-err : goal.returns-in_err-write_all-clause-err
