@@ -1,8 +1,8 @@
 -- The causes of responses, of a command line that reads a DTD and a document.
 use Rattle.std.proofs.Common.{◌≡◌, inl, inr, ℕ, List, Option, Some, false, ap, refl, sym, ◌∙◌}
 use Rattle.std.proofs.Common.{subst, true}
-use Rattle.pv_dtd.specs.Kinds.{parameter, nesting, syntax, twice, mixed_twice, limit}
-use Rattle.pv_dtd.specs.Meaning.{DtdTextMeans, is_dtd}
+use Rattle.pv_dtd.specs.Kinds.{Kind as DtdKind, parameter, nesting, syntax, twice, mixed_twice, limit}
+use Rattle.pv_dtd.specs.Meaning.{DtdTextMeans, faulty as faulty_dtd, is_dtd}
 use Rattle.pv_dtd.specs.Plain.{PlainDtd}
 use Rattle.pv_read.specs.Kinds.{Kind, subset, syntax as bad_syntax, entity, mismatch, doctype_name}
 use Rattle.pv_read.specs.Kinds.{deep}
@@ -12,12 +12,13 @@ use Rattle.pv_tree.specs.Marks.{blank_mark}
 use Rattle.pv_tree.specs.Plain.{PlainDoc}
 use Rattle.pv_tree.specs.declared.nodes.Mark.{Mark}
 use Rattle.pv_session.specs.Sessions.{PlainSession}
-use Rattle.pv_params.specs.Meaning.{conditional, external, undeclared, recursive}
+use Rattle.pv_params.specs.Meaning.{Expands, Fault, conditional, external, undeclared, recursive}
+use Rattle.pv_params.specs.Meaning.{faulty as faulty_parameters}
 use Rattle.pv_params.specs.Meaning.{limit as params_limit, syntax as params_syntax}
-use Rattle.pv_opening.specs.Parameters.{RefusesParameters, not_expanded}
+use Rattle.pv_opening.specs.Parameters.{RefusesParameters, is_parameters_limit, not_expanded}
 use Rattle.law_program.specs.Causes.{HoldsText, NeedsTables, ReadsScript, TestsFor, parameters}
 use Rattle.law_program.specs.Causes.{ReadsBoth, ReadsDocument, ReadsDtd, RespondsBy}
-use Rattle.law_program.specs.Causes.{is_document_limit, dtd_file, document_file, in_dtd}
+use Rattle.law_program.specs.Causes.{is_document_limit, is_dtd_limit, dtd_file, document_file, in_dtd}
 use Rattle.law_program.specs.Causes.{in_document, document_bytes, list_width, not_possible}
 use Rattle.law_program.specs.Causes.{not_valid, script_line, whole_script, missing_elements}
 use Rattle.law_program.specs.Causes.{table_entries, weights_width}
@@ -32,6 +33,7 @@ use Rattle.pv_opening.specs.Opening.{opening_stage}
 use Rattle.pv_opening.specs.Possibility.{RefusesImpossible, RefusesWidth, is_impossible, is_too_wide}
 use Rattle.pv_opening.specs.Possibility.{possibility_stage}
 use Rattle.pv_opening.specs.Response.{PlainResponse}
+use Rattle.pv_conversation.proofs.Likeness.{same_response}
 use Rattle.pv_conversation.specs.Session.{Converses, ended_over, finished, guarding_stage}
 use Rattle.pv_conversation.specs.Session.{input_failed, output_failed, past_line, past_script}
 use Rattle.pv_conversation.specs.Session.{quitted, without_room}
@@ -50,94 +52,56 @@ by_status line files taken status r told is at cause =
     subst (RespondsBy line files taken) (sym (ap (λ (p : PlainResponse). p.status) is ∙ at)) cause
 
 module _ (line : Option PlainCommandLine) (files : Files) (taken : Option (List ℕ)) where
+  bad_dtd : (bytes : List ℕ) (kind : DtdKind) (k : ℕ) (r told : PlainResponse) →
+      ReadsDtd line files bytes → DtdTextMeans bytes (faulty_dtd kind k) →
+      is_dtd_limit kind ≡ false → r ≡ told → told.status ≡ BadDtd →
+      RespondsBy line files taken r.status
+  bad_dtd bytes kind k r told reads means none is at =
+      by_status line files taken BadDtd r told is
+      at (inl record {
+        bytes = bytes;
+        reads = reads;
+        kind = kind;
+        items = k;
+        means = means;
+        no_limit = none;
+      })
+
   pub dtd_refused : (bytes : List ℕ) (r : PlainResponse) → ReadsDtd line files bytes →
       RefusesDtd bytes r → RespondsBy line files taken r.status
   dtd_refused bytes r reads (no_dtd parameter k means is) =
-      by_status line files taken BadDtd r _ is refl
-      (inl record {
-        bytes = bytes;
-        reads = reads;
-        kind = parameter;
-        items = k;
-        means = means;
-        no_limit = refl;
-      })
+      bad_dtd bytes parameter k r _ reads means refl is refl
   dtd_refused bytes r reads (no_dtd nesting k means is) =
       by_status line files taken Limit r _ is refl (in_dtd bytes nesting k reads means refl)
   dtd_refused bytes r reads (no_dtd syntax k means is) =
-      by_status line files taken BadDtd r _ is refl
-      (inl record {
-        bytes = bytes;
-        reads = reads;
-        kind = syntax;
-        items = k;
-        means = means;
-        no_limit = refl;
-      })
+      bad_dtd bytes syntax k r _ reads means refl is refl
   dtd_refused bytes r reads (no_dtd twice k means is) =
-      by_status line files taken BadDtd r _ is refl
-      (inl record {
-        bytes = bytes;
-        reads = reads;
-        kind = twice;
-        items = k;
-        means = means;
-        no_limit = refl;
-      })
+      bad_dtd bytes twice k r _ reads means refl is refl
   dtd_refused bytes r reads (no_dtd mixed_twice k means is) =
-      by_status line files taken BadDtd r _ is refl
-      (inl record {
-        bytes = bytes;
-        reads = reads;
-        kind = mixed_twice;
-        items = k;
-        means = means;
-        no_limit = refl;
-      })
+      bad_dtd bytes mixed_twice k r _ reads means refl is refl
   dtd_refused bytes r reads (no_dtd limit k means is) =
       by_status line files taken Limit r _ is refl (in_dtd bytes limit k reads means refl)
+
+  bad_parameters : (bytes : List ℕ) (fault : Fault) (r told : PlainResponse) →
+      file_at 0 files ≡ Some bytes → Expands bytes (faulty_parameters fault) →
+      is_parameters_limit fault ≡ false → r ≡ told → told.status ≡ BadDtd →
+      RespondsBy line files taken r.status
+  bad_parameters bytes fault r told file e none is at =
+      by_status line files taken BadDtd r told is
+      at (inr record { bytes = bytes; is_file = file; fault = fault; expands = e; no_limit = none })
 
   pub parameters_refused : (bytes : List ℕ) (r : PlainResponse) → file_at 0 files ≡ Some bytes →
       RefusesParameters bytes r → RespondsBy line files taken r.status
   parameters_refused bytes r file (not_expanded conditional e is) =
-      by_status line files taken BadDtd r _ is refl
-      (inr record {
-        bytes = bytes;
-        is_file = file;
-        fault = conditional;
-        expands = e;
-        no_limit = refl;
-      })
+      bad_parameters bytes conditional r _ file e refl is refl
   parameters_refused bytes r file (not_expanded external e is) =
-      by_status line files taken BadDtd r _ is refl
-      (inr record { bytes = bytes; is_file = file; fault = external; expands = e; no_limit = refl })
+      bad_parameters bytes external r _ file e refl is refl
   parameters_refused bytes r file (not_expanded undeclared e is) =
-      by_status line files taken BadDtd r _ is refl
-      (inr record {
-        bytes = bytes;
-        is_file = file;
-        fault = undeclared;
-        expands = e;
-        no_limit = refl;
-      })
+      bad_parameters bytes undeclared r _ file e refl is refl
   parameters_refused bytes r file (not_expanded recursive e is) =
-      by_status line files taken BadDtd r _ is refl
-      (inr record {
-        bytes = bytes;
-        is_file = file;
-        fault = recursive;
-        expands = e;
-        no_limit = refl;
-      })
+      bad_parameters bytes recursive r _ file e refl is refl
   parameters_refused bytes r file (not_expanded params_syntax e is) =
-      by_status line files taken BadDtd r _ is refl
-      (inr record {
-        bytes = bytes;
-        is_file = file;
-        fault = params_syntax;
-        expands = e;
-        no_limit = refl;
-      })
+      bad_parameters bytes params_syntax r _ file e refl is refl
   parameters_refused bytes r file (not_expanded params_limit e is) =
       by_status line files taken Limit r _ is refl (parameters bytes params_limit file e refl)
 
@@ -223,15 +187,11 @@ module _ (line : Option PlainCommandLine) (files : Files) (taken : Option (List 
     guarding_refused tests k (inl wide) = width_refused width tests refl wide.0
     guarding_refused tests k (inr (u, i, j, narrow, never, e)) = absurd never.0
 
-pub ending_is : (ending : RunEnding) (r s : PlainResponse) → ending ≡ responds r →
-    ending ≡ responds s → r ≡ s
-ending_is ending r s at is = cc
-
 -- the end of the order of work
 pub responds_by : (P : PlainResponse → Type 0) (course : Course) (r : PlainResponse) →
     Responds P course → course.ending ≡ responds r → P r
 responds_by P course r (responded s is ends) at =
-    subst P (ending_is course.ending s r (ap (λ (c : Course). c.ending) ends) at) is
+    subst P (same_response course.ending s r (ap (λ (c : Course). c.ending) ends) at) is
 responds_by P course r (out_of_memory ends) at = let here = ap (λ (c : Course). c.ending) ends in cc
 
 -- a run over a stage whose refusals have a cause, and after which responses have one
@@ -245,7 +205,7 @@ behind_by stage Goes P course r refuses goes (opened x k rest opens more is) at 
     goes x k rest opens more (sym (ap (λ (c : Course). c.taken) is))
     (sym (ap (λ (c : Course). c.ending) is) ∙ at)
 behind_by stage Goes P course r refuses goes (refused s k denies is) at =
-    subst P (ending_is course.ending s r (ap (λ (c : Course). c.ending) is) at) (refuses s k denies)
+    subst P (same_response course.ending s r (ap (λ (c : Course). c.ending) is) at) (refuses s k denies)
 behind_by stage Goes P course r refuses goes (stopped k faults is) at =
     let here = ap (λ (c : Course). c.ending) is in cc
 behind_by stage Goes P course r refuses goes (short_of_memory k lacks is) at =
@@ -260,16 +220,16 @@ session_by line files session course r reads (without_room is) at =
     let here = ap (λ (c : Course). c.ending) is in cc
 session_by line files session course r reads
     (ended_over script f is (finished out place e w replies ends)) at =
-    by_status line files course.taken Done r _ (ending_is course.ending r _ at ends) refl tt
+    by_status line files course.taken Done r _ (same_response course.ending r _ at ends) refl tt
 session_by line files session course r reads (ended_over script f is (quitted out replies ends))
-    at = by_status line files course.taken Done r _ (ending_is course.ending r _ at ends) refl tt
+    at = by_status line files course.taken Done r _ (same_response course.ending r _ at ends) refl tt
 session_by line files session course r reads
     (ended_over script f is (past_line out number after long replies ends)) at =
-    by_status line files course.taken Limit r _ (ending_is course.ending r _ at ends) refl
+    by_status line files course.taken Limit r _ (same_response course.ending r _ at ends) refl
     (script_line script reads is long)
 session_by line files session course r reads
     (ended_over script f is (past_script out number after none beyond replies ends)) at =
-    by_status line files course.taken Limit r _ (ending_is course.ending r _ at ends) refl
+    by_status line files course.taken Limit r _ (same_response course.ending r _ at ends) refl
     (whole_script script reads is beyond)
 session_by line files session course r reads
     (ended_over script f is (input_failed out number after w replies ends)) at = cc
