@@ -1,44 +1,27 @@
-use Rattle.std.proofs.Common.{◌≡◌, ◌++◌, ℕ, List, codes, decimal, refl}
-use Rattle.pv_denial_text.specs.Meaning.{DenialMeans, is_fault, is_denial, is_past_limit}
-use Rattle.pv_commands.specs.DenialFiles.{RefusesDenial, no_denial, denial_stage, too_large}
+use Rattle.std.proofs.Common.{◌≡◌, ◌++◌, codes, decimal, refl}
+use Rattle.pv_denial_text.specs.Meaning.{DenialMeans, is_denial}
+use Rattle.pv_commands.specs.DenialFiles.{RefusesDenial, no_denial, too_large}
 use Rattle.pv_opening.specs.Response.{with_line}
-use Rattle.pv_opening.specs.Returns.{RefusesWith, StopsBy}
 use Rattle.pv_opening.specs.declared.status.Status.TheVariants.{BadPack, Limit}
-use Rattle.pv_opening.specs.declared.stop.Stop.{Stop}
-use Rattle.pv_opening.proofs.Stages.{refusal_stops, stops_as}
+use Rattle.pv_opening.proofs.Stages.{refused_as}
 use Rattle.pv_commands.proofs.deny.denial_of.Goals as goal
-
-stops : (bytes : List ℕ) (stop : Stop) → RefusesWith (RefusesDenial bytes) stop →
-    StopsBy (denial_stage bytes) 0 stop
-stops bytes stop refuses =
-    refusal_stops (λ denial. DenialMeans bytes (is_denial denial)) (RefusesDenial bytes) stop
-    refuses
-
-faulty : (bytes : List ℕ) (k : ℕ) (stop : Stop) → DenialMeans bytes (is_fault k) →
-    RefusesWith (λ r. r ≡ with_line BadPack (codes "table line " ++ decimal k)) stop →
-    StopsBy (denial_stage bytes) 0 stop
-faulty bytes k stop means told =
-    stops bytes stop
-    (stops_as (λ r. r ≡ with_line BadPack (codes "table line " ++ decimal k)) (RefusesDenial bytes)
-    stop (λ r is. no_denial k means is) told)
-
-too_many : (bytes : List ℕ) (stop : Stop) → DenialMeans bytes is_past_limit →
-    RefusesWith (λ r. r ≡ with_line Limit (codes "limit table")) stop →
-    StopsBy (denial_stage bytes) 0 stop
-too_many bytes stop past told =
-    stops bytes stop
-    (stops_as (λ r. r ≡ with_line Limit (codes "limit table")) (RefusesDenial bytes) stop
-    (λ r is. too_large past is) told)
 
 pub returns-in-Ok : goal.returns-in-Ok
 returns-in-Ok c = (c.in-Ok.ensures.read, refl)
 
 pub returns-in-Err-Syntax : goal.returns-in-Err-Syntax
 returns-in-Err-Syntax c =
-    faulty c.args.bytes.now c.in-Err-Syntax.line _
-    (rw c.in-Err-Syntax.field-0-is at c.in-Err-Syntax.ensures.refused) c.refuse_item.ensures
+    let bytes = c.args.bytes.now in
+    let k = c.in-Err-Syntax.line in
+    refused_as (λ told. DenialMeans bytes (is_denial told))
+    (λ r. r ≡ with_line BadPack (codes "table line " ++ decimal k)) (RefusesDenial bytes) _
+    (λ r is. no_denial k (rw c.in-Err-Syntax.field-0-is at c.in-Err-Syntax.ensures.refused) is)
+    c.refuse_item.ensures
 
 pub returns-in-Err-Limit : goal.returns-in-Err-Limit
 returns-in-Err-Limit c =
-    too_many c.args.bytes.now _ (rw c.in-Err-Limit.field-0-is at c.in-Err-Limit.ensures.refused)
+    let bytes = c.args.bytes.now in
+    refused_as (λ told. DenialMeans bytes (is_denial told)) (λ r. r ≡ with_line Limit (codes "limit table"))
+    (RefusesDenial bytes) _
+    (λ r is. too_large (rw c.in-Err-Limit.field-0-is at c.in-Err-Limit.ensures.refused) is)
     c.refuse.ensures

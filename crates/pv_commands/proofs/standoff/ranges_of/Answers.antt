@@ -5,7 +5,7 @@ use Rattle.pv_standoff.specs.declared.errors.RangesError.TheVariants.{NoMemory}
 use Rattle.pv_opening.specs.Returns.{RefusesWith, StopsBy}
 use Rattle.pv_commands.specs.Standoff.{IsRangesRefusal, RefusesRanges, no_ranges, ranges_stage}
 use Rattle.pv_opening.specs.declared.stop.Stop.{Stop}
-use Rattle.pv_opening.proofs.Stages.{refusal_stops, stops_as}
+use Rattle.pv_opening.proofs.Stages.{refused_as}
 use Rattle.pv_commands.proofs.standoff.ranges_of.Goals as goal
 
 -- a stop with the response to the first line that is none
@@ -13,12 +13,11 @@ refused : (bytes : List ℕ) (e : RangesError) (stop : Stop) →
     (e ≡ NoMemory) ⊎ RangesMean bytes (Err e) → RefusesWith (IsRangesRefusal e) stop →
     StopsBy (ranges_stage bytes) 0 stop
 refused bytes e stop (inl none) told =
-    refusal_stops (λ u. RangesMean bytes (Ok u)) (RefusesRanges bytes) stop
-    (stops_as (IsRangesRefusal e) (RefusesRanges bytes) stop
-    (λ r is. absurd (subst (λ (f : RangesError). IsRangesRefusal f r) none is)) told)
+    refused_as (λ u. RangesMean bytes (Ok u)) (IsRangesRefusal e) (RefusesRanges bytes) stop
+    (λ r is. absurd (subst (λ (f : RangesError). IsRangesRefusal f r) none is)) told
 refused bytes e stop (inr means) told =
-    refusal_stops (λ u. RangesMean bytes (Ok u)) (RefusesRanges bytes) stop
-    (stops_as (IsRangesRefusal e) (RefusesRanges bytes) stop (λ r is. no_ranges e means is) told)
+    refused_as (λ u. RangesMean bytes (Ok u)) (IsRangesRefusal e) (RefusesRanges bytes) stop
+    (λ r is. no_ranges e means is) told
 
 pub returns-in-Ok : goal.returns-in-Ok
 returns-in-Ok c = (c.in-Ok.ensures.read, refl)

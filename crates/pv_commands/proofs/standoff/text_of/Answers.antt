@@ -5,7 +5,7 @@ use Rattle.pv_chars.specs.declared.errors.TextError.TheVariants.{NoMemory}
 use Rattle.pv_opening.specs.Returns.{RefusesWith, StopsBy}
 use Rattle.pv_commands.specs.Standoff.{IsTextRefusal, RefusesText, no_text, text_stage}
 use Rattle.pv_opening.specs.declared.stop.Stop.{Stop}
-use Rattle.pv_opening.proofs.Stages.{refusal_stops, stops_as}
+use Rattle.pv_opening.proofs.Stages.{refused_as}
 use Rattle.pv_commands.proofs.standoff.text_of.Goals as goal
 
 -- a stop with the response to the text's first fault
@@ -13,12 +13,11 @@ refused : (bytes : List ℕ) (e : TextError) (stop : Stop) →
     (e ≡ NoMemory) ⊎ TextMeans bytes (Err e) → RefusesWith (IsTextRefusal e) stop →
     StopsBy (text_stage bytes) 0 stop
 refused bytes e stop (inl none) told =
-    refusal_stops (λ u. TextMeans bytes (Ok u)) (RefusesText bytes) stop
-    (stops_as (IsTextRefusal e) (RefusesText bytes) stop
-    (λ r is. absurd (subst (λ (f : TextError). IsTextRefusal f r) none is)) told)
+    refused_as (λ u. TextMeans bytes (Ok u)) (IsTextRefusal e) (RefusesText bytes) stop
+    (λ r is. absurd (subst (λ (f : TextError). IsTextRefusal f r) none is)) told
 refused bytes e stop (inr means) told =
-    refusal_stops (λ u. TextMeans bytes (Ok u)) (RefusesText bytes) stop
-    (stops_as (IsTextRefusal e) (RefusesText bytes) stop (λ r is. no_text e means is) told)
+    refused_as (λ u. TextMeans bytes (Ok u)) (IsTextRefusal e) (RefusesText bytes) stop
+    (λ r is. no_text e means is) told
 
 pub returns-in-Ok : goal.returns-in-Ok
 returns-in-Ok c = (c.in-Ok.ensures, refl)
