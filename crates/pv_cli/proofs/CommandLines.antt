@@ -1,23 +1,10 @@
 -- Command lines of two words, of four and of five.
-use Rattle.std.proofs.Common.{◌≡◌, ℕ, ◌<◌, ◌≤◌, List, [], ◌∷◌, length, get_or, String, Global}
-use Rattle.std.proofs.Common.{Option, Some, None, option_map, true, false, codes, refl, arith}
+use Rattle.std.proofs.Common.{◌≡◌, ℕ, ◌<◌, ◌≤◌, List, [], ◌∷◌, length, get_or, Option, Some, None, option_map, true, false, codes, refl, arith}
 use Rattle.std.specs.Str.{bytes_eq}
-use Rattle.pv_io.specs.Files.{byte_lists}
 use Rattle.pv_chars.specs.Names.{is_name}
-use Rattle.pv_cli.specs.CommandLine.{checker_of, command_line_of, drill, drill_size, on_certificate}
-use Rattle.pv_cli.specs.CommandLine.{on_document, on_dtd, on_ranges, verb_of}
+use Rattle.pv_cli.specs.CommandLine.{checker_of, command_line_of, drill, drill_size, on_certificate, on_document, on_dtd, on_ranges, verb_of}
 use Rattle.pv_cli.specs.declared.checker.Checker.{Checker}
 use Rattle.pv_cli.specs.declared.verb.Verb.{Verb}
-
-pub four : {A : Type 0} (xs : List A) (a b c d : A) → 4 ≤ length xs → length xs < 5 →
-    a ≡ get_or xs 0 a → b ≡ get_or xs 1 b → c ≡ get_or xs 2 c → d ≡ get_or xs 3 d →
-    xs ≡ a ∷ b ∷ c ∷ d ∷ []
-four [] a b c d more less p q r s = absurd (omega arith)
-four (x ∷ []) a b c d more less p q r s = absurd (omega arith)
-four (x ∷ y ∷ []) a b c d more less p q r s = absurd (omega arith)
-four (x ∷ y ∷ z ∷ []) a b c d more less p q r s = absurd (omega arith)
-four (x ∷ y ∷ z ∷ w ∷ []) a b c d more less p q r s = cc
-four (x ∷ y ∷ z ∷ w ∷ v ∷ vs) a b c d more less p q r s = absurd (omega arith)
 
 pub five : {A : Type 0} (xs : List A) (a b c d e : A) → 5 ≤ length xs → length xs < 6 →
     a ≡ get_or xs 0 a → b ≡ get_or xs 1 b → c ≡ get_or xs 2 c → d ≡ get_or xs 3 d →
@@ -95,7 +82,3 @@ pub other_root_of_five : (command dtd root doc file : List ℕ) → is_name root
     command_line_of (command ∷ dtd ∷ root ∷ doc ∷ file ∷ []) ≡ None
 unfolding command_line_of
 other_root_of_five command dtd root doc file named = rw named refl
-
-pub length-byte_lists : (words : List (String Global)) → length (byte_lists words) ≡ length words
-length-byte_lists [] = refl
-length-byte_lists (w ∷ ws) = simp (length-byte_lists ws)

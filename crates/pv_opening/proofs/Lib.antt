@@ -1,4 +1,5 @@
 -- for other crates:
+pub mod ArgumentWords
 pub mod AskedInputs
 pub mod StagePairs
 pub mod FetchedFiles

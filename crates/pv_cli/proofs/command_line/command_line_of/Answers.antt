@@ -1,6 +1,7 @@
 use Rattle.std.proofs.Common.{◌≡◌, length, sym, arith}
 use Rattle.pv_io.specs.Files.{byte_lists}
-use Rattle.pv_cli.proofs.CommandLines.{length-byte_lists, of_no_line}
+use Rattle.pv_cli.proofs.CommandLines.{of_no_line}
+use Rattle.pv_opening.proofs.ArgumentWords.{length-byte_lists}
 use Rattle.pv_cli.proofs.command_line.command_line_of.Goals as goal
 
 pub returns-in_default-clause-line : goal.returns-in_default-clause-line

@@ -4,7 +4,8 @@ use Rattle.std.proofs.lemmas.Grind.{common_steps}
 use Rattle.pv_io.specs.Files.{byte_lists}
 use Rattle.pv_chars.specs.Names.{is_name}
 use Rattle.pv_cli.specs.CommandLine.{command_line_of, verb_of}
-use Rattle.pv_cli.proofs.CommandLines.{four, other_root, verb_words}
+use Rattle.pv_cli.proofs.CommandLines.{other_root, verb_words}
+use Rattle.pv_opening.proofs.ArgumentWords.{four}
 use Rattle.pv_cli.proofs.command_line.line_of_four.Goals as goal
 
 pub returns-then-not-is_name-clause-line : goal.returns-then-not-is_name-clause-line
