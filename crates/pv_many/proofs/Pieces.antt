@@ -15,7 +15,7 @@ use Rattle.pv_many.specs.Many.{max_names_bytes, without_memory}
 use Rattle.pv_many.specs.Names.{AreNames, HasNoNul, StandInOrder, last_name}
 use Rattle.pv_many.specs.declared.requests.Question.{Question}
 use Rattle.pv_many.proofs.NamedAnswers.{answer_of, answers_both, answers_none, names_both, one_answer}
-use Rattle.pv_many.proofs.Inputs.{appends_behind, front_behind}
+use Rattle.pv_io.proofs.Streams.{appends_behind, front_behind}
 use Rattle.pv_many.proofs.NamesRead.{in_order, in_order_last, in_order_then, names_byte, names_end, names_held, names_then}
 
 abbrev pub Adds : Option (List ℕ) → Option (List ℕ) → List ℕ → Type 0

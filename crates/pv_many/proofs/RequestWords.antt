@@ -1,7 +1,6 @@
 -- Requests of three words, and words that are none.
-use Rattle.std.proofs.Common.{◌≡◌, ℕ, ◌<◌, ◌≤◌, List, [], ◌∷◌, length, get_or, String, Global, Option, None, option_map, true, false, refl, arith}
+use Rattle.std.proofs.Common.{◌≡◌, ℕ, ◌<◌, ◌≤◌, List, [], ◌∷◌, length, get_or, Option, None, option_map, true, false, refl, arith}
 use Rattle.pv_chars.specs.Names.{is_name}
-use Rattle.pv_io.specs.Files.{byte_lists}
 use Rattle.pv_many.specs.Requests.{asked_question, request, asked_request}
 use Rattle.pv_many.specs.declared.requests.Question.{Question}
 
@@ -29,7 +28,3 @@ question_words word dtd root question named is = rw (named, is) refl
 pub root_no_name : (word dtd root : List ℕ) → is_name root ≡ false → asked_request (word ∷ dtd ∷ root ∷ []) ≡ None
 unfolding asked_request
 root_no_name word dtd root named = rw named refl
-
-pub byte_lists-length : (words : List (String Global)) → length (byte_lists words) ≡ length words
-byte_lists-length [] = refl
-byte_lists-length (w ∷ ws) = simp (byte_lists-length ws)

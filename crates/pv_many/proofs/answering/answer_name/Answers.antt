@@ -2,7 +2,7 @@ use Rattle.std.proofs.Common.{[], ◌∷◌}
 use Rattle.std.proofs.lemmas.Result.{err_from_is_err_and}
 use Rattle.pv_opening.specs.Returns.{ending_of}
 use Rattle.pv_many.specs.Answers.{line_of}
-use Rattle.pv_many.proofs.Inputs.{appends_behind, front_before, front_behind}
+use Rattle.pv_io.proofs.Streams.{appends_behind, front_before, front_behind}
 use Rattle.pv_many.proofs.CallResults.{on_err_as, on_ok_as}
 use Rattle.pv_many.proofs.answering.answer_name.Goals as goal
 

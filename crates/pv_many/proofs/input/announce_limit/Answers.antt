@@ -1,6 +1,6 @@
 use Rattle.std.proofs.Common.{◌++◌, codes, refl}
 use Rattle.pv_opening.specs.ShownCourses.{cut_off}
-use Rattle.pv_many.proofs.Inputs.{front_behind}
+use Rattle.pv_io.proofs.Streams.{front_behind}
 use Rattle.pv_many.proofs.input.announce_limit.Goals as goal
 
 pub returns-in-Err : goal.returns-in-Err

@@ -4,8 +4,11 @@ use Rattle.std.proofs.lemmas.List.{length-append, length-take}
 use Rattle.pv_opening.specs.ShownCourses.{cut_off, wrote}
 use Rattle.pv_many.specs.Many.{max_names_bytes}
 use Rattle.pv_many.proofs.NamedAnswers.{answers_none}
-use Rattle.pv_many.proofs.Inputs.{append_none, appends_none, asked_more, asked_none, asked_once, asked_within, consumes_kept, consumes_more}
-use Rattle.pv_many.proofs.Inputs.{consumes_none, has_course, no_room, not_at_end, piece_kept, writes_from}
+use Rattle.pv_opening.proofs.AskedInputs.{asked_more, asked_none, asked_once, asked_within}
+use Rattle.pv_io.proofs.Streams.{append_none, appends_none, consumes_kept, consumes_more}
+use Rattle.pv_many.proofs.Inputs.{has_course, no_room}
+use Rattle.pv_opening.proofs.AskedInputs.{writes_from}
+use Rattle.pv_io.proofs.Streams.{consumes_none, not_at_end, piece_kept}
 use Rattle.pv_many.proofs.NamesRead.{names_none}
 use Rattle.pv_many.proofs.Pieces.{cut_at, done_with, ended_all, ended_at_input, ended_at_last, ended_by_limit, ended_within, ended_without_memory}
 use Rattle.pv_many.proofs.Pieces.{failed_after, less_left, limited_after, reads_more, short_after}

@@ -1,6 +1,6 @@
 use Rattle.std.proofs.Common.{◌≡◌, ◌+◌, [], ◌∷◌, ◌++◌, get_or, take, drop, refl, ◌∙◌}
 use Rattle.std.proofs.lemmas.List.{take_more}
-use Rattle.pv_many.proofs.Inputs.{appends_behind, appends_none, front_behind}
+use Rattle.pv_io.proofs.Streams.{appends_behind, appends_none, front_behind}
 use Rattle.pv_many.proofs.Pieces.{cut_after, cut_here, goes_byte, goes_name, goes_none, stops_byte, stops_name}
 use Rattle.pv_many.proofs.input.answer_piece.Goals as goal
 use Rattle.pv_many.proofs.input.answer_piece.Goals.{then-byte-eq0+in-Ok, else-byte-eq0+in-Ok-push}
