@@ -4,7 +4,7 @@ ghost use Rattle.std.specs.Prelude.{◌≡◌, ◌≤◌, ◌<◌, ℕ, IfOk, Is
 ghost use Rattle.pv_model.specs.PlainForms.{plain_token};
 ghost use Rattle.pv_productive.specs.PlainForms.{dtd_of};
 ghost use Rattle.pv_layout.specs.Columns.{no_column};
-ghost use Rattle.pv_layout.specs.FormForms.{plain_all, plain_form};
+ghost use Rattle.pv_layout.specs.FormForms.{plain_all};
 ghost use Rattle.pv_layout.specs.Forms.{form_at};
 ghost use Rattle.pv_bounds.specs.Bounds.{IsBelowSites};
 ghost use Rattle.pv_bounds.specs.Fronts.{cost_from, empty_cost, front_value};
@@ -21,30 +21,24 @@ use pv_layout::{ColumnLayout, Form};
 use pv_model::Token;
 use std::alloc::Global;
 
-// Whether a column, in which this stands, costs no more than its rules lead to over the tokens from
-// all places.
-fn column_holds(
-    alloc: Global,
-    claim: &Claim<'_>,
-    form: &Form,
-    column: u32,
-) -> Result<bool, NoMemory>
-    ensures { IfOk result (λ holds. IsTrue holds → (i : ℕ) → i < claim.now.tokens →
-        ColumnHolds (map plain_token claim.now.word.now)
+// Whether no column costs more than its rules lead to that cut a span.
+fn cuts_hold(alloc: Global, claim: &Claim<'_>, forms: &[Form]) -> Result<bool, NoMemory>
+    requires { length forms.now ≤ no_column }
+    ensures { IfOk result (λ hold. IsTrue hold → (c i : ℕ) → c < length forms.now →
+        i < claim.now.tokens → FormCutsHold (map plain_token claim.now.word.now)
         (empty_cost claim.now.fronts.now.empty.items) (cost_from claim.now.fronts.now)
-        column i (plain_form form.now) ×
-        FormCutsHold (map plain_token claim.now.word.now)
-        (empty_cost claim.now.fronts.now.empty.items) (cost_from claim.now.fronts.now)
-        column i (plain_form form.now)) }
+        c i (form_at (plain_all forms.now) c)) }
 {
-    if !places_hold(claim, form, column) {
-        return Ok(false);
+    for number in 0..forms.len() {
+        if !form_cuts_hold(alloc, claim, &forms[number], number as u32)? {
+            return Ok(false);
+        }
     }
-    let hold = form_cuts_hold(alloc, claim, form, column)?;
-    Ok(hold)
+    Ok(true)
 }
 
-// Whether no column costs more than its rules lead to.
+// Whether no column costs more than its rules lead to. Those that cut no span are looked at place by
+// place, since the fronts of one place lie together.
 fn columns_hold(alloc: Global, claim: &Claim<'_>, forms: &[Form]) -> Result<bool, NoMemory>
     requires { length forms.now ≤ no_column }
     ensures { IfOk result (λ hold. IsTrue hold → (c i : ℕ) → c < length forms.now →
@@ -55,12 +49,11 @@ fn columns_hold(alloc: Global, claim: &Claim<'_>, forms: &[Form]) -> Result<bool
         (empty_cost claim.now.fronts.now.empty.items) (cost_from claim.now.fronts.now)
         c i (form_at (plain_all forms.now) c)) }
 {
-    for number in 0..forms.len() {
-        if !column_holds(alloc, claim, &forms[number], number as u32)? {
-            return Ok(false);
-        }
+    if !places_hold(claim, forms) {
+        return Ok(false);
     }
-    Ok(true)
+    let hold = cuts_hold(alloc, claim, forms)?;
+    Ok(hold)
 }
 
 /// Whether fronts hold for a word: where they do, no site derives anything over a span of the word

@@ -1,11 +1,12 @@
 //! Whether columns cost no more than their rules lead to that cut no span.
 
-ghost use Rattle.std.specs.Prelude.{◌≡◌, ◌<◌, ℕ, IsTrue, Some, map, slice_get, suc};
+ghost use Rattle.std.specs.Prelude.{◌≡◌, ◌≤◌, ◌<◌, ℕ, IsTrue, Some, length, map, slice_get, suc};
 ghost use Rattle.pv_model.specs.Plain.{named};
 ghost use Rattle.pv_model.specs.PlainForms.{plain_token};
 ghost use Rattle.pv_layout.specs.ColumnRules.{IsOneOf};
-ghost use Rattle.pv_layout.specs.FormForms.{plain_form};
-ghost use Rattle.pv_layout.specs.Forms.{of_star, of_two};
+ghost use Rattle.pv_layout.specs.Columns.{no_column};
+ghost use Rattle.pv_layout.specs.FormForms.{plain_all, plain_form};
+ghost use Rattle.pv_layout.specs.Forms.{form_at, of_star, of_two};
 ghost use Rattle.pv_bounds.specs.Fronts.{cost_from, empty_cost};
 ghost use Rattle.pv_bounds.specs.HoldingForms.{ColumnHolds, CostsNoMore, TextsHold};
 
@@ -42,8 +43,9 @@ fn members_hold(claim: &Claim<'_>, column: u32, members: &[u32], place: u32) -> 
         (empty_cost claim.now.fronts.now.empty.items) (cost_from claim.now.fronts.now)
         column place 0 d }
 {
+    let here = claim.fronts.at(column, place);
     for index in 0..members.len() {
-        if !costs_no_more(claim, column, members[index], 0, place) {
+        if !covers(&here, &claim.fronts.at(members[index], place), 0) {
             return false;
         }
     }
@@ -109,16 +111,34 @@ fn column_holds(claim: &Claim<'_>, form: &Form, column: u32, place: u32) -> bool
     }
 }
 
-/// Whether a column, in which this stands, costs no more than its rules lead to that cut no span,
-/// over the tokens from all places.
-pub fn places_hold(claim: &Claim<'_>, form: &Form, column: u32) -> bool
-    ensures { IsTrue result → (i : ℕ) → i < claim.now.tokens →
+// Whether all columns, in which these stand, cost no more at a place.
+fn columns_hold(claim: &Claim<'_>, forms: &[Form], place: u32) -> bool
+    requires few { length forms.now ≤ no_column }
+    requires within { place < claim.now.tokens }
+    ensures { IsTrue result → (c : ℕ) → c < length forms.now →
         ColumnHolds (map plain_token claim.now.word.now)
         (empty_cost claim.now.fronts.now.empty.items) (cost_from claim.now.fronts.now)
-        column i (plain_form form.now) }
+        c place (form_at (plain_all forms.now) c) }
+{
+    for number in 0..forms.len() {
+        if !column_holds(claim, &forms[number], number as u32, place) {
+            return false;
+        }
+    }
+    true
+}
+
+/// Whether all columns, in which these stand, cost no more than their rules lead to that cut no
+/// span, over the tokens from all places.
+pub fn places_hold(claim: &Claim<'_>, forms: &[Form]) -> bool
+    requires { length forms.now ≤ no_column }
+    ensures { IsTrue result → (c i : ℕ) → c < length forms.now → i < claim.now.tokens →
+        ColumnHolds (map plain_token claim.now.word.now)
+        (empty_cost claim.now.fronts.now.empty.items) (cost_from claim.now.fronts.now)
+        c i (form_at (plain_all forms.now) c) }
 {
     for place in 0..claim.tokens {
-        if !column_holds(claim, form, column, place) {
+        if !columns_hold(claim, forms, place) {
             return false;
         }
     }

@@ -1,0 +1,27 @@
+use Rattle.std.proofs.Common.{ap, arith, map, sym, ℕ, ◌∙◌, ◌≡◌}
+use Rattle.std.proofs.lemmas.List.{get_or-map}
+use Rattle.pv_model.specs.PlainForms.{plain_token}
+use Rattle.pv_layout.specs.FormForms.{plain_all, plain_form}
+use Rattle.pv_layout.specs.Forms.{form_at, of_none}
+use Rattle.pv_bounds.specs.Fronts.{cost_from, empty_cost}
+use Rattle.pv_bounds.specs.HoldingForms.{ColumnHolds}
+use Rattle.pv_bounds.proofs.LevelCuts.{below_one_more}
+use Rattle.pv_bounds.proofs.columns.columns_hold.Goals as goal
+
+pub loop-number-preserved : goal.loop-number-preserved
+loop-number-preserved c =
+    let claim = c.args.claim.now in
+    let forms = c.args.forms.now in
+    let n = c.loop-number.number in
+    let read = c.index-forms-number in
+    let at : form_at (plain_all forms) n ≡ plain_form read.result =
+    get_or-map plain_form forms n read.result of_none c.loop-number-test.true ∙
+    ap plain_form (sym read.is) in
+    let holds = c.column_holds.ensures c.if-not-column_holds.false in
+    below_one_more (λ m. ColumnHolds (map plain_token claim.word.now)
+    (empty_cost claim.fronts.now.empty.items) (cost_from claim.fronts.now) m c.args.place
+    (form_at (plain_all forms) m)) n c.loop-number.invariant (rw at holds)
+
+pub returns : goal.returns
+returns c = λ t k lt.
+    c.loop-number.invariant k (let e = c.loop-number-test.false in omega arith)
