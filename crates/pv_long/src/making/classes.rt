@@ -7,7 +7,7 @@ use pv_model::Token;
 use std::alloc::Global;
 
 /// From how many tokens on classes are looked for. In a shorter list each column has its own.
-const LEAST_TOKENS: usize = 48;
+const LEAST_TOKENS: usize = 16;
 
 /// The classes of columns: which one each column has, a column of each, and which classes mention
 /// each.
@@ -143,6 +143,22 @@ fn split(
     Ok(number_keys(keys.as_slice(), of))
 }
 
+// Numbers classes in the order of their first columns: what lies together is looked at together.
+fn put_in_order(alloc: Global, of: &mut Vec<u32>, count: u32) -> Result<(), NoMemory> {
+    let mut numbers = vec![in alloc; u32::MAX; count as usize]?;
+    let mut next = 0u32;
+    for class in of.iter_mut() {
+        if let Some(number) = numbers.get_mut(*class as usize) {
+            if *number == u32::MAX {
+                *number = next;
+                next = u32::saturating_add(next, 1);
+            }
+            *class = *number;
+        }
+    }
+    Ok(())
+}
+
 // The first column of each class.
 fn firsts_of(alloc: Global, of: &[u32], count: u32) -> Result<Vec<u32>, NoMemory> {
     let mut firsts = vec![in alloc; u32::MAX; count as usize]?;
@@ -247,6 +263,7 @@ impl Classes {
             }
             count = split;
         }
+        put_in_order(alloc, &mut of, count)?;
         let firsts = firsts_of(alloc, of.as_slice(), count)?;
         let mentions = mentions_of(alloc, forms, of.as_slice(), firsts.as_slice())?;
         let mut starts = Vec::with_capacity(alloc, usize::saturating_add(firsts.len(), 1))?;

@@ -33,7 +33,7 @@ pub struct Filled {
 struct Budget {
     reaches: usize,
     work: u64,
-    /// Whether so many are to be had as would come if all other places had as many as the last one.
+    /// Whether those that are to come at the other places count too, as far as can be guessed.
     looks_ahead: bool,
 }
 
@@ -46,7 +46,13 @@ const REACHES: usize = 5_242_880;
 const REACHES_A_FRONT: usize = 4;
 
 /// All reaches of a list are made at first if they are at most such a part of these.
-const SHORT: usize = 4;
+const SHORT: usize = 2;
+
+/// After each so many places it is seen whether the number of reaches grows from place to place.
+const TURN: usize = 16;
+
+/// It grows where there are more by such a part of those before.
+const GROWING: usize = 16;
 
 /// So many are looked at for each of these.
 const LOOKS: u64 = 16;
@@ -75,10 +81,17 @@ impl Budget {
         }
     }
 
-    // Whether there are too many reaches, so many more to come, or too much work.
-    fn is_passed(&self, reaches: usize, more: usize, work: u64) -> bool {
-        let more = if self.looks_ahead { more } else { 0 };
-        usize::saturating_add(reaches, more) > self.reaches || work > self.work
+    // Whether there are too many reaches in these rows, with those of the places that are left, or too
+    // much work. Half as many are too many where there are more and more: these share their ends.
+    fn is_passed(&self, rows: &[Row], reaches: usize, left: usize, work: u64) -> bool {
+        if reaches > self.reaches || work > self.work {
+            return true;
+        }
+        if !self.looks_ahead {
+            return false;
+        }
+        let all = usize::saturating_add(reaches, if_steady(rows, left));
+        all > self.reaches || (all > self.reaches / 2 && is_growing(rows))
     }
 
     // What is left where no fewer ends can be told apart.
@@ -100,6 +113,37 @@ struct Rows {
 
 fn number_of(count: usize) -> u32 {
     u32::try_from(count).unwrap_or(u32::MAX)
+}
+
+// How many reaches these rows have.
+fn reaches_of(rows: Option<&[Row]>) -> usize {
+    let mut count = 0usize;
+    for row in rows.unwrap_or(&[]) {
+        count = usize::saturating_add(count, row.reaches.len());
+    }
+    count
+}
+
+// How many reaches so many places have, if each has as many as the last row.
+fn if_steady(rows: &[Row], places: usize) -> usize {
+    match rows.last() {
+        Some(row) => usize::saturating_mul(row.reaches.len(), places),
+        None => 0,
+    }
+}
+
+// Whether there are more and more reaches from place to place: the last quarter of the rows has more
+// than the one before it by such a part of these. It is looked at only in its turn.
+fn is_growing(rows: &[Row]) -> bool {
+    if rows.len() % TURN != 0 {
+        return false;
+    }
+    let quarter = rows.len() / 4;
+    let middle = usize::saturating_sub(rows.len(), quarter);
+    let first = usize::saturating_sub(middle, quarter);
+    let before = reaches_of(rows.get(first..middle));
+    let more = usize::saturating_sub(reaches_of(rows.get(middle..)), before);
+    more > before / GROWING
 }
 
 // The rows by class, as fronts: the first place first.
@@ -146,9 +190,8 @@ fn make_rows(
         fill_place(known, &mut here, &mut made.derivations, word[place])?;
         let row = row_of(alloc, &here, classes)?;
         reaches = usize::saturating_add(reaches, row.reaches.len());
-        let more = usize::saturating_mul(row.reaches.len(), place);
         made.rows.push(row)?;
-        if budget.is_passed(reaches, more, here.work) {
+        if budget.is_passed(made.rows.as_slice(), reaches, place, here.work) {
             return Ok(Err(number_of(made.rows.len())));
         }
     }
