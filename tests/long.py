@@ -35,6 +35,10 @@ from lib.trees import items_of  # noqa: E402
 TOP = published.TOP
 # The most seconds that one run may take: it is ended then, and has failed.
 LONGEST = 600
+# The most seconds of a processor for one list of some seventy kids.
+SOON = 5
+# A program that isn't proved looks at each access to memory. It may take so many times as long.
+UNPROVED = 20
 # The DTDs of examples/, each with the name of a root and its documents.
 EXAMPLES = {
     "article.dtd": ("doc", ["article.xml", "draft.xml", "outline.xml", "report.xml"]),
@@ -67,10 +71,12 @@ class Programs:
 
     def __init__(self, pvlong: str, pvtag: str) -> None:
         self.pvlong, self.pvtag = pvlong, pvtag
+        with open(pvlong, "rb") as file:
+            self.times = UNPROVED if b"__asan_" in file.read() else 1
         self.passed, self.failed, self.counts = 0, 0, {}
 
     def run(self, words: list[str], given: bytes = b"") -> tuple[int, bytes]:
-        ran = subprocess.run(words, input=given, capture_output=True, timeout=LONGEST, check=False)
+        ran = subprocess.run(words, input=given, capture_output=True, timeout=LONGEST * self.times, check=False)
         return ran.returncode, ran.stdout
 
     def long(self, *words: str) -> tuple[int, bytes]:
@@ -163,6 +169,18 @@ def try_row(both: Programs, dtd: str, root: str, kids: str, least: int) -> None:
         return "exact"
 
     both.case("rows", judged, lambda: text)
+
+
+def try_mixed(both: Programs) -> None:
+    """A list of texts and names, of which few may stand where they do, under mixed contents with 150 names. It is told soon."""
+    contents = {"m": (0, 1, 2), "p": (0, 1, 2), "e": (0, 1, 2)}
+    contents.update((f"n{x}", sorted({(7 * x + y * y) % 150 for y in range(24)})) for x in range(150))
+    models = "".join(f"<!ELEMENT {name} (#PCDATA|{'|'.join(f'n{y}' for y in kids)})*>" for name, kids in contents.items())
+    before = os.times()
+    try_row(both, f"<!ELEMENT r ((m|p)*,e)>{models}", "r", "".join(f"words <n{11 * x % 150}/>" for x in range(34)), 16)
+    after = os.times()
+    took = after.children_user + after.children_system - before.children_user - before.children_system
+    both.case("rows", lambda: need(took <= SOON * both.times, f"{took:.1f} s of a processor") or "soon", lambda: "mixed contents")
 
 
 def try_search(both: Programs) -> None:
@@ -298,7 +316,7 @@ def try_refusals(both: Programs) -> None:
         for question in ("need", "complete"):
             both.case("refusals", lambda question=question, files=files, wanted=wanted: same(both.long(question, *files), wanted, question) or "same",
                       lambda question=question, files=files: f"{question} {files}")
-    for words in ([], ["need"], ["check", "good.dtd", "a", "good.xml"], ["need", "good.dtd", "a", "good.xml", "more"]):
+    for words in ([], ["need"], ["valid", "good.dtd", "a", "good.xml"], ["need", "good.dtd", "a", "good.xml", "more"]):
         both.case("refusals", lambda words=words: same(both.long(*words), (2, b"usage\n"), "no request") or "usage", lambda words=words: str(words))
     for files, path in ((["good.dtd", "a", "other.xml"], "0"), (["good.dtd", "c", "good.xml"], ".")):
         wanted = 1, f"no impossible {path}\n".encode()
@@ -329,6 +347,7 @@ def main() -> int:
                 try_example(both, dtd, root, name)
         for row in ROWS:
             try_row(both, *row)
+        try_mixed(both)
         until(share, lambda: try_search(both), lambda: try_derivations(both))
         until(share, lambda: try_made(both), lambda: try_one_list(both))
         tries = [lambda it=it, room=room: try_wide(both, os.path.basename(it.original), it.flat, it.models, it.least, room, it.original)
