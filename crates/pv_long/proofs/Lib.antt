@@ -1,4 +1,5 @@
 -- of this crate:
 pub mod BoundSums
 pub mod ExactAnswers
+pub mod GoalWork
 pub mod TaggedDocs

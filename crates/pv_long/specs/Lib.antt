@@ -1,3 +1,4 @@
 pub mod BoundAnswers
 pub mod AddedBounds
 pub mod NewTags
+pub mod Goals

@@ -1,5 +1,8 @@
 //! The pieces of a list's completion, along the derivations of its reaches.
 
+ghost use Rattle.std.specs.Prelude.{◌*◌, ◌+◌, ◌<◌, ◌≤◌, OnOk};
+ghost use Rattle.pv_long.specs.Goals.{work_in, work_of};
+
 use crate::errors::MakeError;
 use crate::making::classes::Classes;
 use crate::making::derivations::{Derivations, Rule};
@@ -15,14 +18,26 @@ use pv_rules::HEAVIEST;
 use pv_write::Piece;
 use std::alloc::Global;
 
-/// So many columns may be wanted for the pieces of a list, which are fewer bytes than a text may have.
-const MOST_WANTED: u64 = 1_099_511_627_776;
+/// What is wanted, and its rank: what it is built of has lower ones.
+#[derive(Clone, Copy, Debug)]
+struct Goal {
+    wanted: Wanted,
+    rank: u64,
+}
 
-/// The pieces of a list so far, and what more are wanted for, the next at the end.
+/// What a goal is built of: a piece, and what is wanted after it, the second after the first.
+#[derive(Clone, Copy, Debug)]
+struct Parts {
+    piece: Option<Piece>,
+    first: Option<Wanted>,
+    second: Option<Wanted>,
+}
+
+/// The pieces of a list so far, and the goals that are left, the next at the end.
 #[derive(Drop)]
 struct Built {
     pieces: Vec<Piece>,
-    wanted: Vec<Wanted>,
+    goals: Vec<Goal>,
 }
 
 /// What stands in columns, and what was made of a list.
@@ -34,53 +49,144 @@ struct Ground<'a> {
     classes: &'a Classes,
 }
 
-impl Built {
-    // Wants a column over no tokens.
-    fn want_empty(&mut self, column: u32) -> Result<bool, NoMemory> {
-        self.wanted.push(Wanted::Empty(column))?;
-        Ok(true)
+impl Parts {
+    // A piece alone.
+    fn piece(piece: Piece) -> Parts {
+        Parts {
+            piece: Some(piece),
+            first: None,
+            second: None,
+        }
     }
 
-    // Wants a column over some tokens, by a part of a derivation: its number is less.
-    fn want(&mut self, whole: u32, part: Span) -> Result<bool, NoMemory> {
-        self.wanted.push(Wanted::Tokens(part))?;
-        Ok(part.number < whole)
+    // What stands in a new element, with its tags.
+    fn element(id: NameId, content: Wanted) -> Parts {
+        Parts {
+            piece: Some(Piece::Start(id)),
+            first: Some(content),
+            second: Some(Wanted::End(id)),
+        }
     }
 
-    // Begins a new element.
-    fn begin(&mut self, id: NameId) -> Result<(), NoMemory> {
-        self.pieces.push(Piece::Start(id))?;
-        self.wanted.push(Wanted::End(id))?;
-        Ok(())
+    // What may be wanted, one after the other.
+    fn wanted(first: Option<Wanted>, second: Option<Wanted>) -> Parts {
+        Parts {
+            piece: None,
+            first,
+            second,
+        }
+    }
+
+    // What is wanted alone.
+    fn one(wanted: Wanted) -> Parts {
+        Parts::wanted(Some(wanted), None)
     }
 }
 
-// Builds a column over no tokens, and tells whether it can be.
-fn build_empty(ground: Ground<'_>, built: &mut Built, column: u32) -> Result<bool, NoMemory> {
-    let costs = ground.fronts.empty.as_slice();
-    let Some(form) = ground.forms.get(column as usize) else {
-        return Ok(false);
-    };
-    if cost_at(costs, column) >= HEAVIEST {
-        return Ok(false);
+impl<'a> Ground<'a> {
+    // What a column costs over no tokens.
+    fn empty(&self, column: u32) -> u32 {
+        cost_at(self.fronts.empty.as_slice(), column)
     }
-    match form {
-        Form::Never => Ok(false),
-        Form::Element(id, inner) => {
-            built.begin(*id)?;
-            built.want_empty(*inner)
+
+    // The rank of a column of a cost over no tokens. What stands in an element costs less, and the
+    // other columns that one is built of have smaller numbers.
+    fn rank_of_empty(&self, cost: u32, column: u32) -> u64 {
+        let columns = u64::try_from(self.forms.len()).unwrap_or(u64::MAX);
+        let rank = u64::saturating_mul(u64::from(cost), columns);
+        u64::saturating_add(rank, u64::saturating_add(u64::from(column), 1))
+    }
+
+    // The rank of what is wanted: least is that of an end tag, then come columns over no tokens, and
+    // then derivations.
+    fn rank(&self, wanted: Wanted) -> u64 {
+        match wanted {
+            Wanted::End(_) => 0,
+            Wanted::Empty(column) => self.rank_of_empty(self.empty(column), column),
+            Wanted::Tokens(span) => {
+                let first = self.rank_of_empty(HEAVIEST, 0);
+                u64::saturating_add(first, u64::from(span.number))
+            }
         }
-        Form::Nothing => Ok(true),
-        Form::OneOf(members) => match cheapest_of(members.as_slice(), costs) {
-            Some(member) => built.want_empty(member),
-            None => Ok(false),
-        },
-        Form::Opt(_) => Ok(true),
-        Form::Star(_, _) => Ok(true),
-        Form::Plus(inner) => built.want_empty(*inner),
-        Form::Then(first, rest) => {
-            built.want_empty(*rest)?;
-            built.want_empty(*first)
+    }
+
+    // What a column over no tokens is built of, where it can be.
+    fn parts_of_empty(&self, column: u32) -> Option<Parts> {
+        if self.empty(column) >= HEAVIEST {
+            return None;
+        }
+        match self.forms.get(column as usize)? {
+            Form::Never => None,
+            Form::Element(id, inner) => Some(Parts::element(*id, Wanted::Empty(*inner))),
+            Form::Nothing => Some(Parts::wanted(None, None)),
+            Form::OneOf(members) => {
+                let member = cheapest_of(members.as_slice(), self.fronts.empty.as_slice())?;
+                Some(Parts::one(Wanted::Empty(member)))
+            }
+            Form::Opt(_) => Some(Parts::wanted(None, None)),
+            Form::Star(_, _) => Some(Parts::wanted(None, None)),
+            Form::Plus(inner) => Some(Parts::one(Wanted::Empty(*inner))),
+            Form::Then(first, rest) => {
+                let both = (Wanted::Empty(*first), Wanted::Empty(*rest));
+                Some(Parts::wanted(Some(both.0), Some(both.1)))
+            }
+        }
+    }
+
+    // What a column is built of, where a part of a class alone has tokens.
+    fn parts_of_one(&self, form: &Form, span: Span, (part, class): (u32, u32)) -> Option<Parts> {
+        let inner = |column| {
+            Wanted::Tokens(Span {
+                column,
+                number: part,
+                ..span
+            })
+        };
+        match form {
+            Form::Never => None,
+            Form::Nothing => None,
+            Form::Element(id, content) => Some(Parts::element(*id, inner(*content))),
+            Form::OneOf(members) => {
+                let member = member_of(self.classes, members.as_slice(), class)?;
+                Some(Parts::one(inner(member)))
+            }
+            Form::Opt(one) => Some(Parts::one(inner(*one))),
+            Form::Star(one, _) => Some(Parts::one(inner(*one))),
+            Form::Plus(one) => Some(Parts::one(inner(*one))),
+            Form::Then(first, rest) => {
+                let both = if self.classes.of(*first) == class {
+                    (inner(*first), Wanted::Empty(*rest))
+                } else {
+                    (Wanted::Empty(*first), inner(*rest))
+                };
+                Some(Parts::wanted(Some(both.0), Some(both.1)))
+            }
+        }
+    }
+
+    // What a column over some tokens is built of, where it can be. Where the span is shorter than
+    // the derivation, a cheaper reach may go far enough, by an earlier one.
+    fn parts_of_span(&self, wanted: Span) -> Option<Parts> {
+        let form = self.forms.get(wanted.column as usize)?;
+        let front = self.fronts.at(wanted.column, wanted.from).near;
+        let mut span = wanted;
+        if let Some(reach) = reach_to(front, wanted.to) {
+            span.number = reach.via.min(wanted.number);
+        }
+        match self.derivations.get(span.number)?.rule {
+            Rule::Token => Some(Parts::piece(Piece::Kept)),
+            Rule::Text { rest } => Some(parts_of_text(span, rest)),
+            Rule::One { part, column } => self.parts_of_one(form, span, (part, column)),
+            Rule::Two { first, cut, second } => parts_of_two(form, span, cut, (first, second)),
+        }
+    }
+
+    // What a goal is built of, where it can be.
+    fn parts_of(&self, wanted: Wanted) -> Option<Parts> {
+        match wanted {
+            Wanted::End(id) => Some(Parts::piece(Piece::End(id))),
+            Wanted::Empty(column) => self.parts_of_empty(column),
+            Wanted::Tokens(span) => self.parts_of_span(span),
         }
     }
 }
@@ -93,129 +199,132 @@ fn member_of(classes: &Classes, members: &[u32], class: u32) -> Option<u32> {
         .find(|member| classes.of(*member) == class)
 }
 
-// Builds a column of which a part of a class alone has tokens, and tells whether it can be.
-fn build_one(
-    ground: Ground<'_>,
-    built: &mut Built,
-    form: &Form,
-    span: Span,
-    (part, class): (u32, u32),
-) -> Result<bool, NoMemory> {
-    let inner = |column| Span {
-        column,
-        number: part,
-        from: span.from,
-        to: span.to,
+// What a column is built of that begins with a text, by the derivation of the rest.
+fn parts_of_text(span: Span, rest: u32) -> Parts {
+    let from = u32::saturating_add(span.from, 1);
+    if from >= span.to {
+        return Parts::piece(Piece::Kept);
+    }
+    let rest = Span {
+        number: rest,
+        from,
+        ..span
     };
-    match form {
-        Form::Never => Ok(false),
-        Form::Nothing => Ok(false),
-        Form::Element(id, content) => {
-            built.begin(*id)?;
-            built.want(span.number, inner(*content))
-        }
-        Form::OneOf(members) => match member_of(ground.classes, members.as_slice(), class) {
-            Some(member) => built.want(span.number, inner(member)),
-            None => Ok(false),
-        },
-        Form::Opt(one) => built.want(span.number, inner(*one)),
-        Form::Star(one, _) => built.want(span.number, inner(*one)),
-        Form::Plus(one) => built.want(span.number, inner(*one)),
-        Form::Then(first, rest) => {
-            if ground.classes.of(*first) == class {
-                built.want_empty(*rest)?;
-                return built.want(span.number, inner(*first));
-            }
-            let wanted = built.want(span.number, inner(*rest))?;
-            built.want_empty(*first)?;
-            Ok(wanted)
-        }
+    Parts {
+        piece: Some(Piece::Kept),
+        first: Some(Wanted::Tokens(rest)),
+        second: None,
     }
 }
 
-// Builds a column with one part up to a cut and another from there, and tells whether it can be.
-// The span may end at the cut or before it.
-fn build_two(
-    built: &mut Built,
-    form: &Form,
-    span: Span,
-    cut: u32,
-    (first, second): (u32, u32),
-) -> Result<bool, NoMemory> {
+// What a column is built of that has one part up to a cut and another from there. The span may end
+// at the cut or before it.
+fn parts_of_two(form: &Form, span: Span, cut: u32, (first, second): (u32, u32)) -> Option<Parts> {
     let (one, two) = match form {
         Form::Star(one, _) => (*one, span.column),
         Form::Plus(one) => (*one, span.column),
         Form::Then(one, two) => (*one, *two),
-        _ => return Ok(false),
+        _ => return None,
     };
-    let mut wanted = true;
-    if cut < span.to {
-        let part = Span {
-            column: two,
-            number: second,
-            from: cut,
-            to: span.to,
-        };
-        wanted = built.want(span.number, part)?;
-    } else if let Form::Then(_, _) = form {
-        built.want_empty(two)?;
-    }
     let part = Span {
         column: one,
         number: first,
         from: span.from,
         to: span.to.min(cut),
     };
-    Ok(built.want(span.number, part)? && wanted)
+    let rest = Span {
+        column: two,
+        number: second,
+        from: cut,
+        to: span.to,
+    };
+    let after = match form {
+        _ if cut < span.to => Some(Wanted::Tokens(rest)),
+        Form::Then(_, _) => Some(Wanted::Empty(two)),
+        _ => None,
+    };
+    Some(Parts::wanted(Some(Wanted::Tokens(part)), after))
 }
 
-// Builds a column over some tokens, and tells whether it can be. Where the span is shorter than the
-// derivation, a cheaper reach may go far enough, by an earlier one.
-fn build_span(ground: Ground<'_>, built: &mut Built, wanted: Span) -> Result<bool, NoMemory> {
-    let Some(form) = ground.forms.get(wanted.column as usize) else {
-        return Ok(false);
-    };
-    let front = ground.fronts.at(wanted.column, wanted.from).near;
-    let mut span = wanted;
-    if let Some(reach) = reach_to(front, wanted.to) {
-        span.number = reach.via.min(wanted.number);
+// Puts a piece, if there is one, after the others.
+fn push_piece(pieces: &mut Vec<Piece>, piece: Option<Piece>) -> Result<(), NoMemory> {
+    if let Some(piece) = piece {
+        pieces.push(piece)?;
     }
-    let Some(made) = ground.derivations.get(span.number) else {
-        return Ok(false);
-    };
-    match made.rule {
-        Rule::Token => {
-            built.pieces.push(Piece::Kept)?;
-            Ok(true)
+    Ok(())
+}
+
+impl Built {
+    // Wants a part of what has a rank, and tells whether its own is lower. Only then it is wanted.
+    fn want(
+        &mut self,
+        ground: Ground<'_>,
+        rank: u64,
+        part: Option<Wanted>,
+    ) -> Result<bool, NoMemory>
+        ensures { OnOk result (3 * work_in self.new.goals.items ≤
+            3 * work_in self.old.goals.items + work_of rank) }
+    {
+        let Some(wanted) = part else {
+            return Ok(true);
+        };
+        let goal = Goal {
+            wanted,
+            rank: ground.rank(wanted),
+        };
+        if goal.rank >= rank {
+            return Ok(false);
         }
-        Rule::Text { rest } => {
-            built.pieces.push(Piece::Kept)?;
-            let from = u32::saturating_add(span.from, 1);
-            if from >= span.to {
-                return Ok(true);
-            }
-            let part = Span {
-                number: rest,
-                from,
-                ..span
-            };
-            built.want(span.number, part)
-        }
-        Rule::One { part, column } => build_one(ground, built, form, span, (part, column)),
-        Rule::Two { first, cut, second } => build_two(built, form, span, cut, (first, second)),
+        self.goals.push(goal)?;
+        Ok(true)
+    }
+
+    // Puts in the place of a goal of a rank what it is built of, and tells whether that has lower
+    // ones.
+    fn put(&mut self, ground: Ground<'_>, rank: u64, parts: Parts) -> Result<bool, NoMemory>
+        ensures { OnOk result (work_in self.new.goals.items <
+            work_in self.old.goals.items + work_of rank) }
+    {
+        push_piece(&mut self.pieces, parts.piece)?;
+        let has_second = self.want(ground, rank, parts.second)?;
+        let has_first = self.want(ground, rank, parts.first)?;
+        Ok(has_first && has_second)
     }
 }
 
-// Builds what is wanted next, and tells whether it can be.
-fn build_next(ground: Ground<'_>, built: &mut Built, wanted: Wanted) -> Result<bool, NoMemory> {
-    match wanted {
-        Wanted::End(id) => {
-            built.pieces.push(Piece::End(id))?;
-            Ok(true)
-        }
-        Wanted::Empty(column) => build_empty(ground, built, column),
-        Wanted::Tokens(span) => build_span(ground, built, span),
+// What is wanted first: a column over a whole word of so many tokens.
+fn first_wanted(fronts: &Fronts, column: u32, tokens: u32) -> Option<Wanted> {
+    if tokens == 0 {
+        return Some(Wanted::Empty(column));
     }
+    let reach = reach_to(fronts.at(column, 0).near, tokens)?;
+    Some(Wanted::Tokens(Span {
+        column,
+        number: reach.via,
+        from: 0,
+        to: tokens,
+    }))
+}
+
+// The pieces of what is wanted: what each goal is built of has lower ranks.
+fn pieces_of(alloc: Global, ground: Ground<'_>, wanted: Wanted) -> Result<Vec<Piece>, MakeError> {
+    let mut built = Built {
+        pieces: Vec::new(alloc),
+        goals: Vec::new(alloc),
+    };
+    built.goals.push(Goal {
+        wanted,
+        rank: ground.rank(wanted),
+    })?;
+    while let Some(goal) = built.goals.pop() {
+        let Some(parts) = ground.parts_of(goal.wanted) else {
+            return Err(MakeError::Unproved);
+        };
+        if !built.put(ground, goal.rank, parts)? {
+            return Err(MakeError::Unproved);
+        }
+    }
+    Ok(built.pieces)
 }
 
 /// The pieces of a column over a whole word of so many tokens, by what was made of it.
@@ -236,30 +345,8 @@ pub fn build(
         derivations: &filled.derivations,
         classes: &filled.classes,
     };
-    let mut built = Built {
-        pieces: Vec::new(alloc),
-        wanted: Vec::new(alloc),
-    };
-    if tokens == 0 {
-        built.want_empty(column)?;
-    } else {
-        let Some(reach) = reach_to(fronts.at(column, 0).near, tokens) else {
-            return Err(MakeError::Unproved);
-        };
-        built.wanted.push(Wanted::Tokens(Span {
-            column,
-            number: reach.via,
-            from: 0,
-            to: tokens,
-        }))?;
+    match first_wanted(fronts, column, tokens) {
+        Some(wanted) => pieces_of(alloc, ground, wanted),
+        None => Err(MakeError::Unproved),
     }
-    for _wanted in 0..MOST_WANTED {
-        let Some(wanted) = built.wanted.pop() else {
-            return Ok(built.pieces);
-        };
-        if !build_next(ground, &mut built, wanted)? {
-            return Err(MakeError::Unproved);
-        }
-    }
-    Err(MakeError::TooMany)
 }
