@@ -101,7 +101,7 @@ expect "a hundred lines, each behind its reply" 0 "100$lf" bash -c 'coproc sessi
     answered=0
     for _ in $(seq 100); do
         echo undo >&"${session[1]}"
-        read -r -t 300 reply <&"${session[0]}" && [ "$reply" = "no history" ] && answered=$((answered + 1))
+        read -r -t 900 reply <&"${session[0]}" && [ "$reply" = "no history" ] && answered=$((answered + 1))
     done
     echo $answered' "$pvtag"
 expect "a line in two pieces" 0 "show 16$lf<doc>Hello</doc>$lf" bash -c '{ printf sh; sleep 0.2; printf "ow\r\nquit\n"; } | "$0" session a.dtd doc hello.xml' "$pvtag"
@@ -117,8 +117,9 @@ expect "its status" 8 "" bash -c 'script 268435457 | timeout 3000 "$0" session a
 
 # The program for wide lists.
 says "what acts on a terminal" 2 "usage$lf" '.x?.31m. is no command: .*' "$pvlong" "$(printf 'x\033[31m')"
-says "pvlong, no words" 2 "usage$lf" "one of need, complete" "$pvlong"
-says "pvlong, another question" 2 "usage$lf" ".check. is no command: they are need, complete" "$pvlong" check a.dtd doc hello.xml
+says "pvlong, no words" 2 "usage$lf" "one of check, need, complete" "$pvlong"
+says "pvlong, another question" 2 "usage$lf" ".valid. is no command: they are check, need, complete" "$pvlong" valid a.dtd doc hello.xml
+expect "pvlong, a verdict" 0 "possible 1$lf" "$pvlong" check a.dtd doc hello.xml
 says "pvlong, a missing DTD" 3 "" "nothing.dtd: there is no such file" "$pvlong" need nothing.dtd doc hello.xml
 says "pvlong, a missing document" 3 "" "nothing.xml: there is no such file" "$pvlong" need a.dtd doc nothing.xml
 expect "pvlong, by a pipe" 0 "need 2$lf" bash -c 'printf "<doc><head/>t</doc>" | "$0" need a.dtd doc /dev/stdin' "$pvlong"
