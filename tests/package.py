@@ -227,7 +227,7 @@ def try_completion(trial: Trial) -> None:
     unbuilt = trial.folder / "unbuilt"
     subprocess.run(["git", "clone", "-q", str(TOP), str(unbuilt)], check=True)
     trial.expect("nothing is built for a completion", completed(str(unbuilt / "pvtag"), "check", blank, "l") == [] and not (unbuilt / "build").exists())
-    for words, wanted in ((["n"], "need"), ([""], "need complete"), (["need", blank, "l"], "letter lb")):
+    for words, wanted in ((["n"], "need"), ([""], "check need complete"), (["need", blank, "l"], "letter lb")):
         told = subprocess.run(["bash", "-c", script, TOP / "tools/completion.bash", other, *words], capture_output=True, text=True, check=False)
         trial.expect("a completion of pvlong", told.stdout == f"{wanted}\n", (words, told))
     for words, wanted in (([""], "valid check need --help --version"), (["c"], "check"), (["need", blank, "l"], "letter lb")):
