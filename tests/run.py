@@ -216,7 +216,7 @@ CHECKS = [
         "tagged by the examples in Python and Perl"),
     row("wide_clients", "what clients say of wide lists", "", 3600, "python3 tests/wide_clients.py PVTAG PVLONG",
         "what the page, the language server and reports say of a list that is too wide to count, by `pvlong` and by a stand-in for it: "
-        "numbers, ranges, nothing; that a move ends what is asked"),
+        "numbers, ranges, nothing; that a move ends what is asked; verdicts on lists that are too wide for a session"),
     row("build", "the build, with a stand-in for the kit", "", 3600, "python3 tests/build.py",
         "`tools/build`, with a stand-in for the kit"),
     row("runner", "the run of these checks", "", 3600, "python3 tests/runner.py",

@@ -14,7 +14,7 @@ import threading
 sys.dont_write_bytecode = True
 
 from lib.annotate.fixture import ARTICLE, FOLDER, TOP, Server, need, run_cases, same  # noqa: E402
-from lib.beside import MANY_PARTS, VALID, WIDE, Beside  # noqa: E402
+from lib.beside import MANY_PARTS, TOO_MANY, VALID, WIDE, Beside  # noqa: E402
 from lib.lsp_client import CAPABILITIES, Client, edited, edits_of, finished, uri_of  # noqa: E402
 from lib.waiting import PATIENCE, until  # noqa: E402
 
@@ -120,12 +120,12 @@ def reports_tell(program, other=None):
         for count, told in (("0 need 2", (2, None)), ("0 need 1 to 2", (1, "1 to 2 elements are missing")), ("8 no limit", (None, None)))[:1 if other else 3]:
             if other is None:
                 beside.tells(count, "0 ")
-            row, = rows_of(beside, path)
+            row, = rows_of(beside, ARTICLE, "doc", path)
             same((row["verdict"], row.get("missing"), row.get("sentence")), ("possible", *told), "a row")
 
 
-def rows_of(beside, path):
-    words = [sys.executable, os.path.join(TOP, "clients", "report"), "--program", beside.program, "--need", ARTICLE, "doc", path]
+def rows_of(beside, *words):
+    words = [sys.executable, os.path.join(TOP, "clients", "report"), "--program", beside.program, "--need", *words]
     ran = subprocess.run(words, capture_output=True, text=True, timeout=PATIENCE)
     same((ran.returncode, ran.stderr), (0, ""), "a report")
     return [json.loads(line) for line in ran.stdout.splitlines()[1:]]
@@ -153,6 +153,32 @@ CHECKED = (
     ("<r>{}</r>", "0 possible 1", "1 list isn't valid yet, and inserting elements can make the document valid"),
     ("<r><b/>{}</r>", "1 impossible 0", "no insertions can make the document valid"),
 )
+# What a report says of them: the verdict, how many lists aren't valid, and how many elements are missing.
+JUDGED = (("valid", 0, 0), ("possible", 1, None), ("impossible", None, None))
+NOT_TAGGED = "this list has too many kids under this DTD; the document can be read and judged, not tagged"
+NOT_REPAIRED = "; the list at 0 can't be repaired by adding elements"
+
+
+def reports_judge(program, other=None):
+    """The report's verdict on a document with a list that is too wide for a session; without `pvlong`'s it is refused."""
+    with Beside(program, other) as beside:
+        dtd, doc = (os.path.join(beside.folder, name) for name in ("many.dtd", "doc.xml"))
+        with open(dtd, "w", encoding="utf-8") as file:
+            file.write(MANY_PARTS)
+        for (form, answer, _), judged in zip(CHECKED, JUDGED, strict=True):
+            with open(doc, "w", encoding="utf-8") as file:
+                file.write(form.format(TOO_MANY))
+            if other is None:
+                beside.tells("8 no wide 0", "8 no wide 0", answer)
+            row, = rows_of(beside, dtd, "r", doc)
+            same((row["verdict"], row.get("open"), row.get("missing")), judged, "a verdict")
+            same((row["line"], row["column"], row["sentence"].removesuffix(NOT_REPAIRED)), (1, 1, NOT_TAGGED), "what is said of it")
+            same(row["sentence"].endswith(NOT_REPAIRED), judged[0] == "impossible", "a list that can't be repaired")
+        if other is None:
+            for answer in ("5 ", "8 limit width 0"):
+                beside.tells("8 no wide 0", "8 no wide 0", answer)
+                row, = rows_of(beside, dtd, "r", doc)
+                same((row["verdict"], row["sentence"]), ("refused", NOT_TAGGED.partition(";")[0]), "no verdict")
 
 
 def sessions_refuse(program, other=None):
@@ -162,7 +188,7 @@ def sessions_refuse(program, other=None):
         with open(dtd, "w", encoding="utf-8") as file:
             file.write(MANY_PARTS)
         for form, answer, told in CHECKED:
-            text = form.format("<a/>" * 3000)
+            text = form.format(TOO_MANY)
             if other is None:
                 beside.tells("8 no wide 0", "8 no wide 0", answer)
             with open(doc, "w", encoding="utf-8") as file:
@@ -179,8 +205,8 @@ def sessions_refuse(program, other=None):
             need(ran.returncode == 1 and ran.stderr.endswith(f"this list has too many kids under this DTD; {told}\n"), f"the page isn't opened: {ran}")
 
 
-CASES = [page_asks, page_tells_ranges, moves_end_it, server_tells, server_ends_it, reports_tell, command_completes, sessions_refuse]
-OF_BOTH = [page_asks, server_tells, reports_tell, command_completes, sessions_refuse]
+CASES = [page_asks, page_tells_ranges, moves_end_it, server_tells, server_ends_it, reports_tell, command_completes, sessions_refuse, reports_judge]
+OF_BOTH = [page_asks, server_tells, reports_tell, command_completes, sessions_refuse, reports_judge]
 
 
 def main():

@@ -3,8 +3,9 @@ import contextlib
 import os
 import tempfile
 
-# Under a DTD of so many parts a session takes lists of some two thousand kids.
-MANY_PARTS = f"<!ELEMENT r (a*, b)><!ELEMENT a EMPTY><!ELEMENT b EMPTY><!ELEMENT n ({','.join(['a?'] * 32_000)})>"
+# Under a DTD of so many parts a session takes lists of some four thousand kids, and not so many.
+MANY_PARTS = f"<!ELEMENT r (a*, b)><!ELEMENT a EMPTY><!ELEMENT b EMPTY><!ELEMENT n ({','.join(['a?'] * 8_000)})>"
+TOO_MANY = "<a/>" * 4500
 WIDE = f"<doc>{'<p>words</p>' * 3000}</doc>"
 VALID = WIDE.replace("<doc>", "<doc><head></head><sec>").replace("</doc>", "</sec></doc>")
 # It keeps a line for each run, and inserts what a wide document lacks. One that is held waits.

@@ -15,7 +15,7 @@ from typing import NamedTuple
 from pvtag.attributes import MISSING, Attributes, python_with_lxml
 from pvtag.dtd import Dtd
 from pvtag.encodings import encoding_fault
-from pvtag.faults import fault_of
+from pvtag.faults import TOO_WIDE, fault_of
 from pvtag.finder import NAME as NAME_OF, Finder, Named, Plain, names_in
 from pvtag.layout import Layout
 from pvtag.long import Counted, counted
@@ -38,6 +38,10 @@ NAME = re.compile(NAME_OF)
 
 def no_name(root: str) -> str:
     return f"the root that it names, `{shown(root)}`, is no name of XML"
+
+
+def impossible_at(path: str) -> str:
+    return f"the list at {path} can't be repaired by adding elements"
 
 
 class Options(NamedTuple):
@@ -84,8 +88,8 @@ class Judge:
 
     def __init__(self, program: list[str], pair: tuple[str, str] | None, options: Options) -> None:
         self.program, self.options, self.need, self.most = program, options, options.need, options.most
-        # What is asked where a list is too wide for `need`.
-        self.long = find_long(program) if options.need else None
+        # What is asked where a list is too wide: for `need`, or to be tagged at all.
+        self.long = find_long(program)
         self.many = Many(find_many(program))
         self.finder, self.lock, self.known = Finder(program), threading.Lock(), dict[tuple[str, str], Under]()
         self.given_pair = self.checked_pair(*pair) if pair is not None else None
@@ -245,7 +249,27 @@ class Judge:
                 raise Trouble(f"{given.under.name} has changed and isn't taken any more: {answer.line}")
             case -1, _:
                 return replace(row, verdict="failed", sentence=f"it took more than {self.most:.0f} seconds")
-        return self.refused(row, given, answer)
+        refused = self.refused(row, given, answer)
+        return self.too_wide(row, given, refused) if answer.line.startswith(TOO_WIDE) else refused
+
+    def too_wide(self, row: Row, given: Given, refused: Row) -> Row:
+        """The row of a document with a list that is too wide to be tagged: what `pvlong` answers for it. Where it doesn't, the document is refused."""
+        answer = None
+        with contextlib.suppress(Trouble):
+            answer = self.long_answer("check", given)
+        row = replace(row, line=refused.line, column=refused.column, sentence=f"{refused.sentence}; the document can be read and judged, not tagged")
+        match answer.line.split(" ") if answer is not None else ():
+            case ["valid"]:
+                return replace(row, verdict="valid", open=0, missing=0 if self.need else None)
+            case ["possible", count]:
+                return replace(row, verdict="possible", open=int(count))
+            case ["impossible", path]:
+                return replace(row, verdict="impossible", sentence=f"{row.sentence}; {impossible_at(path)}")
+        return refused
+
+    def long_answer(self, question: str, given: Given) -> Answer | None:
+        """What `pvlong` answers for a document, if it is there."""
+        return self.run(question, given.under.path, given.under.root, given.path, program=self.long) if self.long is not None else None
 
     def possible(self, row: Row, given: Given) -> Row:
         """The row with how many elements are missing, where that is asked for and can be told: of a range the least number, and the range in the
@@ -262,15 +286,15 @@ class Judge:
         words = told.line.split(" ")
         if words[0] == "need":
             return Counted(int(words[1]), int(words[1]))
-        if words[:2] != ["no", "wide"] or self.long is None:
+        if words[:2] != ["no", "wide"]:
             return None
         with contextlib.suppress(Trouble):
-            return counted(self.run("need", *asked, program=self.long))
+            return counted(self.long_answer("need", given))
         return None
 
     def impossible(self, row: Row, given: Given, path: str) -> Row:
         """The row with the place and the reason of an impossible list; without them where they can't be had."""
-        row = replace(row, verdict="impossible", sentence=f"the list at {path} can't be repaired by adding elements")
+        row = replace(row, verdict="impossible", sentence=impossible_at(path))
         try:
             source = given.source(shown(row.path))
             reason = next(iter(given.under.reasons.of_document(source.data, [path])), None)
