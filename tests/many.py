@@ -228,15 +228,17 @@ def reports(trial: Trial) -> None:
     """`clients/report` asks it, and `pvtag` itself where it has no answer; one that hangs is ended in time."""
     beside = trial.folder / "beside"
     beside.mkdir()
-    for name, data in (("dies.xml", "draft.xml"), ("memory.xml", "swapped.xml"), ("hangs.xml", "valid.xml")):
+    # So many that several are given to one process at a time.
+    good = [f"good-{number}.xml" for number in range(60)]
+    for name, data in (("dies.xml", "draft.xml"), ("memory.xml", "swapped.xml"), ("hangs.xml", "valid.xml"), *((name, "valid.xml") for name in good)):
         (trial.folder / name).write_bytes(DOCUMENTS[data])
     shutil.copy(trial.one, beside / "pvtag")
     (beside / "pvmany").write_text(STAND_IN)
     (beside / "pvmany").chmod(0o755)
     for program, wanted in ((str(beside / "pvtag"), {"empty.xml": "valid", "hangs.xml": "failed"}), (trial.one, {"empty.xml": "refused", "hangs.xml": "valid"})):
-        names = ["valid.xml", "empty.xml", "dies.xml", "draft.xml", "memory.xml", "hangs.xml", "caf\u00e9.xml"]
+        names = [*good[:20], "valid.xml", "empty.xml", "dies.xml", "draft.xml", "memory.xml", "hangs.xml", "caf\u00e9.xml", *good[20:]]
         wanted = {"valid.xml": "valid", "dies.xml": "possible", "draft.xml": "valid" if program != trial.one else "possible", "memory.xml": "impossible",
-                  "caf\u00e9.xml": "valid", **wanted}
+                  "caf\u00e9.xml": "valid", **dict.fromkeys(good, "valid"), **wanted}
         ran = subprocess.run([TOP / "clients" / "report", "--program", program, "--format", "tsv", "--no-attributes", "--most", "5", "--jobs", "2", DTD, "letter", *names],
                              cwd=trial.folder, capture_output=True, text=True, timeout=PATIENCE, check=False)
         rows = [line.split("\t") for line in ran.stdout.splitlines() if not line.startswith("#")]

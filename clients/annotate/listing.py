@@ -20,6 +20,7 @@ from pvtag.program import Stopped, Trouble, shown_name
 from pvtag.reporting.judging import Judge, Options, seen_of
 from pvtag.reporting.rows import Row
 from pvtag.reporting.runs import Runs
+from pvtag.reporting.together import Together
 
 DOCUMENT, TEXT = ".xml", ".txt"
 # The most seconds that the program has for one document.
@@ -102,8 +103,8 @@ class Verdicts:
                 judge = Judge(program, (dtd, root), Options(need=True, most=MOST, attributes=True, by_doctype=False))
                 seen = [seen_of(path) for path in paths]
                 jobs = max(1, len(os.sched_getaffinity(0)) // 2)
-                for number, row in Runs(judge.row, jobs).over(paths):
-                    self.rows[paths[number]] = seen[number], row
+                for found in Runs(Together(judge).rows, jobs).over(paths):
+                    self.rows |= {paths[number]: (seen[number], row) for number, row in found}
                 self.why = ""
         except Stopped:
             return

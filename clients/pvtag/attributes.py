@@ -321,7 +321,7 @@ class Attributes:
         subset declares of attributes, notations and unparsed entities counts, and before the DTD, as in XML."""
         masked = document if isinstance(document, Masked) else mask(document, self.dtd)
         subset = masked.declarations
-        if not self.declares_any and not subset.strip() and WITH_ATTRIBUTE.search(masked.data) is None:
+        if not self.declares_any and not subset.strip() and not has_attributes(masked.data):
             return Checked([])
         if self.why_not:
             return Checked([], why_not=self.why_not)
@@ -336,6 +336,11 @@ class Attributes:
             return Checked([], why_not=answer["fault"])
         faults = Placing(self, masked).faults(answer["faults"]) if answer["faults"] or masked.unknown else []
         return Checked(faults, bool(answer["cut"]))
+
+
+def has_attributes(data: bytes) -> bool:
+    """Whether a tag of a document may have an attribute."""
+    return b"=" in data and WITH_ATTRIBUTE.search(data) is not None
 
 
 def attribute_of(row: Sequence[Any]) -> Attribute:

@@ -143,7 +143,7 @@ def handed_over(words: Sequence[str]) -> Iterator[tuple[list[str], list[int]]]:
 
 def is_utf_8(name: str) -> bool:
     """Whether the program takes a word."""
-    return not any("\udc80" <= char <= "\udcff" for char in name)
+    return name.isascii() or not any("\udc80" <= char <= "\udcff" for char in name)
 
 
 def uninterrupted(begin: "Callable[[], subprocess.Popen[bytes]]") -> "subprocess.Popen[bytes]":

@@ -1,17 +1,17 @@
 """An earlier report, or what a run that was ended left of one, and which of its rows still hold."""
 import hashlib
 import os
-from collections.abc import Iterator
-from dataclasses import replace
+from collections.abc import Iterable, Iterator
 from typing import IO
 
 from .rows import JUDGED, Head, Row, head_of, row_of, titles
 
 
 class Earlier:
-    """The rows of a report by the documents' paths. Only where each row stands is kept; a line that isn't whole is passed over."""
+    """The rows of a report by the documents' paths. Only where each row stands is kept; a line that isn't whole is passed over. It is looked for where
+    the rows stand, unless that is known."""
 
-    def __init__(self, path: str) -> None:
+    def __init__(self, path: str, places: dict[str, int] | None = None) -> None:
         self.path = path
         self.head: Head | None = None
         self.form, self.places = "json", dict[str, int]()
@@ -23,7 +23,7 @@ class Earlier:
         first = self.file.readline().decode(errors="replace")
         self.head = head_of(first)
         self.form = "tsv" if first.startswith("#") else "json"
-        self.places = {row.path: place for place, row in self.rows()}
+        self.places = {row.path: place for place, row in self.rows()} if places is None else places
 
     def rows(self) -> Iterator[tuple[int, Row]]:
         """All whole rows, each with where it stands."""
@@ -47,10 +47,18 @@ class Earlier:
         row = row_of(line.decode(errors="replace"), self.form) if line is not None else None
         return row if row is not None and row.path == path else None
 
+    def lines(self, paths: Iterable[str]) -> Iterator[bytes]:
+        """The rows of these documents as they stand there."""
+        for path in paths:
+            place = self.places.get(path)
+            line = self.line_at(place) if place is not None else None
+            if line is not None:
+                yield line + b"\n"
+
     def line_at(self, place: int) -> bytes | None:
         """The line that begins there, if it is whole. Several threads may read at once."""
         parts: list[bytes] = []
-        while self.file is not None and (part := os.pread(self.file.fileno(), 1 << 14, place)):
+        while self.file is not None and (part := os.pread(self.file.fileno(), 1 << 11, place)):
             before, end, _ = part.partition(b"\n")
             parts.append(before)
             if end:
@@ -72,7 +80,7 @@ class Earlier:
             return None
         if now.st_mtime_ns == row.time:
             return row
-        return replace(row, time=now.st_mtime_ns) if row.sum is not None and sum_of(path) == row.sum else None
+        return row._replace(time=now.st_mtime_ns) if row.sum is not None and sum_of(path) == row.sum else None
 
 
 def sum_of(path: str) -> str | None:

@@ -4,17 +4,13 @@ import hashlib
 import os
 import re
 import shutil
-import stat
 import threading
-import time
 from collections.abc import Iterator
-from dataclasses import replace
 from pathlib import Path
 from typing import NamedTuple
 
 from pvtag.attributes import MISSING, Attributes, python_with_lxml
 from pvtag.dtd import Dtd
-from pvtag.encodings import encoding_fault
 from pvtag.faults import TOO_WIDE, fault_of
 from pvtag.finder import NAME as NAME_OF, Finder, Named, Plain, names_in
 from pvtag.layout import Layout
@@ -157,51 +153,10 @@ class Judge:
             answer = run(program or self.program, *[word for word, _ in named], given=given, files=handed, most=self.most)
         return answer
 
-    def checked(self, given: Given) -> Answer:
-        """What `check` answers for a document."""
+    def answer(self, question: str, given: Given) -> Answer:
+        """What the program itself answers for a document: to `check`, or to `need` in a session."""
         asked = given.under.path, given.under.root, given.path
-        return self.many.ask("check", *asked, self.most) or self.run("check", *asked)
-
-    def row(self, path: str) -> Row:
-        """What this document comes to."""
-        start = time.monotonic()
-        row = self.judged(path)
-        return replace(row, seconds=round(time.monotonic() - start, 4))
-
-    def judged(self, path: str) -> Row:
-        """The row of a document as it is now. What changes meanwhile gets no verdict, and a DTD that does is a trouble: its sum stands in the report."""
-        try:
-            seen = os.stat(path)
-        except (OSError, ValueError) as fault:
-            return Row(path, verdict="unreadable", sentence=f"it can't be read: {getattr(fault, 'strerror', fault)}")
-        if not stat.S_ISREG(seen.st_mode):
-            what = "it is a folder that can't be read" if stat.S_ISDIR(seen.st_mode) else "it isn't a file"
-            return Row(path, verdict="unreadable", sentence=what)
-        row = Row(path, seen.st_size, seen.st_mtime_ns)
-        try:
-            data = read_file(path) if seen.st_size <= MOST_BYTES else None
-        except Trouble:
-            return replace(row, verdict="unreadable", sentence="it can't be read")
-        row = replace(row, sum=hashlib.sha256(data).hexdigest()) if data is not None else row
-        try:
-            under = self.under_of(path, data)
-        except Trouble as trouble:
-            encoded = encoding_fault(data) if data is not None else None
-            return replace(row, verdict="refused" if encoded else "no-dtd", sentence=encoded or str(trouble))
-        if self.options.by_doctype:
-            row = replace(row, dtd=under.name, root=under.root, dtd_sum=under.sum)
-        try:
-            with given(path, data, under) as document:
-                told = self.told(row, document, self.checked(document))
-                told = self.with_attributes(told, document) if document.masked is not None else told
-        except (OSError, ValueError, Trouble) as fault:
-            if isinstance(fault, Trouble) and os.access(path, os.R_OK):
-                raise
-            told = replace(row, verdict="unreadable", sentence="it can't be read")
-        under.test_unchanged()
-        if seen_of(path) != identity(seen):
-            return replace(row, verdict="failed", sentence="it changed while it was judged")
-        return told
+        return self.run("check", *asked) if question == "check" else self.run("session", *asked, given=b"need\n")
 
     def with_attributes(self, row: Row, given: Given) -> Row:
         """The row with what libxml2 says of attributes, and what is to be said of entities."""
@@ -210,12 +165,12 @@ class Judge:
             return row
         brought = masked.fault or next((it for it in masked.remarks if it.kind == "brings"), None)
         if brought is not None:
-            row = replace(row, verdict="refused", open=None, missing=None, line=None, column=None, sentence=None)
+            row = row._replace(verdict="refused", open=None, missing=None, line=None, column=None, sentence=None)
             return self.with_sentence(row, masked, brought.span, brought.sentence)
         if self.options.attributes and not (attributes.declares_any and attributes.why_not):
             checked = attributes.check(masked)
             if not checked.why_not:
-                row = replace(row, attributes="invalid" if checked.faults else "valid", faults=len(checked.faults))
+                row = row._replace(attributes="invalid" if checked.faults else "valid", faults=len(checked.faults))
             else:
                 row = self.with_sentence(row, masked, None, checked.sentence)
             for fault in checked.faults[:1]:
@@ -229,26 +184,26 @@ class Judge:
         if row.sentence is not None:
             return row
         at = Source("", masked.source).place(span.start) if span is not None else None
-        return replace(row, line=at and at.line, column=at and at.column, sentence=sentence)
+        return row._replace(line=at and at.line, column=at and at.column, sentence=sentence)
 
     def told(self, row: Row, given: Given, answer: Answer) -> Row:
         """The row with what `check` answered."""
         words = answer.line.split(" ")
         match answer.status, words[0]:
             case 0, "valid":
-                return replace(row, verdict="valid", open=0, missing=0 if self.need else None)
+                return row._replace(verdict="valid", open=0, missing=0 if self.need else None)
             case 0, "possible":
-                return self.possible(replace(row, verdict="possible", open=int(words[1])), given)
+                return row._replace(verdict="possible", open=int(words[1]))
             case 1, "impossible":
                 return self.impossible(row, given, words[1])
             case 2, _ if given.under is not self.given_pair:
-                return replace(row, verdict="no-dtd", sentence=no_name(given.under.root), dtd=None, root=None, dtd_sum=None)
+                return row._replace(verdict="no-dtd", sentence=no_name(given.under.root), dtd=None, root=None, dtd_sum=None)
             case 2, _:
                 raise Trouble(f"the program didn't take its words for {shown(row.path)}")
             case 6, _:
                 raise Trouble(f"{given.under.name} has changed and isn't taken any more: {answer.line}")
             case -1, _:
-                return replace(row, verdict="failed", sentence=f"it took more than {self.most:.0f} seconds")
+                return row._replace(verdict="failed", sentence=f"it took more than {self.most:.0f} seconds")
         refused = self.refused(row, given, answer)
         return self.too_wide(row, given, refused) if answer.line.startswith(TOO_WIDE) else refused
 
@@ -257,44 +212,44 @@ class Judge:
         answer = None
         with contextlib.suppress(Trouble):
             answer = self.long_answer("check", given)
-        row = replace(row, line=refused.line, column=refused.column, sentence=f"{refused.sentence}; the document can be read and judged, not tagged")
+        row = row._replace(line=refused.line, column=refused.column, sentence=f"{refused.sentence}; the document can be read and judged, not tagged")
         match answer.line.split(" ") if answer is not None else ():
             case ["valid"]:
-                return replace(row, verdict="valid", open=0, missing=0 if self.need else None)
+                return row._replace(verdict="valid", open=0, missing=0 if self.need else None)
             case ["possible", count]:
-                return replace(row, verdict="possible", open=int(count))
+                return row._replace(verdict="possible", open=int(count))
             case ["impossible", path]:
-                return replace(row, verdict="impossible", sentence=f"{row.sentence}; {impossible_at(path)}")
+                return row._replace(verdict="impossible", sentence=f"{row.sentence}; {impossible_at(path)}")
         return refused
 
     def long_answer(self, question: str, given: Given) -> Answer | None:
         """What `pvlong` answers for a document, if it is there."""
         return self.run(question, given.under.path, given.under.root, given.path, program=self.long) if self.long is not None else None
 
-    def possible(self, row: Row, given: Given) -> Row:
-        """The row with how many elements are missing, where that is asked for and can be told: of a range the least number, and the range in the
-        sentence."""
-        found = self.missing(given) if self.need else None
+    def is_open(self, row: Row) -> bool:
+        """Whether it is still to be asked how many elements are missing. Of a document that is too wide for that `sentence` says so."""
+        return self.need and row.verdict == "possible" and row.sentence is None
+
+    def needed(self, row: Row, given: Given, answer: Answer) -> Row:
+        """The row with how many elements are missing, where that is told: of a range the least number, and the range in the sentence."""
+        found = self.counted(given, answer)
         if found is None:
             return row
-        return replace(row, missing=found.least, sentence=found.sentence if found.least < found.most else None)
+        return row._replace(missing=found.least, sentence=found.sentence if found.least < found.most else None)
 
-    def missing(self, given: Given) -> Counted | None:
-        """How many elements are missing."""
-        asked = given.under.path, given.under.root, given.path
-        told = self.many.ask("need", *asked, self.most) or self.run("session", *asked, given=b"need\n")
-        words = told.line.split(" ")
+    def counted(self, given: Given, answer: Answer) -> Counted | None:
+        """How many elements are missing, by the answer to `need`."""
+        words = answer.line.split(" ")
         if words[0] == "need":
             return Counted(int(words[1]), int(words[1]))
-        if words[:2] != ["no", "wide"]:
-            return None
-        with contextlib.suppress(Trouble):
-            return counted(self.long_answer("need", given))
+        if words[:2] == ["no", "wide"]:
+            with contextlib.suppress(Trouble):
+                return counted(self.long_answer("need", given))
         return None
 
     def impossible(self, row: Row, given: Given, path: str) -> Row:
         """The row with the place and the reason of an impossible list; without them where they can't be had."""
-        row = replace(row, verdict="impossible", sentence=impossible_at(path))
+        row = row._replace(verdict="impossible", sentence=impossible_at(path))
         try:
             source = given.source(shown(row.path))
             reason = next(iter(given.under.reasons.of_document(source.data, [path])), None)
@@ -312,29 +267,24 @@ class Judge:
             return source.place(kids[kid].span.start)
 
         at = place(reason.kids[0]) if reason.kids else source.place(node.span.start)
-        return replace(row, line=at.line, column=at.column, sentence=reason.sentence(lambda kid: f" (line {place(kid).line})"))
+        return row._replace(line=at.line, column=at.column, sentence=reason.sentence(lambda kid: f" (line {place(kid).line})"))
 
     def refused(self, row: Row, given: Given, answer: Answer) -> Row:
         """The row with why the program gave no verdict."""
         verdict = {3: "unreadable", 7: "refused", 8: "refused"}.get(answer.status, "failed")
         if answer.status == 3:
-            return replace(row, verdict=verdict, sentence="it can't be read")
+            return row._replace(verdict=verdict, sentence="it can't be read")
         if answer.status < 0:
-            return replace(row, verdict=verdict, sentence=f"the program was ended by signal {-answer.status}")
+            return row._replace(verdict=verdict, sentence=f"the program was ended by signal {-answer.status}")
         fault = fault_of(answer.status, answer.line, {"document": given.source(shown(row.path))})
         place = fault.place
-        return replace(row, verdict=verdict, line=place and place.line, column=place and place.column, sentence=fault.sentence)
+        return row._replace(verdict=verdict, line=place and place.line, column=place and place.column, sentence=fault.sentence)
 
 
-@contextlib.contextmanager
-def given(path: str, data: bytes | None, under: Under) -> Iterator[Given]:
+def given(path: str, data: bytes | None, under: Under, copies: contextlib.ExitStack) -> Given:
     """A document as the program reads it: its file, or a copy in which its subset and its entities are masked."""
     masked = mask(data, under.data) if data is not None else None
-    if masked is None or masked.is_plain:
-        yield Given(path, masked, under)
-        return
-    with file_of(masked.data) as copy:
-        yield Given(copy, masked, under)
+    return Given(copies.enter_context(file_of(masked.data)) if masked is not None and not masked.is_plain else path, masked, under)
 
 
 def identity(seen: os.stat_result) -> tuple[int, ...]:

@@ -5,11 +5,14 @@ import select
 import subprocess
 import threading
 import time
+from collections.abc import Iterator, Sequence
 
 from pvtag.program import RUNNING, Answer, Stopped, is_made, is_utf_8
 
 # So many processes wait for a document at most, under all DTDs.
 MOST_IDLE = 64
+# So many bytes of names are given to one at a time: less than a pipe holds.
+MOST_GIVEN = 16_384
 # The status with which `pvtag` prints a line, by how the line begins. Any other line is asked of `pvtag` itself.
 STATUSES = {b"valid": 0, b"possible": 0, b"impossible": 1, b"document": 7, b"limit": 8, b"need": 0, b"no impossible": 0, b"no wide": 0, b"no heavy": 0}
 
@@ -44,27 +47,41 @@ class Process:
         self.words, self.held = words, b""
         self.run = RUNNING.start([*program, *words], stderr=subprocess.DEVNULL)
 
-    def line(self, name: bytes, end: float) -> bytes | None:
-        """The line for the document of this name, none where it isn't there by then. Where the process ends it has died."""
-        assert self.run.stdin and self.run.stdout
+    def give(self, names: Sequence[bytes]) -> None:
+        """Gives it the names of documents: few enough that it takes them while nobody reads its lines."""
+        assert self.run.stdin
         try:
-            self.run.stdin.write(name + b"\0")
+            self.run.stdin.write(b"".join(name + b"\0" for name in names))
             self.run.stdin.flush()
         except OSError:
             raise Died from None
+
+    def lines(self, names: Sequence[bytes], end: float) -> list[bytes]:
+        """The lines for the first of these documents, as many as are there; none where none is by then. Where the process ends it has died."""
+        assert self.run.stdout
         while True:
-            told, nul, line = self.held.partition(b"\0")
-            if nul and line.endswith(b"\n"):
-                self.held = b""
-                if told != name:
-                    raise Died
-                return line
-            if not select.select([self.run.stdout], [], [], max(end - time.monotonic(), 0))[0]:
-                return None
+            found = self.whole_lines(names)
+            if found or not select.select([self.run.stdout], [], [], max(end - time.monotonic(), 0))[0]:
+                return found
             more = os.read(self.run.stdout.fileno(), 65536)
             if not more:
                 raise Died
             self.held += more
+
+    def whole_lines(self, names: Sequence[bytes]) -> list[bytes]:
+        """The lines for the first of these documents that have come whole."""
+        found, at = list[bytes](), 0
+        for name in names:
+            begin = at + len(name) + 1
+            end = self.held.find(b"\n", begin) + 1
+            if not end:
+                break
+            if not self.held.startswith(name + b"\0", at):
+                raise Died
+            found.append(self.held[begin:end])
+            at = end
+        self.held = self.held[at:]
+        return found
 
     def end(self) -> None:
         """Ends it, whatever it does."""
@@ -76,7 +93,7 @@ class Process:
 
 
 class Many:
-    """The processes that wait for a document. Several threads may ask at once: each has one of its own meanwhile."""
+    """The processes that wait for documents. Several threads may ask at once: each has one of its own meanwhile."""
 
     def __init__(self, program: list[str] | None) -> None:
         self.program, self.lock, self.idle = program, threading.Lock(), list[Process]()
@@ -96,34 +113,46 @@ class Many:
         if over is not None:
             over.end()
 
-    def ask(self, question: str, dtd: str, root: str, path: str, most: float) -> Answer | None:
-        """What `pvtag check`, or a session to `need`, answers for a document within so many seconds: past them the status is -1. None where there is
-        no such answer here, and `pvtag` is to be asked itself: a process died at this document, had no memory for it, or can't be told its name."""
-        if self.program is None or not all(map(is_utf_8, (dtd, root, path))):
-            return None
-        end = time.monotonic() + most
-        words = question, dtd, root
+    def takes(self, dtd: str, root: str, path: str) -> bool:
+        """Whether there is the program, and it can be told these names."""
+        return self.program is not None and is_utf_8(dtd) and is_utf_8(root) and is_utf_8(path)
+
+    def answers(self, question: str, dtd: str, root: str, paths: Sequence[str], most: float) -> Iterator[list[Answer | None]]:
+        """What `pvtag check`, or a session to `need`, answers for each of these documents within so many seconds: past them the status is -1. Those
+        that come together are given together, in the order of the documents. None where there is no such answer here, and `pvtag` is to be asked
+        itself: a process died at this document, or had no memory for it."""
+        names, at = [os.fsencode(path) for path in paths], 0
+        while at < len(names):
+            for answers in self.from_one((question, dtd, root), names[at:at + fitting(names, at)], most):
+                at += len(answers)
+                yield answers
+
+    def from_one(self, words: tuple[str, str, str], names: Sequence[bytes], most: float) -> Iterator[list[Answer | None]]:
+        """What one process answers, up to the document at which it dies or takes too long."""
+        assert self.program
         try:
             process = self.taken(words) or Process(self.program, words)
         except OSError:
-            return None
+            yield [None]
+            return
+        at, last = 0, None
         try:
-            line = process.line(os.fsencode(path), end)
+            process.give(names)
+            while at < len(names) and (lines := process.lines(names[at:], time.monotonic() + most)):
+                at += len(lines)
+                yield [answer_of(line) for line in lines]
+            if at == len(names):
+                return self.put_back(process)
+            last = Answer(-1, b"")
         except Died:
-            line = b""
+            pass
         except BaseException:
             process.end()
             raise
-        status = status_of(line) if line else None
-        if line:
-            self.put_back(process)
-        else:
-            process.end()
+        process.end()
         if RUNNING.stopped:
             raise Stopped
-        if line is None:
-            return Answer(-1, b"")
-        return Answer(status, line) if status is not None else None
+        yield [last]
 
     def end(self) -> None:
         """Ends all that wait."""
@@ -131,3 +160,20 @@ class Many:
             idle, self.idle = self.idle, []
         for process in idle:
             process.end()
+
+
+def answer_of(line: bytes) -> Answer | None:
+    """The answer that a line is; none where `pvtag` has no such line."""
+    status = status_of(line)
+    return Answer(status, line) if status is not None else None
+
+
+def fitting(names: Sequence[bytes], at: int) -> int:
+    """How many of the names from there on are given together, one at least."""
+    size = count = 0
+    for name in names[at:]:
+        size += len(name) + 1
+        if count and size > MOST_GIVEN:
+            break
+        count += 1
+    return count

@@ -4,8 +4,8 @@ import io
 import json
 import re
 from collections.abc import Iterable
-from dataclasses import asdict, dataclass, fields
-from typing import ClassVar
+from dataclasses import asdict, dataclass
+from typing import ClassVar, NamedTuple
 
 from pvtag.program import CONTROLS
 
@@ -46,8 +46,7 @@ class Head:
         return json.dumps(told) if form == "json" else f"# {json.dumps(told)}"
 
 
-@dataclass(frozen=True)
-class Row:
+class Row(NamedTuple):
     """What was found of a document. `verdict` is "valid", "possible", "impossible", or why there is none: "refused" (no document within the
     limits), "unreadable" (no file, or one that can't be read), "failed" (the program ended otherwise, or took too long), "no-dtd" (its DTD isn't
     found, or can't be read).
@@ -78,12 +77,12 @@ class Row:
 
     def text(self, form: str) -> str:
         """The line, without its end."""
-        values = asdict(self)
+        values = zip(NAMES, self)
         if form == "json":
-            return json.dumps({name: value for name, value in values.items() if value is not None}).replace("\x7f", "\\u007f")
+            return json.dumps({name: value for name, value in values if value is not None}).replace("\x7f", "\\u007f")
         if form == "csv":
-            return comma_line("" if value is None else no_formula(name, escaped(str(value))) for name, value in values.items())
-        return "\t".join("" if value is None else escaped(str(value)) for value in values.values())
+            return comma_line("" if value is None else no_formula(name, escaped(str(value))) for name, value in values)
+        return "\t".join("" if value is None else escaped(str(value)) for value in self)
 
 
 def kinds_of(row: Row) -> set[str]:
@@ -93,9 +92,8 @@ def kinds_of(row: Row) -> set[str]:
     return {row.verdict, *["attributes"] * has_faults, *["invalid"] * is_invalid}
 
 
-NAMES = [it.name for it in fields(Row)]
-KINDS = {it.name: float if it.name == "seconds" else int if it.name in ("size", "time", "open", "missing", "line", "column", "faults") else str
-         for it in fields(Row)}
+NAMES = list(Row._fields)
+KINDS = {name: float if name == "seconds" else int if name in ("size", "time", "open", "missing", "line", "column", "faults") else str for name in NAMES}
 
 
 def escape(match: re.Match[str]) -> str:
@@ -147,7 +145,7 @@ def row_of(line: str, form: str) -> Row | None:
         row = Row(**values)
     except (ValueError, TypeError, RecursionError):
         return None
-    of_kind = all(type(value) in (KINDS[name], type(None)) for name, value in asdict(row).items())
+    of_kind = all(value is None or type(value) is kind for value, kind in zip(row, KINDS.values()))
     return row if of_kind and row.path is not None and row.verdict in (*JUDGED, *UNJUDGED) else None
 
 

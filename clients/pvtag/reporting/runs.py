@@ -1,4 +1,4 @@
-"""Documents judged side by side, with no more in hand than a few for each job."""
+"""Documents judged side by side, with no more in hand than some for each job."""
 import queue
 import threading
 import time
@@ -9,26 +9,33 @@ from pvtag.program import Stopped
 from .rows import Row
 
 
-class Runs:
-    """Judges documents by several threads. `rows` gives each row once it is there; a row's number is that of its document."""
+# So many documents a job takes at a time at most; fewer once few are left, so that all jobs end together.
+MOST_TAKEN = 32
+# Rows, each with its document's place.
+Found = list[tuple[int, Row]]
 
-    def __init__(self, judge: Callable[[str], Row], jobs: int) -> None:
+
+class Runs:
+    """Judges documents by several threads, some at a time: `judge` gives their rows as they come, each with its document's place among them."""
+
+    def __init__(self, judge: Callable[[Sequence[str]], Iterator[Found]], jobs: int) -> None:
         self.judge, self.jobs = judge, jobs
-        self.rows: queue.SimpleQueue[tuple[int, Row | BaseException]] = queue.SimpleQueue()
-        self.lock = threading.Lock()
+        self.rows: queue.SimpleQueue[Found | BaseException] = queue.SimpleQueue()
+        self.lock, self.taken = threading.Lock(), 0
         self.threads: list[threading.Thread] = []
 
-    def over(self, paths: Sequence[str]) -> Iterator[tuple[int, Row]]:
-        """The rows of these documents, in the order in which they are found."""
-        numbers = iter(range(len(paths)))
+    def over(self, paths: Sequence[str]) -> Iterator[Found]:
+        """The rows of these documents, in the order in which they are found, those that come together at once."""
         for _ in range(min(self.jobs, len(paths))):
-            self.threads.append(threading.Thread(target=self.work, args=(paths, numbers), daemon=True))
+            self.threads.append(threading.Thread(target=self.work, args=[paths], daemon=True))
             self.threads[-1].start()
-        for _ in paths:
-            number, row = self.rows.get()
-            if isinstance(row, BaseException):
-                raise row
-            yield number, row
+        left = len(paths)
+        while left:
+            found = self.rows.get()
+            if isinstance(found, BaseException):
+                raise found
+            left -= len(found)
+            yield found
 
     def end(self) -> None:
         """Waits for what was stopped, but not for long: a device may not answer."""
@@ -36,20 +43,23 @@ class Runs:
         for thread in self.threads:
             thread.join(max(end - time.monotonic(), 0))
 
-    def work(self, paths: Sequence[str], numbers: Iterator[int]) -> None:
-        """Judges one document after another, until none is left."""
-        while True:
-            with self.lock:
-                number = next(numbers, None)
-            if number is None:
-                return
-            try:
-                self.rows.put((number, self.judge(paths[number])))
-            except Stopped:
-                return
-            except BaseException as fault:  # pylint: disable=broad-except
-                self.rows.put((number, fault))
-                return
+    def work(self, paths: Sequence[str]) -> None:
+        """Judges some documents after others, until none is left."""
+        try:
+            while (some := self.some(len(paths))):
+                for found in self.judge(paths[some.start:some.stop]):
+                    self.rows.put([(some.start + at, row) for at, row in found])
+        except Stopped:
+            return
+        except BaseException as fault:  # pylint: disable=broad-except
+            self.rows.put(fault)
+
+    def some(self, count: int) -> range:
+        """The numbers of the documents that come next."""
+        with self.lock:
+            begin = self.taken
+            self.taken += min(MOST_TAKEN, -(-(count - begin) // (4 * self.jobs)))
+            return range(begin, self.taken)
 
 
 class InOrder:
@@ -59,9 +69,9 @@ class InOrder:
         self.ahead: dict[int, Row] = {}
         self.wanted = 0
 
-    def add(self, number: int, row: Row) -> Iterator[Row]:
+    def add(self, found: Found) -> Iterator[Row]:
         """The rows whose turn it is by now."""
-        self.ahead[number] = row
+        self.ahead.update(found)
         while self.wanted in self.ahead:
             yield self.ahead.pop(self.wanted)
             self.wanted += 1

@@ -1,0 +1,177 @@
+"""Documents judged together: all are read, one process is asked about them at once, and their rows come as its answers do."""
+import contextlib
+import hashlib
+import itertools
+import os
+import stat
+import time
+from collections import deque
+from collections.abc import Iterator, Sequence
+
+from pvtag.encodings import encoding_fault
+from pvtag.program import Answer, Trouble
+
+from .judging import MOST_BYTES, Given, Judge, given, identity, seen_of
+from .rows import Row
+from .runs import Found
+
+# No further document is read beside so many bytes of others.
+MOST_HELD = 4_194_304
+
+
+class Case:
+    """A document that is being judged: its place among the others, its file as it was, its row so far, and how long it took by now."""
+
+    __slots__ = ("at", "seen", "row", "given", "seconds")
+
+    def __init__(self, at: int, seen: tuple[int, ...], row: Row, told: Given) -> None:
+        self.at, self.seen, self.row, self.given, self.seconds = at, seen, row, told, 0.0
+
+
+class Together:
+    """Judges documents some at a time. Several threads may use it at once."""
+
+    def __init__(self, judge: Judge) -> None:
+        self.judge = judge
+
+    def rows(self, paths: Sequence[str]) -> Iterator[Found]:
+        """What these documents come to, each with its place among them, as they are found."""
+        left = deque(enumerate(paths))
+        while left:
+            with contextlib.ExitStack() as copies:
+                found, cases = self.begun(left, copies)
+                if found:
+                    yield found
+                yield from self.judged(cases)
+
+    def begun(self, left: deque[tuple[int, str]], copies: contextlib.ExitStack) -> tuple[Found, list[Case]]:
+        """The next documents, read, and the rows of those that aren't to be judged."""
+        found, cases, held = Found(), list[Case](), 0
+        while left and held <= MOST_HELD:
+            (at, path), start = left.popleft(), time.monotonic()
+            begun = self.read(at, path, copies)
+            seconds = time.monotonic() - start
+            if isinstance(begun, Row):
+                found.append((at, begun._replace(seconds=round(seconds, 4))))
+            else:
+                begun.seconds = seconds
+                held += begun.row.size or 0
+                cases.append(begun)
+        return found, cases
+
+    def read(self, at: int, path: str, copies: contextlib.ExitStack) -> Case | Row:
+        """A document as it is now; or its row, where it isn't to be judged."""
+        try:
+            seen = os.stat(path)
+        except (OSError, ValueError) as fault:
+            return Row(path, verdict="unreadable", sentence=f"it can't be read: {getattr(fault, 'strerror', fault)}")
+        if not stat.S_ISREG(seen.st_mode):
+            what = "it is a folder that can't be read" if stat.S_ISDIR(seen.st_mode) else "it isn't a file"
+            return Row(path, verdict="unreadable", sentence=what)
+        try:
+            data = content(path, seen.st_size) if seen.st_size <= MOST_BYTES else None
+        except OSError:
+            return unreadable(Row(path, seen.st_size, seen.st_mtime_ns))
+        row = Row(path, seen.st_size, seen.st_mtime_ns, hashlib.sha256(data).hexdigest() if data is not None else None)
+        try:
+            under = self.judge.under_of(path, data)
+        except Trouble as trouble:
+            encoded = encoding_fault(data) if data is not None else None
+            return row._replace(verdict="refused" if encoded else "no-dtd", sentence=encoded or str(trouble))
+        if self.judge.options.by_doctype:
+            row = row._replace(dtd=under.name, root=under.root, dtd_sum=under.sum)
+        try:
+            return Case(at, identity(seen), row, given(path, data, under, copies))
+        except (OSError, ValueError):
+            return unreadable(row)
+
+    def judged(self, cases: Sequence[Case]) -> Iterator[Found]:
+        """The rows of documents that were read, as they are found."""
+        later = list[Case]()
+        for group in self.told("check", cases):
+            later += [case for case in group if self.judge.is_open(case.row)]
+            if (done := [case for case in group if not self.judge.is_open(case.row)]):
+                yield self.found(done)
+        for group in self.told("need", later):
+            yield self.found(group)
+
+    def told(self, question: str, cases: Sequence[Case]) -> Iterator[list[Case]]:
+        """The documents with what `check`, or a session to `need`, answers for them, as it comes; what takes longer to tell after the others."""
+        start = time.monotonic()
+        for answers in self.asked(question, cases):
+            quick = [(case, answer) for case, answer in answers if is_quick(answer)]
+            for group in filter(None, (quick, *([each] for each in answers if each not in quick))):
+                for case, answer in group:
+                    self.tell(question, case, answer)
+                share, start = (time.monotonic() - start) / len(group), time.monotonic()
+                for case, _ in group:
+                    case.seconds += share
+                yield [case for case, _ in group]
+
+    def asked(self, question: str, cases: Sequence[Case]) -> Iterator[list[tuple[Case, Answer | None]]]:
+        """What one process answers for all, as it comes; none for those of which the program itself is to be asked."""
+        many, together, alone = self.judge.many, dict[tuple[str, str], list[Case]](), list[Case]()
+        for case in cases:
+            words = case.given.under.path, case.given.under.root
+            (together.setdefault(words, []) if many.takes(*words, case.given.path) else alone).append(case)
+        for (dtd, root), some in together.items():
+            left = iter(some)
+            for answers in many.answers(question, dtd, root, [case.given.path for case in some], self.judge.most):
+                yield list(zip(itertools.islice(left, len(answers)), answers))
+        for case in alone:
+            yield [(case, None)]
+
+    def tell(self, question: str, case: Case, answer: Answer | None) -> None:
+        """Puts what was answered for a document into its row."""
+        judge = self.judge
+        with unless_gone(case):
+            told = answer or judge.answer(question, case.given)
+            case.row = (judge.told if question == "check" else judge.needed)(case.row, case.given, told)
+
+    def found(self, cases: Sequence[Case]) -> Found:
+        """The rows of documents that were judged. What has changed meanwhile gets no verdict, and a DTD that has is a trouble: its sum stands in the
+        report."""
+        rows = Found()
+        for case in cases:
+            start = time.monotonic()
+            with unless_gone(case):
+                case.row = self.judge.with_attributes(case.row, case.given)
+            row = case.row
+            if seen_of(row.path) != case.seen:
+                row = Row(*row[:4], verdict="failed", sentence="it changed while it was judged", dtd=row.dtd, root=row.root, dtd_sum=row.dtd_sum)
+            rows.append((case.at, row._replace(seconds=round(case.seconds + time.monotonic() - start, 4))))
+        for under in {case.given.under for case in cases}:
+            under.test_unchanged()
+        return rows
+
+
+def content(path: str, size: int) -> bytes:
+    """The bytes of a file that has so many."""
+    file = os.open(path, os.O_RDONLY | os.O_CLOEXEC)
+    try:
+        data = os.read(file, size)
+        while len(data) < size and (more := os.read(file, size - len(data))):
+            data += more
+        return data
+    finally:
+        os.close(file)
+
+
+def is_quick(answer: Answer | None) -> bool:
+    """Whether nothing more is asked for the row of a document."""
+    return answer is not None and answer.output.startswith((b"valid", b"possible", b"need"))
+
+
+@contextlib.contextmanager
+def unless_gone(case: Case) -> Iterator[None]:
+    """Where a file can't be read any more, its row says so in place of a trouble."""
+    try:
+        yield
+    except (OSError, ValueError, Trouble) as fault:
+        if isinstance(fault, Trouble) and os.access(case.row.path, os.R_OK):
+            raise
+        case.row = unreadable(case.row)
+
+
+def unreadable(row: Row) -> Row:
+    return row._replace(verdict="unreadable", sentence="it can't be read")
