@@ -2,6 +2,7 @@
 
 Words: PROGRAM SEED. Prints each difference, and how many cases passed; ends with 1 where one failed.
 """
+import contextlib
 import functools
 import os
 import random
@@ -22,6 +23,7 @@ from annotate.declared import declared_by  # noqa: E402
 from annotate.editor import Differs, Editor, Stale, Unseen, sum_of  # noqa: E402
 from annotate.everywhere import Everywhere  # noqa: E402
 from annotate.explain import Explainer  # noqa: E402
+from annotate.moves import Move  # noqa: E402
 from pvtag.document import ELEMENT, TEXT, Document  # noqa: E402
 from pvtag.program import Trouble  # noqa: E402
 from pvtag.session import Ended, Made, Refused, Session  # noqa: E402
@@ -137,6 +139,85 @@ def random_moves(session, document):
         same([row.path for row in rows], [document.path_of(node) for node in document.elements()], "the paths of lists")
         same([document.node_at(row.path) for row in rows], list(document.elements()), "the lists at paths")
     return len(backs)
+
+
+# Verdicts.
+def tells_fresh_verdicts(program):
+    """After random moves of each kind, also undone, made again, exchanged and refused, the page has the verdicts that the session then tells; mostly
+    the session isn't asked for them."""
+    moves = asked = refused = 0
+    swapped = open(os.path.join(EXAMPLES, "letter-swapped.xml"), encoding="utf-8").read()
+    with tempfile.TemporaryDirectory() as folder:
+        path = os.path.join(folder, "doc.xml")
+        for dtd, root, source in (*SOURCES, ("letter.dtd", "letter", swapped)):
+            put(path, source)
+            with contextlib.suppress(FileNotFoundError):
+                os.unlink(f"{path}.pvtag")
+            editor = Editor([program], os.path.join(EXAMPLES, dtd), root, Script(path))
+            try:
+                walk = Walk(editor)
+                for _ in range(120):
+                    walk.go_on()
+                moves, asked, refused = moves + walk.moves, asked + walk.asked, refused + walk.refused
+            finally:
+                editor.close()
+    need(moves > 150 and refused > 20 and asked * 2 < moves, f"moves {moves}, refused {refused}, asked {asked}")
+
+
+class Walk:
+    """Random moves of an editor, and the verdicts that a page would have by what it is told."""
+
+    def __init__(self, editor):
+        self.editor, self.moves, self.asked, self.refused = editor, 0, 0, 0
+        tree = editor.state()["tree"]
+        self.shown = {row["id"]: row.get("verdict", "valid") for row in tree if row["kind"] == ELEMENT}
+        ask = editor.session.changed
+
+        def counted(after):
+            self.asked += 1
+            return ask(after)
+
+        editor.session.changed = counted
+
+    def go_on(self):
+        """Makes a move, and compares what is shown with what the session tells."""
+        editor, since = self.editor, self.editor.version
+        told = random.choice((self.move, self.move, self.move, self.together, self.again, self.undo, self.redo, self.back))({"version": since})
+        if "no" in told:
+            self.refused += 1
+            told = editor.state(since)
+        self.moves += len(told["changes"])
+        for each in told["changes"]:
+            for change in each["changes"]:
+                self.shown |= {kid["id"]: kid.get("verdict", "valid") for kid in change.get("kids", ()) if isinstance(kid, dict) and kid["kind"] == ELEMENT}
+            self.shown |= each["verdicts"]
+        fresh = editor.session.verdicts()
+        nodes = list(editor.document.elements())
+        same([node.verdict for node in nodes], [row.verdict for row in fresh], "the verdicts of the tree")
+        same([self.shown[node.id] for node in nodes[1:]], [row.verdict for row in fresh[1:]], "the verdicts on the page")
+        same((told["top"], told["open"], told["bad"]), (fresh[0].verdict, *(sum(row.verdict == verdict for row in fresh) for verdict in ("possible", "impossible"))),
+             "the numbers")
+
+    def move(self, ask):
+        return self.editor.answer(ask["version"], [random_edit(self.editor.document)])
+
+    def together(self, ask):
+        return self.editor.answer(ask["version"], [random_edit(self.editor.document) for _ in range(random.randint(2, 3))])
+
+    def again(self, ask):
+        """Another move in the place of the last ones."""
+        count = min(random.randint(1, 2), len(self.editor.made))
+        self.editor.exchange(count, Move([random_edit(self.editor.document)]), [])
+        return self.editor.state(ask["version"])
+
+    def undo(self, ask):
+        return self.editor.undo(ask)
+
+    def redo(self, ask):
+        return self.editor.redo(ask)
+
+    def back(self, ask):
+        return self.editor.back({**ask, "to": max(0, len(self.editor.made) + random.randint(-4, 4))})
 
 
 # Scripts.
@@ -435,9 +516,11 @@ def ends_what_is_cut_off(program):
                 before, moves = state(editor), len(editor.made)
                 session = editor.session
                 session.output = Cut(session.output, count, fault)
+                # Round it a list stays open: it isn't known which of the two is, so that the verdicts are asked for.
+                editor.verdicts.known.clear()
                 told = None
                 try:
-                    wrap(editor, "place", "Delft")
+                    wrap(editor, "place", "brother")
                 except BaseException as raised:
                     told = raised
                 is_whole = session.output.left > 0
@@ -453,7 +536,7 @@ def ends_what_is_cut_off(program):
                 same(editor.document.written().encode(), editor.shown(), f"the tree, {fault} at read {count}")
                 same(sum(node.verdict == "possible" for node in editor.document.elements()), editor.open, "the verdicts")
                 if is_made:
-                    need(b"<place>Delft" in editor.shown(), "it is there")
+                    need(b"<place>brother" in editor.shown(), "it is there")
                     editor.undo({"version": editor.version})
                 else:
                     same(state(editor), before, f"nothing of it is left, {fault} at read {count}")
@@ -534,7 +617,7 @@ def begins_again(program):
         editor.close()
 
 
-CASES = [speaks_each_line, offers_names, keeps_the_tree, keeps_moves, saves, survives_cuts, survives_a_full_disk,
+CASES = [speaks_each_line, offers_names, keeps_the_tree, tells_fresh_verdicts, keeps_moves, saves, survives_cuts, survives_a_full_disk,
          takes_back_whatever_raises, ends_what_is_cut_off, explains_without_a_lock, compares_what_it_saves, begins_again]
 
 

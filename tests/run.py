@@ -184,8 +184,8 @@ CHECKS = [
     row("lsp_editors", "the language server in editors", "+nvim +emacs +dtds", 3600, "python3 tests/lsp_editors.py PVTAG 300",
         "the server in both editors, by their own clients"),
     row("annotate_parts", "the parts of the page", "", 3600, "python3 tests/annotate_parts.py PVTAG 1",
-        "the parts of the page of `clients/annotate`: its tree against a session after random edits, its script cut at each byte, a "
-        "full disk, moves in which something raises, sessions that die"),
+        "the parts of the page of `clients/annotate`: its tree against a session after random edits, its verdicts after random moves, its "
+        "script cut at each byte, a full disk, moves in which something raises, sessions that die"),
     row("annotate_asks", "what the page asks for, after random moves", "", 3600, "python3 tests/annotate_asks.py PVTAG 1",
         "what the page asks for, after random moves: completions taken over, what tags cost against what the whole document misses, "
         "what is typed, attributes"),

@@ -22,6 +22,7 @@ from pvtag.program import Trouble, file_of, read_file
 from pvtag.session import Ended, Made, Refused, Session
 from .runs import Stale, below
 from .script import Script, hash_of
+from .verdicts import Verdicts
 
 # A window that was away for more moves than these gets the whole tree.
 KEPT = 1000
@@ -57,6 +58,7 @@ class Editor:
         except BadLine as bad:
             raise script.trouble(bad) from None
         self.changes: list[Told] = []
+        self.verdicts = Verdicts()
         self.version, self.needed = version, {"version": -1}
         # What a refusal is explained by: the tree, the lines up to the one that was refused, and the path that was told; it
         # gives a call that asks the program, `later`, when the lock isn't held any more.
@@ -182,18 +184,25 @@ class Editor:
         for node, row in zip(self.document.elements(), rows, strict=True):
             node.verdict = row.verdict
         self.open, self.bad = (sum(row.verdict == verdict for row in rows) for verdict in ("possible", "impossible"))
+        self.document.changed = {}
 
-    def judge(self, before: int) -> dict[int, str]:
-        """Takes over the verdicts of the lists that moves after this number have changed, and tells them."""
-        if before == self.session.moves:
+    def judge(self, before: int, reply: Made | None) -> dict[int, str]:
+        """Takes over the verdicts of the lists that moves after this number have changed, and tells them. The program is asked where its reply to the
+        last of them doesn't say them."""
+        changed, self.document.changed = self.document.changed, {}
+        if before == self.session.moves or reply is None:
             return {}
-        told, rows = {}, self.session.changed(before)
-        if isinstance(rows, Refused):
-            raise Ended(None, "there is too little memory for the verdicts")
-        for row in rows:
-            node = self.document.there(row.path)
-            node.verdict = told[node.id] = row.verdict
-        return told
+        found = self.verdicts.of(changed, reply.open - self.open, reply.bad - self.bad)
+        if found is None:
+            rows = self.session.changed(before)
+            if isinstance(rows, Refused):
+                raise Ended(None, "there is too little memory for the verdicts")
+            found = {self.document.there(row.path): row.verdict for row in rows}
+        for node, verdict in found.items():
+            node.verdict = verdict
+        self.verdicts.keep(found)
+        self.open, self.bad = reply.open, reply.bad
+        return {node.id: verdict for node, verdict in found.items()}
 
     # What the page is told.
     def state(self, since: Any = None) -> Told:
@@ -375,9 +384,7 @@ class Editor:
             raise Trouble(f"the move can't be written to {self.script.path}: {fault.strerror}") from None
 
     def tell(self, changes: list[Told], before: int, reply: Made | None) -> None:
-        verdicts = self.judge(before)
-        if reply is not None:
-            self.open, self.bad = reply.open, reply.bad
+        verdicts = self.judge(before, reply)
         self.version += 1
         self.outdated()
         by = getattr(self.asker, "window", "")

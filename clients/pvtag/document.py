@@ -109,6 +109,8 @@ class Document:
         self.nodes: dict[int, Node] = {}
         # The attributes that elements had before they were edited, and comments that were there: a session knows of no others.
         self.given: dict[int, str] = {}
+        # The lists that edits have changed: each with whether it was there before the first of them, and whether it is now.
+        self.changed: dict[Node, tuple[bool, bool]] = {}
         self.top = Node(0, ELEMENT)
         self.top.name, self.top.kids, self.nodes[0] = "", [], self.top
         self.read(source.decode())
@@ -239,21 +241,25 @@ class Document:
     def wrap(self, owner: Node, rest: str) -> Change:
         first, last, name = rest.split(" ", 2)
         start, end = int(first), int(last)
-        return self.put(owner, start, end, [self.element(name, owner.kids[start:end])])
+        node = self.element(name, owner.kids[start:end])
+        return self.put(owner, start, end, [node], tags=node)
 
     def insert(self, owner: Node, rest: str) -> Change:
         at, name = rest.split(" ", 1)
-        return self.put(owner, int(at), int(at), [self.element(name, [], short=True)])
+        node = self.element(name, [], short=True)
+        return self.put(owner, int(at), int(at), [node], tags=node)
 
     def unwrap(self, node: Node, _: str) -> Change:
         owner, at = self.place_of(node)
-        return self.put(owner, at, at + 1, node.kids)
+        return self.put(owner, at, at + 1, node.kids, tags=node)
 
     def rename(self, node: Node, name: str) -> Change:
         old = node.name
 
         def set_name(name: str) -> Told:
             node.name = name
+            self.has_changed(self.place_of(node)[0])
+            self.has_changed(node)
             return {"rename": node.id, "name": name}
 
         return set_name(name), lambda: set_name(old)
@@ -314,8 +320,8 @@ class Document:
         return set_comment(f"<!--{unescaped(text)}-->" if text else ""), lambda: set_comment(old)
 
     def put(self, owner: Node, start: int, end: int, made: Sequence[Node], told: list[Told] | None = None,
-            told_back: list[Told] | None = None) -> Change:
-        """Puts these nodes in place of the kids from `start` up to `end`."""
+            told_back: list[Told] | None = None, tags: Node | None = None) -> Change:
+        """Puts these nodes in place of the kids from `start` up to `end`; `tags` is the element that comes or goes by that."""
         nodes, old, short = list(made), owner.kids[start:end], owner is not self.top and owner.short
 
         def replace(before: list[Node], after: list[Node], short: bool, told: list[Told] | None) -> Told:
@@ -326,10 +332,17 @@ class Document:
                 node.owner = owner
                 for kid in node.kids:
                     kid.owner = node
+            self.has_changed(owner)
+            if tags is not None:
+                self.has_changed(tags, tags not in after, tags in after)
             kids = told if told is not None else told_anew(before, after)
             return {"list": owner.id, "from": start, "to": start + len(before), "kids": kids}
 
         return replace(old, nodes, short and not nodes, told), lambda: replace(nodes, old, short, told_back)
+
+    def has_changed(self, node: Node, was_there: bool = True, is_there: bool = True) -> None:
+        """Keeps that a list has changed."""
+        self.changed[node] = self.changed[node][0] if node in self.changed else was_there, is_there
 
     # What the page is told.
     def told(self) -> list[Told]:
