@@ -126,6 +126,7 @@ def judges_again(program):
         rows = soon(lambda: rows_of(drawer), lambda rows: rows[0]["verdict"] == "possible", "the one that has changed")
         same((rows[0]["missing"], rows[1]["verdict"]), (1, "valid"), "what it misses")
         need(drawer.verdicts.rows[os.path.join(folder.path, "b.xml")] is before, "the other isn't judged again")
+        soon(lambda: programs.RUNNING.runs, lambda runs: not runs, "nothing that judged them is left running")
         os.unlink(os.path.join(folder.path, "a.xml"))
         same([row["name"] for row in rows_of(drawer)], ["b.xml"], "one is gone")
 

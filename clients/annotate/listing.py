@@ -102,9 +102,13 @@ class Verdicts:
                 program, dtd, root = self.words
                 judge = Judge(program, (dtd, root), Options(need=True, most=MOST, attributes=True, by_doctype=False))
                 seen = [seen_of(path) for path in paths]
-                jobs = max(1, len(os.sched_getaffinity(0)) // 2)
-                for found in Runs(Together(judge).rows, jobs).over(paths):
-                    self.rows |= {paths[number]: (seen[number], row) for number, row in found}
+                runs = Runs(Together(judge).rows, max(1, len(os.sched_getaffinity(0)) // 2))
+                try:
+                    for found in runs.over(paths):
+                        self.rows |= {paths[number]: (seen[number], row) for number, row in found}
+                finally:
+                    runs.end()
+                    judge.close()
                 self.why = ""
         except Stopped:
             return

@@ -107,6 +107,12 @@ class Judge:
                 self.known[plain.path, root] = Under(self.program, plain, root)
             return self.known[plain.path, root]
 
+    def close(self) -> None:
+        """Ends the processes that wait to be asked again."""
+        self.many.end()
+        for under in self.known.values():
+            under.attributes.close()
+
     def head(self) -> Head:
         """What rows rest on."""
         given = self.given_pair
