@@ -255,7 +255,7 @@ fn push_piece(pieces: &mut Vec<Piece>, piece: Option<Piece>) -> Result<(), NoMem
 }
 
 impl Built {
-    // Wants a part of what has a rank, and tells whether its own is lower. Only then it is wanted.
+    // Wants a part of what has a rank, and tells whether its own is lower. Only then is it wanted.
     fn want(
         &mut self,
         ground: Ground<'_>,

@@ -48,8 +48,11 @@ const REACHES_A_FRONT: usize = 4;
 /// All reaches of a list are made at first if they are at most such a part of these.
 const SHORT: usize = 2;
 
-/// After each so many places it is seen whether the number of reaches grows from place to place.
+/// From so many places on it is seen whether the number of reaches grows from place to place.
 const TURN: usize = 16;
+
+/// A number of places is round where so many of its 64 binary digits, at its ends, are zeros.
+const LEAST_ZEROS: u32 = 60;
 
 /// It grows where there are more by such a part of those before.
 const GROWING: usize = 16;
@@ -132,10 +135,18 @@ fn if_steady(rows: &[Row], places: usize) -> usize {
     }
 }
 
+// Whether a number is round: its binary digits are zeros but for four that follow one another. From
+// one of eight on, eight more are round up to its double.
+fn is_round(number: usize) -> bool {
+    let zeros = u32::saturating_add(number.leading_zeros(), number.trailing_zeros());
+    zeros >= LEAST_ZEROS
+}
+
 // Whether there are more and more reaches from place to place: the last quarter of the rows has more
-// than the one before it by such a part of these. It is looked at only in its turn.
+// than the one before it by such a part of these. It is looked at only where there are a round number
+// of rows, so that all looks together take as long as a few walks over the rows.
 fn is_growing(rows: &[Row]) -> bool {
-    if rows.len() % TURN != 0 {
+    if rows.len() < TURN || !is_round(rows.len()) {
         return false;
     }
     let quarter = rows.len() / 4;
