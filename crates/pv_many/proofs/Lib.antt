@@ -5,3 +5,4 @@ pub mod Pieces
 pub mod RequestWords
 pub mod Runs
 pub mod CallResults
+pub mod ValidTexts

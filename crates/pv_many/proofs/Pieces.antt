@@ -1,21 +1,25 @@
 -- Names that are answered, piece by piece of the input.
-use Rattle.std.proofs.Common.{◌≡◌, ℕ, ◌+◌, ◌-◌, ◌<◌, ◌≤◌, Bool, true, false, List, [], ◌∷◌, ◌++◌, codes, length, get_or, take, drop, nat_eq, Option, refl}
+use Rattle.std.proofs.Common.{◌≡◌, ◌≢◌, ℕ, ◌+◌, ◌-◌, ◌<◌, ◌≤◌, Bool, true, false, List, [], ◌∷◌, ◌++◌, codes, length, get_or, take, drop, nat_eq, Option, Ok, refl}
 use Rattle.std.proofs.Common.{sym, ap, ◌∙◌, subst, append_assoc, arith}
 use Rattle.std.proofs.lemmas.List.{append-nil, length-append, take-append-drop, take_more}
 use Rattle.std.specs.Io.KnownBytes.{Appends, Consumes}
 use Rattle.pv_dtd.specs.Plain.{PlainDtd}
-use Rattle.pv_io.specs.Causes.{AppendsFront, Asked}
+use Rattle.pv_io.specs.Causes.{AppendsFront, Asked, WasAsked, empty_in}
+use Rattle.pv_io.specs.declared.source.Failed.{Failed}
 use Rattle.pv_opening.specs.Course.{RunEnding, input_fault, output_fault, responds}
-use Rattle.pv_opening.specs.Devices.{ShelfNow}
-use Rattle.pv_opening.specs.ShownCourses.{AskedAtMost}
+use Rattle.pv_opening.specs.Devices.{InputNow, OutputNow, ShelfNow}
+use Rattle.pv_opening.specs.ShownCourses.{AskedAtMost, CountsInput, CountsShelf, WritesEnding}
+use Rattle.pv_opening.specs.declared.status.Status.{Status}
 use Rattle.pv_opening.specs.declared.status.Status.TheVariants.{Done, Limit, NoMemory}
 use Rattle.pv_many.specs.Answers.{NamedAnswer, AnswersName, AnswersNames, answers_text, names_answered}
-use Rattle.pv_many.specs.Many.{AnswersThese, EndsAfter, AnswersPiece, StopsWithin, answered_all, input_failed, output_failed, too_many}
+use Rattle.pv_many.specs.Many.{AnswersOver, AnswersThese, EndsAfter, AnswersPiece, StopsWithin, answered_all, input_failed, output_failed, too_many}
 use Rattle.pv_many.specs.Many.{max_names_bytes, without_memory}
 use Rattle.pv_many.specs.Names.{AreNames, HasNoNul, StandInOrder, last_name}
 use Rattle.pv_many.specs.declared.requests.Question.{Question}
 use Rattle.pv_many.proofs.NamedAnswers.{answer_of, answers_both, answers_none, names_both, one_answer}
-use Rattle.pv_io.proofs.Streams.{appends_behind, front_behind}
+use Rattle.pv_io.proofs.Streams.{appends_behind, consumes_more, front_behind, not_at_end}
+use Rattle.pv_many.proofs.Inputs.{has_course}
+use Rattle.pv_opening.proofs.AskedInputs.{asked_more, asked_within}
 use Rattle.pv_many.proofs.NamesRead.{in_order, in_order_last, in_order_then, names_byte, names_end, names_held, names_then}
 
 abbrev pub Adds : Option (List ℕ) → Option (List ℕ) → List ℕ → Type 0
@@ -215,6 +219,31 @@ module _ (question : Question) (root : List ℕ) (g : PlainDtd) (before between 
       asked = asked;
       few = few;
     }
+
+-- some bytes of a buffer are more than none
+pub some_taken : (count : ℕ) (buf : List ℕ) → count ≡ length (take count buf) → count ≢ 0 → 0 < length (take count buf)
+some_taken count buf long some = omega (arith, long, some)
+
+-- a run that ended within the piece of the input that was read last
+pub ended_at_piece : {S : Type 0} (question : Question) (root : List ℕ) (g : PlainDtd)
+    (archive between archive_now : ShelfNow) (held : List ℕ) (input input_now : InputNow S)
+    (old new : OutputNow) (mid left : Option (List ℕ)) (calls : Asked) (room count : ℕ)
+    (piece : List ℕ) (Ends : List NamedAnswer → RunEnding) (Shows : List ℕ → Type 0)
+    (status : Status)
+    (reads : Reads question root g archive between held old.written mid input.left left input.calls calls room)
+    (ended : Ended question root g archive archive_now (reads.script ++ piece) false Ends Shows) →
+    Consumes left input_now.left piece → WasAsked 1 (empty_in {E = Failed} (Ok count)) calls input_now.calls →
+    count ≢ 0 → 0 < length piece → ((n : ℕ) → CountsShelf (Ends ended.answers) n n) →
+    CountsInput (Ends ended.answers) input.faults input_now.faults →
+    WritesEnding (Ends ended.answers) old.written new.written old.faults new.faults status →
+    AnswersOver question root g archive archive_now input input_now old new status
+ended_at_piece question root g archive between archive_now held input input_now old new mid left
+    calls room count piece Ends Shows status reads ended consumes asked none some stays counts writes =
+    has_course question root g (reads.script ++ piece) ended.answers false (Ends ended.answers)
+    archive archive_now input input_now old new status ended.ends ended.so_far.answered ended.so_far.shelf
+    (consumes_more input.left left input_now.left reads.script piece reads.taken consumes)
+    (asked_within _ _ _ (asked_more reads.script piece count _ _ _ reads.asked asked none some))
+    (not_at_end _) stays counts writes
 
 -- the name that a rest of some bytes is
 last_some : (held : List ℕ) → 0 < length held → held ∷ [] ≡ last_name held

@@ -4,3 +4,4 @@ pub mod Many
 pub mod Names
 pub mod MissingAnswers
 pub mod Requests
+pub mod ValidTexts

@@ -11,9 +11,11 @@ mod documents;
 mod input;
 mod inquiry;
 mod missing;
+mod planner;
 mod possibility;
 mod program;
 mod requests;
+mod valid_text;
 
 pub use archive::{Archive, FolderArchive};
 pub use program::pvmany;

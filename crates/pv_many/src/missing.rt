@@ -1,5 +1,6 @@
 //! How many elements are missing in documents: their lists are judged by one grammar, whose rules
-//! are laid out once, and lists that were weighed in one document aren't weighed again in the next.
+//! are laid out once, when a document is first not valid, and lists that were weighed in one
+//! document aren't weighed again in the next.
 
 ghost use Rattle.std.specs.Prelude.{◌≡◌, ◌++◌, List, None, codes, decimal, ℕ};
 ghost use Rattle.std.specs.List.{AllByRecursion};
@@ -21,6 +22,7 @@ ghost use Rattle.pv_tree.specs.PlainDocs.{plain_doc};
 ghost use Rattle.pv_tree.specs.declared.nodes.Mark.{Mark};
 
 use crate::inquiry::Inquiry;
+use crate::planner::Planner;
 use pv_complete::{NeedError, Remembered, need_remembering};
 use pv_missing::Verdicts;
 use pv_opening::{
@@ -142,16 +144,41 @@ fn need_of_bytes<L: Ledger>(
     }
 }
 
-/// How many elements are missing in documents, by what judges their lists, and by what is
-/// remembered of the DTD from one document to the next. Contracts see the grammar.
+// The line of the document that the bytes are, for which there may be no plan so far.
+fn need_of_text<L: Ledger>(
+    rt: &(impl Threads + Sync),
+    planner: &mut Planner,
+    root: &[u8],
+    bytes: &[u8],
+    remembered: &mut Remembered,
+    steps: &mut Steps<L>,
+) -> Result<Response, Stop>
+    requires { Remembers (dtd_of planner.old) remembered.old }
+    ensures takes { TakesCourse
+        (BehindDocument IsNeedCourse root.now (dtd_of planner.old, bytes.now)) result }
+    ensures remembers { Remembers (dtd_of planner.old) remembered.new }
+    ensures same { planner.new ≡ planner.old }
+{
+    match planner.find_valid(root, bytes) {
+        Ok(true) => number_line(planner.alloc(), 0),
+        Ok(false) => {
+            let judge = planner.judge();
+            need_of_bytes(rt, &judge, root, bytes, remembered, steps)
+        }
+        Err(error) => Err(refuse_document(planner.alloc(), error)),
+    }
+}
+
+/// How many elements are missing in documents, by one grammar, and by what is remembered of it from
+/// one document to the next. Contracts see the grammar.
 #[derive(Drop)]
-pub struct Missing<'a, L: Ledger> {
-    judge: Judge<'a>,
+pub struct Missing<L: Ledger> {
+    planner: Planner,
     remembered: Remembered,
     steps: Steps<L>,
 }
 
-impl<'a, L: Ledger> Model for Missing<'a, L> {
+impl<L: Ledger> Model for Missing<L> {
     ghost use Rattle.pv_productive.specs.declared.grammar.Grammar.{Grammar};
     ghost use Rattle.pv_productive.specs.contracts.grammar.Grammar as grammar_row;
 
@@ -159,29 +186,29 @@ impl<'a, L: Ledger> Model for Missing<'a, L> {
 
     ghost coded = { grammar_row.the_row.coded };
 
-    ghost view = { λ s. s.judge };
+    ghost view = { λ s. s.planner };
 
     ghost use Rattle.pv_complete.specs.RememberedGrammar.{Remembers};
     ghost use Rattle.pv_productive.specs.PlainForms.{dtd_of};
 
-    ghost invariant = { λ s. Remembers (dtd_of s.judge) s.remembered };
+    ghost invariant = { λ s. Remembers (dtd_of s.planner) s.remembered };
 }
 
-impl<'a, L: Ledger> Missing<'a, L> {
-    /// By what judges lists. Nothing is remembered so far.
-    pub fn by(judge: Judge<'a>, steps: Steps<L>) -> Missing<'a, L>
-        ensures { result ≡ judge.entry }
+impl<L: Ledger> Missing<L> {
+    /// By one grammar. Nothing is remembered so far.
+    pub fn by(planner: Planner, steps: Steps<L>) -> Missing<L>
+        ensures { result ≡ planner }
     {
-        let remembered = Remembered::nothing(judge.alloc());
+        let remembered = Remembered::nothing(planner.alloc());
         Missing {
-            judge,
+            planner,
             remembered,
             steps,
         }
     }
 }
 
-impl<'a, L: Ledger> Inquiry for Missing<'a, L> {
+impl<L: Ledger> Inquiry for Missing<L> {
     ghost use Rattle.pv_many.specs.declared.requests.Question.TheVariants.{Need};
 
     ghost question = { λ _. Need };
@@ -195,9 +222,9 @@ impl<'a, L: Ledger> Inquiry for Missing<'a, L> {
         root: &[u8],
         bytes: Vec<u8>,
     ) -> Result<Response, Stop> {
-        need_of_bytes(
+        need_of_text(
             rt,
-            &self.judge,
+            &mut self.planner,
             root,
             &bytes,
             &mut self.remembered,

@@ -1,31 +1,58 @@
 //! Whether inserting elements can make documents valid: all are judged by one grammar, whose rules
-//! are laid out once.
+//! are laid out once, when a document is first not valid.
 
 ghost use Rattle.std.specs.Prelude.{◌≡◌};
+ghost use Rattle.pv_commands.specs.Check.{IsCheckCourse};
+ghost use Rattle.pv_commands.specs.Returns.{BehindDocument};
+ghost use Rattle.pv_opening.specs.Returns.{TakesCourse};
+ghost use Rattle.pv_productive.specs.PlainForms.{dtd_of};
 
 use crate::inquiry::Inquiry;
+use crate::planner::Planner;
 use pv_commands::check::{Keeping, check_by};
-use pv_opening::{Response, Stop};
-use pv_reach::Judge;
+use pv_opening::{Response, Status, Stop, refuse_document};
 use pv_steps::Steps;
 use std::alloc::Global;
 use std::sync::ledger::Ledger;
 use std::thread::Threads;
 
-/// Whether inserting elements can make documents valid, by what judges their lists.
+// Whether inserting elements can make the document that the bytes are valid, for which there may be
+// no plan so far.
+fn check_of_text<L: Ledger>(
+    rt: &(impl Threads + Sync),
+    planner: &mut Planner,
+    root: &[u8],
+    bytes: &[u8],
+    steps: &mut Steps<L>,
+) -> Result<Response, Stop>
+    ensures takes { TakesCourse
+        (BehindDocument IsCheckCourse root.now (dtd_of planner.old, bytes.now)) result }
+    ensures same { planner.new ≡ planner.old }
+{
+    match planner.find_valid(root, bytes) {
+        Ok(true) => Ok(Response::with_line(planner.alloc(), Status::Done, b"valid")?),
+        Ok(false) => {
+            let judge = planner.judge();
+            check_by(rt, &judge, root, bytes, Keeping::Freed, steps)
+        }
+        Err(error) => Err(refuse_document(planner.alloc(), error)),
+    }
+}
+
+/// Whether inserting elements can make documents valid, by one grammar.
 #[derive(Drop)]
-pub struct Possibility<'a, L: Ledger> {
-    pub judge: Judge<'a>,
+pub struct Possibility<L: Ledger> {
+    pub planner: Planner,
     pub steps: Steps<L>,
 }
 
-impl<'a, L: Ledger> Inquiry for Possibility<'a, L> {
+impl<L: Ledger> Inquiry for Possibility<L> {
     ghost use Rattle.pv_many.specs.declared.requests.Question.TheVariants.{Check};
     ghost use Rattle.pv_productive.specs.PlainForms.{dtd_of};
 
     ghost question = { λ _. Check };
 
-    ghost dtd = { λ s. dtd_of s.judge };
+    ghost dtd = { λ s. dtd_of s.planner };
 
     fn answer<R: Threads + Sync>(
         &mut self,
@@ -34,13 +61,6 @@ impl<'a, L: Ledger> Inquiry for Possibility<'a, L> {
         root: &[u8],
         bytes: Vec<u8>,
     ) -> Result<Response, Stop> {
-        check_by(
-            rt,
-            &self.judge,
-            root,
-            &bytes,
-            Keeping::Freed,
-            &mut self.steps,
-        )
+        check_of_text(rt, &mut self.planner, root, &bytes, &mut self.steps)
     }
 }

@@ -1,31 +1,26 @@
 //! All that the program does.
 
-ghost use Rattle.std.specs.Prelude.{◌≡◌, codes, true, Contains, IfOk};
+ghost use Rattle.std.specs.Prelude.{◌≡◌, codes, true, Contains};
 ghost use Rattle.pv_dtd.specs.PlainForms.{plain_dtd};
 ghost use Rattle.pv_io.specs.Files.{byte_lists, fetch_names};
 ghost use Rattle.pv_many.specs.Many.{AnswersAsked, AnswersOver, AnswersMany};
 ghost use Rattle.pv_many.specs.Requests.{request_told};
-ghost use Rattle.pv_many.specs.declared.requests.Question.TheVariants.{Check, Need};
 ghost use Rattle.std.specs.Prelude.{Some};
 ghost use Rattle.pv_opening.specs.Devices.{input_at, output_at};
 ghost use Rattle.pv_opening.specs.Response.{with_line};
 ghost use Rattle.pv_opening.specs.Returns.{TellsBy};
 ghost use Rattle.pv_opening.specs.declared.status.Status.TheVariants.{Usage};
-ghost use Rattle.pv_productive.specs.PlainForms.{dtd_of};
-ghost use Rattle.pv_reach.specs.Plans.{IsPlan};
 
 use crate::archive::Archive;
 use crate::input::answer_input;
 use crate::inquiry::Validation;
 use crate::missing::Missing;
+use crate::planner::Planner;
 use crate::possibility::Possibility;
 use crate::requests::{Question, Request, request_of};
-use pv_chars::NoMemory;
 use pv_dtd::Dtd;
 use pv_io::{Shelf, Sink, Source};
 use pv_opening::{Response, Status, Stop, open_dtd, respond};
-use pv_productive::{Grammar, build};
-use pv_reach::{Judge, Plan};
 use pv_steps::Steps;
 use std::alloc::Global;
 use std::sync::ledger::Ledger;
@@ -35,70 +30,6 @@ fn usage(alloc: Global) -> Result<Response, Stop>
     ensures { TellsBy (λ r. r ≡ with_line Usage (codes "usage")) result }
 {
     Ok(Response::with_line(alloc, Status::Usage, b"usage")?)
-}
-
-// The grammar of a DTD, and its plan.
-fn lay_out(alloc: Global, dtd: Dtd) -> Result<(Grammar, Plan), NoMemory>
-    ensures { IfOk result (λ both. (dtd_of both.0 ≡ plain_dtd dtd)
-        × IsPlan (dtd_of both.0) both.1) }
-{
-    let grammar = build(alloc, dtd)?;
-    let plan = Plan::of(alloc, &grammar)?;
-    Ok((grammar, plan))
-}
-
-// Answers `check` of the documents that the input names, by a DTD.
-fn answer_check<L: Ledger, F: Archive, S: Source, K: Sink>(
-    rt: &(impl Threads + Sync),
-    alloc: Global,
-    dtd: Dtd,
-    root: &[u8],
-    steps: Steps<L>,
-    archive: &mut F,
-    input: &mut S,
-    out: &mut K,
-) -> Status
-    requires { K.ready out.old ≡ true }
-    ensures { AnswersOver Check root.now (plain_dtd dtd)
-        (F.moment archive.old) (F.moment archive.new)
-        (input_at input.old (S.left input.old) (S.calls input.old) (S.faults input.old))
-        (input_at input.new (S.left input.new) (S.calls input.new) (S.faults input.new))
-        (output_at (K.written out.old) (K.faults out.old))
-        (output_at (K.written out.new) (K.faults out.new)) result }
-{
-    let Ok((grammar, plan)) = lay_out(alloc, dtd) else {
-        return Status::NoMemory;
-    };
-    let judge = Judge::new(alloc, &grammar, &plan);
-    let mut inquiry = Possibility { judge, steps };
-    answer_input(rt, alloc, archive, &mut inquiry, root, input, out)
-}
-
-// Answers `need` of the documents that the input names, by a DTD.
-fn answer_need<L: Ledger, F: Archive, S: Source, K: Sink>(
-    rt: &(impl Threads + Sync),
-    alloc: Global,
-    dtd: Dtd,
-    root: &[u8],
-    steps: Steps<L>,
-    archive: &mut F,
-    input: &mut S,
-    out: &mut K,
-) -> Status
-    requires { K.ready out.old ≡ true }
-    ensures { AnswersOver Need root.now (plain_dtd dtd)
-        (F.moment archive.old) (F.moment archive.new)
-        (input_at input.old (S.left input.old) (S.calls input.old) (S.faults input.old))
-        (input_at input.new (S.left input.new) (S.calls input.new) (S.faults input.new))
-        (output_at (K.written out.old) (K.faults out.old))
-        (output_at (K.written out.new) (K.faults out.new)) result }
-{
-    let Ok((grammar, plan)) = lay_out(alloc, dtd) else {
-        return Status::NoMemory;
-    };
-    let judge = Judge::new(alloc, &grammar, &plan);
-    let mut inquiry = Missing::by(judge, steps);
-    answer_input(rt, alloc, archive, &mut inquiry, root, input, out)
 }
 
 // Answers a question of the documents that the input names, by a DTD.
@@ -126,8 +57,20 @@ fn answer_by<L: Ledger, F: Archive, S: Source, K: Sink>(
             let mut inquiry = Validation::by(alloc, dtd);
             answer_input(rt, alloc, archive, &mut inquiry, root, input, out)
         }
-        Question::Check => answer_check(rt, alloc, dtd, root, steps, archive, input, out),
-        Question::Need => answer_need(rt, alloc, dtd, root, steps, archive, input, out),
+        Question::Check => {
+            let Ok(planner) = Planner::of(alloc, dtd) else {
+                return Status::NoMemory;
+            };
+            let mut inquiry = Possibility { planner, steps };
+            answer_input(rt, alloc, archive, &mut inquiry, root, input, out)
+        }
+        Question::Need => {
+            let Ok(planner) = Planner::of(alloc, dtd) else {
+                return Status::NoMemory;
+            };
+            let mut inquiry = Missing::by(planner, steps);
+            answer_input(rt, alloc, archive, &mut inquiry, root, input, out)
+        }
     }
 }
 

@@ -4,14 +4,14 @@ use Rattle.std.proofs.lemmas.List.{length-append, length-take}
 use Rattle.pv_opening.specs.ShownCourses.{cut_off, wrote}
 use Rattle.pv_many.specs.Many.{max_names_bytes}
 use Rattle.pv_many.proofs.NamedAnswers.{answers_none}
-use Rattle.pv_opening.proofs.AskedInputs.{asked_more, asked_none, asked_once, asked_within}
+use Rattle.pv_opening.proofs.AskedInputs.{asked_more, asked_none, asked_once}
 use Rattle.pv_io.proofs.Streams.{append_none, appends_none, consumes_kept, consumes_more}
 use Rattle.pv_many.proofs.Inputs.{has_course, no_room}
 use Rattle.pv_opening.proofs.AskedInputs.{writes_from}
 use Rattle.pv_io.proofs.Streams.{consumes_none, not_at_end, piece_kept}
 use Rattle.pv_many.proofs.NamesRead.{names_none}
-use Rattle.pv_many.proofs.Pieces.{cut_at, done_with, ended_all, ended_at_input, ended_at_last, ended_by_limit, ended_within, ended_without_memory}
-use Rattle.pv_many.proofs.Pieces.{failed_after, less_left, limited_after, reads_more, short_after}
+use Rattle.pv_many.proofs.Pieces.{cut_at, done_with, ended_all, ended_at_input, ended_at_last, ended_at_piece, ended_by_limit, ended_within, ended_without_memory}
+use Rattle.pv_many.proofs.Pieces.{failed_after, less_left, limited_after, reads_more, short_after, some_taken}
 use Rattle.pv_many.proofs.input.answer_input.Goals as goal
 use Rattle.pv_many.proofs.input.answer_input.Goals.{in-Ok-answer_last, in-Err}
 
@@ -77,13 +77,7 @@ returns-then-count-left g c =
     let inv = c.pieces.invariant in
     let reads = inv.reads in
     let piece = take c.in-Ok-fill.count c.fill.new.buf in
-    let some : 0 < length (take c.in-Ok-fill.count c.fill.new.buf) =
-    omega (
-      arith,
-      length-take c.in-Ok-fill.count c.fill.new.buf,
-      c.in-Ok-fill.ensures.bound.1,
-      c.if-count-eq0.false,
-    ) in
+    let some = some_taken c.in-Ok-fill.count c.fill.new.buf c.in-Ok-fill.ensures.bound.1 c.if-count-eq0.false in
     let many : max_names_bytes < length (reads.script ++ piece) =
     omega (
       arith,
@@ -94,24 +88,15 @@ returns-then-count-left g c =
       c.if-count-left.true,
     ) in
     let ended = ended_by_limit _ _ _ _ _ _ _ _ reads.script reads.answers reads.are_names reads.so_far piece many in
-    has_course _ _ _ (reads.script ++ piece) ended.answers _ (limited_after ended.answers) _ _ _ _ _ _ _ ended.ends ended.so_far.answered ended.so_far.shelf
-    (consumes_more _ _ _ _ _ reads.taken c.in-Ok-fill.ensures.bytes.0)
-    (asked_within _ _ _ (asked_more reads.script _ _ _ _ _ reads.asked c.in-Ok-fill.ensures.calls c.if-count-eq0.false some)) (not_at_end _) (λ n. refl)
+    ended_at_piece _ _ _ _ _ _ _ _ _ _ _ _ _ _ _ c.in-Ok-fill.count piece limited_after _ _ reads ended c.in-Ok-fill.ensures.bytes.0 c.in-Ok-fill.ensures.calls c.if-count-eq0.false some (λ n. refl)
     (c.in-Ok-fill.ensures.cause ∙ inv.input_stays) (writes_from _ _ _ _ _ _ _ inv.stays (c.announce_limit.ensures _ _ ended.so_far.shown))
 
 pub pieces-preserved : goal.pieces-preserved
 pieces-preserved g c =
     let inv = c.pieces.invariant in
     let reads = inv.reads in
-    let whole : length c.fill.new.buf ≡ c.pieces.piece.len = omega (arith, c.deref_mut.ensures.len, c.fill.auto.buf) in
-    let kept = piece_kept c.fill.new.buf c.pieces.piece.items c.pieces.piece.len whole in
-    let some : 0 < length (take c.in-Ok-fill.count c.fill.new.buf) =
-    omega (
-      arith,
-      length-take c.in-Ok-fill.count c.fill.new.buf,
-      c.in-Ok-fill.ensures.bound.1,
-      c.if-count-eq0.false,
-    ) in
+    let kept = piece_kept c.fill.new.buf c.pieces.piece.items c.pieces.piece.len (omega (arith, c.deref_mut.ensures.len, c.fill.auto.buf)) in
+    let some = some_taken c.in-Ok-fill.count c.fill.new.buf c.in-Ok-fill.ensures.bound.1 c.if-count-eq0.false in
     let within : c.in-Ok-fill.count ≤ c.pieces.left = omega (arith, c.if-count-left.false) in
     let long : length (take c.in-Ok-fill.count c.fill.new.buf) ≡ c.in-Ok-fill.count =
     omega (arith, length-take c.in-Ok-fill.count c.fill.new.buf, c.in-Ok-fill.ensures.bound.1) in
@@ -132,45 +117,28 @@ pieces-preserved g c =
 pub returns-in-Err-OutOfMemory : goal.returns-in-Err-OutOfMemory
 returns-in-Err-OutOfMemory g c =
     let inv = c.pieces.invariant in
-    let reads = inv.reads in
+    let halt = c.in-Err-OutOfMemory in
     let piece = take c.in-Ok-fill.count c.fill.new.buf in
-    let whole : length c.fill.new.buf ≡ c.pieces.piece.len = omega (arith, c.deref_mut.ensures.len, c.fill.auto.buf) in
-    let kept = piece_kept c.fill.new.buf c.pieces.piece.items c.pieces.piece.len whole in
-    let some : 0 < length (take c.in-Ok-fill.count c.fill.new.buf) =
-    omega (
-      arith,
-      length-take c.in-Ok-fill.count c.fill.new.buf,
-      c.in-Ok-fill.ensures.bound.1,
-      c.if-count-eq0.false,
-    ) in
-    let halts = rw c.in-Err-OutOfMemory.field-0-is at c.in-Err-OutOfMemory.ensures.err in
+    let kept = piece_kept c.fill.new.buf c.pieces.piece.items c.pieces.piece.len (omega (arith, c.deref_mut.ensures.len, c.fill.auto.buf)) in
+    let halts = rw halt.field-0-is at halt.ensures.err in
     let stops = rw (inv.same_question, inv.same_dtd, c.deref-in-pieces.ensures.value, kept) at halts in
-    let stays = rw c.in-Err-OutOfMemory.field-0-is at c.in-Err-OutOfMemory.ensures.cause in
-    let ended = ended_without_memory _ _ _ _ _ _ _ _ reads.script reads.answers reads.are_names reads.so_far piece _ _ stops in
-    has_course _ _ _ (reads.script ++ piece) ended.answers _ (short_after ended.answers) _ _ _ _ _ _ _ ended.ends ended.so_far.answered ended.so_far.shelf
-    (consumes_more _ _ _ _ _ reads.taken c.in-Ok-fill.ensures.bytes.0)
-    (asked_within _ _ _ (asked_more reads.script _ _ _ _ _ reads.asked c.in-Ok-fill.ensures.calls c.if-count-eq0.false some)) (not_at_end _) (λ n. refl)
+    let stays = rw halt.field-0-is at halt.ensures.cause in
+    let ended = ended_without_memory _ _ _ _ _ _ _ _ inv.reads.script inv.reads.answers inv.reads.are_names inv.reads.so_far piece _ _ stops in
+    ended_at_piece _ _ _ _ _ _ _ _ _ _ _ _ _ _ _ c.in-Ok-fill.count piece short_after _ _ inv.reads ended c.in-Ok-fill.ensures.bytes.0 c.in-Ok-fill.ensures.calls c.if-count-eq0.false
+    (some_taken c.in-Ok-fill.count c.fill.new.buf c.in-Ok-fill.ensures.bound.1 c.if-count-eq0.false) (λ n. refl)
     (c.in-Ok-fill.ensures.cause ∙ inv.input_stays) (wrote refl refl ended.so_far.shown (stays ∙ inv.stays))
 
 pub returns-in-Err-OutputFault : goal.returns-in-Err-OutputFault
 returns-in-Err-OutputFault g c =
     let inv = c.pieces.invariant in
     let reads = inv.reads in
+    let halt = c.in-Err-OutputFault in
+    let fill = c.in-Ok-fill.ensures in
     let piece = take c.in-Ok-fill.count c.fill.new.buf in
-    let whole : length c.fill.new.buf ≡ c.pieces.piece.len = omega (arith, c.deref_mut.ensures.len, c.fill.auto.buf) in
-    let kept = piece_kept c.fill.new.buf c.pieces.piece.items c.pieces.piece.len whole in
-    let some : 0 < length (take c.in-Ok-fill.count c.fill.new.buf) =
-    omega (
-      arith,
-      length-take c.in-Ok-fill.count c.fill.new.buf,
-      c.in-Ok-fill.ensures.bound.1,
-      c.if-count-eq0.false,
-    ) in
-    let halts = rw c.in-Err-OutputFault.field-0-is at c.in-Err-OutputFault.ensures.err in
-    let stops = rw (inv.same_question, inv.same_dtd, c.deref-in-pieces.ensures.value, kept) at halts in
-    let rose = rw c.in-Err-OutputFault.field-0-is at c.in-Err-OutputFault.ensures.cause in
+    let kept = piece_kept c.fill.new.buf c.pieces.piece.items c.pieces.piece.len (omega (arith, c.deref_mut.ensures.len, c.fill.auto.buf)) in
+    let stops = rw (inv.same_question, inv.same_dtd, c.deref-in-pieces.ensures.value, kept) at (rw halt.field-0-is at halt.ensures.err) in
+    let rose = rw halt.field-0-is at halt.ensures.cause in
+    let some = some_taken c.in-Ok-fill.count c.fill.new.buf fill.bound.1 c.if-count-eq0.false in
     let ended = ended_within _ _ _ _ _ _ _ _ reads.script reads.answers reads.are_names reads.so_far piece _ _ stops in
-    has_course _ _ _ (reads.script ++ piece) ended.answers _ (cut_at ended.answers) _ _ _ _ _ _ _ ended.ends ended.so_far.answered ended.so_far.shelf
-    (consumes_more _ _ _ _ _ reads.taken c.in-Ok-fill.ensures.bytes.0)
-    (asked_within _ _ _ (asked_more reads.script _ _ _ _ _ reads.asked c.in-Ok-fill.ensures.calls c.if-count-eq0.false some)) (not_at_end _) (λ n. refl)
-    (c.in-Ok-fill.ensures.cause ∙ inv.input_stays) (cut_off _ refl refl ended.so_far.shown (rw inv.stays at rose))
+    ended_at_piece _ _ _ _ _ _ _ _ _ _ _ _ _ _ _ c.in-Ok-fill.count piece cut_at _ _ reads ended fill.bytes.0 fill.calls c.if-count-eq0.false some (λ n. refl)
+    (fill.cause ∙ inv.input_stays) (cut_off _ refl refl ended.so_far.shown (rw inv.stays at rose))

@@ -1,21 +1,18 @@
-use Rattle.std.proofs.Common.{◌≡◌, ◌++◌, List, None, Result, Ok, Err, codes, decimal, ℕ, refl}
+use Rattle.std.proofs.Common.{◌≡◌, ◌++◌, List, None, codes, decimal, ℕ, refl}
 use Rattle.std.specs.List.{AllByRecursion}
 use Rattle.pv_complete.specs.NeededElements.{AreLiveVerdicts}
 use Rattle.pv_dtd.specs.Plain.{PlainDtd}
 use Rattle.pv_missing.specs.Verdicts.{IsLive, PlainVerdicts}
 use Rattle.pv_opening.specs.Possibility.{AreVerdictsOf}
-use Rattle.pv_opening.specs.Response.{PlainResponse, with_line}
-use Rattle.pv_opening.specs.Returns.{TellsBy}
-use Rattle.pv_opening.specs.declared.response.Response.{Response}
+use Rattle.pv_opening.specs.Response.{with_line}
 use Rattle.pv_opening.specs.declared.status.Status.TheVariants.{Done}
-use Rattle.pv_opening.specs.declared.stop.Stop.{Stop}
-use Rattle.pv_opening.proofs.Stages.{stops_as}
 use Rattle.pv_productive.specs.PlainForms.{dtd_of}
 use Rattle.pv_tree.specs.Lists.{lists_of}
 use Rattle.pv_tree.specs.Plain.{PlainDoc}
 use Rattle.pv_tree.specs.PlainDocs.{plain_doc}
 use Rattle.pv_tree.specs.declared.nodes.Mark.{Mark}
 use Rattle.pv_many.specs.MissingAnswers.{TellsMissing, is_needed}
+use Rattle.pv_many.proofs.CallResults.{tells_as}
 use Rattle.pv_many.proofs.missing.weighed_line.Goals as goal
 
 module _ (root : List ℕ) (g : PlainDtd) (doc : PlainDoc Mark) (vs : PlainVerdicts)
@@ -29,12 +26,6 @@ module _ (root : List ℕ) (g : PlainDtd) (doc : PlainDoc Mark) (vs : PlainVerdi
     possible = has.possible.0 (rw none refl);
     verdicts = has.verdicts.are_verdicts;
   }
-
--- what tells one kind of response tells another
-tells_as : (P Q : PlainResponse → Type 0) (result : Result Response Stop) →
-    ((r : PlainResponse) → P r → Q r) → TellsBy P result → TellsBy Q result
-tells_as P Q (Ok r) f tells = f _ tells
-tells_as P Q (Err stop) f tells = stops_as P Q stop f tells
 
 pub need_remembering-requires : goal.need_remembering-requires
 need_remembering-requires c = rw c.grammar.ensures c.requires
