@@ -2,4 +2,5 @@
 pub mod BoundSums
 pub mod ExactAnswers
 pub mod GoalWork
+pub mod RoomPast
 pub mod TaggedDocs

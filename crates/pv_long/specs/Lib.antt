@@ -1,4 +1,5 @@
 pub mod BoundAnswers
 pub mod AddedBounds
 pub mod NewTags
+pub mod Ends
 pub mod Goals

@@ -4,6 +4,7 @@ pub mod building;
 pub mod classes;
 pub mod derivations;
 pub mod empties;
+pub mod ends;
 pub mod filling;
 pub mod fronts;
 pub mod goals;

@@ -1,6 +1,10 @@
 //! The fronts of the place at hand.
 
+ghost use Rattle.std.specs.Prelude.{◌<◌, IfOk, IfSome};
+ghost use Rattle.pv_long.specs.Ends.{room_left};
+
 use crate::making::derivations::{Derivation, Derivations, Rule};
+use crate::making::ends::Ends;
 use crate::making::fronts::{end_of, put};
 use crate::making::grain::{Grain, Way};
 use pv_bounds::Reach;
@@ -174,6 +178,11 @@ impl Here {
         }
     }
 
+    /// Of how many columns not all cuts are tried.
+    pub fn partly_tried(&self) -> usize {
+        self.columns.iter().filter(|column| !column.all).count()
+    }
+
     /// The place at which the front of a column is taken as an example.
     pub fn example(&self, column: u32) -> u32 {
         match self.columns.get(column as usize) {
@@ -278,17 +287,12 @@ impl Here {
         Ok(())
     }
 
-    // How many columns wait at a cost beyond the least.
-    fn waiting_at(&self, beyond: usize) -> usize {
-        match self.waiting.get(beyond) {
-            Some(waiting) => waiting.len(),
-            None => 0,
+    // The columns that waited at a cost beyond the least. These wait now.
+    fn swap_waiting(&mut self, beyond: usize, columns: Vec<u32>) -> Vec<u32> {
+        match self.waiting.get_mut(beyond) {
+            Some(waiting) => std::mem::replace(waiting, columns),
+            None => columns,
         }
-    }
-
-    // The next column that waits at a cost beyond the least.
-    fn next(&mut self, beyond: usize) -> Option<u32> {
-        self.waiting.get_mut(beyond)?.pop()
     }
 
     /// How many costs beyond the least there are at which columns have waited.
@@ -296,81 +300,83 @@ impl Here {
         self.waiting.len()
     }
 
-    /// Settles the next offer at a cost beyond the least: the column reaches so far. None where no
-    /// offer waits any more.
+    /// Settles the next offer at a cost beyond the least: the column reaches so far, which is further
+    /// than the ends of fronts so far. None where no offer waits any more.
     pub fn settle(
         &mut self,
+        alloc: Global,
         beyond: usize,
         derivations: &mut Derivations,
-    ) -> Result<Option<Step>, NoMemory> {
+        ends: &mut Ends,
+    ) -> Result<Option<Step>, NoMemory>
+        ensures { IfOk result (λ step. IfSome step (λ _. room_left ends.new < room_left ends.old)) }
+    {
         let cost = u32::saturating_add(self.least, u32::try_from(beyond).unwrap_or(u32::MAX));
-        for _offer in 0..self.waiting_at(beyond) {
-            let Some(column) = self.next(beyond) else {
-                break;
-            };
-            if let Some(step) = self.take(column, cost, beyond, derivations)? {
-                return Ok(Some(step));
+        let mut waiting = self.swap_waiting(beyond, Vec::new(alloc));
+        while let Some(column) = waiting.pop() {
+            if let Some(offer) = self.take(column, beyond) {
+                if ends.extend(column, offer.end) {
+                    self.swap_waiting(beyond, waiting);
+                    return Ok(Some(self.reach(column, cost, offer, derivations)?));
+                }
             }
         }
+        self.swap_waiting(beyond, waiting);
         Ok(None)
     }
 
-    // Puts what is offered to a column into its front, unless it goes as far by now.
-    fn take(
+    // What is offered to a column at a cost beyond the least. It no longer waits.
+    fn take(&mut self, column: u32, beyond: usize) -> Option<Offer> {
+        self.columns.get_mut(column as usize)?.take(beyond)
+    }
+
+    // Puts what was offered to a column into its front.
+    fn reach(
         &mut self,
         column: u32,
         cost: u32,
-        beyond: usize,
+        offer: Offer,
         derivations: &mut Derivations,
-    ) -> Result<Option<Step>, NoMemory> {
-        let Some(known) = self.columns.get_mut(column as usize) else {
-            return Ok(None);
-        };
-        let Some(Offer { end, rule }) = known.take(beyond) else {
-            return Ok(None);
-        };
-        if end_of(known.front.as_slice()) >= end {
-            return Ok(None);
+    ) -> Result<Step, NoMemory> {
+        let Offer { end, rule } = offer;
+        let via = derivations.add(Derivation { end, rule })?;
+        if let Some(known) = self.columns.get_mut(column as usize) {
+            if self.grain.is_thin() {
+                self.grain.thin(&mut known.front, self.place, end);
+            }
+            put(&mut known.front, Reach { cost, end, via })?;
         }
-        if self.grain.is_thin() {
-            self.grain.thin(&mut known.front, self.place, end);
-        }
-        let number = derivations.add(Derivation { end, rule })?;
-        put(
-            &mut known.front,
-            Reach {
-                cost,
-                end,
-                via: number,
-            },
-        )?;
-        Ok(Some(Step {
+        Ok(Step {
             column,
             cost,
             end,
-            number,
-        }))
+            number: via,
+        })
     }
 
-    /// Tells greater costs apart, once no offer waits any more, and tells whether there are any.
-    pub fn go_dearer(&mut self, alloc: Global) -> Result<bool, NoMemory> {
-        if self.dear.is_empty() {
-            return Ok(false);
+    /// Tells greater costs apart, once no offer waits any more: the least one that is offered, where
+    /// it is greater than this one.
+    pub fn go_dearer(&mut self, alloc: Global, cost: u32) -> Result<Option<u32>, NoMemory>
+        ensures { IfOk result (λ least. IfSome least (λ n. cost < n)) }
+    {
+        let Some(least) = self.dear.iter().map(|dear| dear.cost).min() else {
+            return Ok(None);
+        };
+        if least <= cost {
+            return Ok(None);
         }
-        self.least = HEAVIEST;
-        for dear in self.dear.iter() {
-            self.least = self.least.min(dear.cost);
+        self.offer_dear(alloc, least)?;
+        Ok(Some(least))
+    }
+
+    // Offers again what was too dear, where this is the least cost.
+    fn offer_dear(&mut self, alloc: Global, least: u32) -> Result<(), NoMemory> {
+        self.least = least;
+        let dear = std::mem::replace(&mut self.dear, Vec::new(alloc));
+        for dear in dear.iter() {
+            self.again(alloc, dear.column, dear.cost, dear.offer)?;
         }
-        let mut dear = Vec::new(alloc);
-        std::mem::swap(&mut dear, &mut self.dear);
-        for Dear {
-            column,
-            cost,
-            offer,
-        } in dear.iter().copied() {
-            self.again(alloc, column, cost, offer)?;
-        }
-        Ok(true)
+        Ok(())
     }
 
     // Offers again what was too dear.

@@ -3,7 +3,7 @@
 use crate::making::classes::Classes;
 use crate::making::derivations::{Derivations, Rule};
 use crate::making::here::Here;
-use crate::making::spreading::{Known, lacks_some, settle};
+use crate::making::spreading::{Known, settle, try_lacking};
 use pv_bounds::Row;
 use pv_chars::NoMemory;
 use pv_layout::Form;
@@ -44,7 +44,7 @@ fn offer_token(known: Known<'_>, here: &mut Here, token: Token) -> Result<(), No
     }
 }
 
-/// Makes the fronts at a place. Each time some classes more have all their cuts tried.
+/// Makes the fronts at a place. Each time fewer classes are left of which not all cuts are tried.
 pub fn fill_place(
     known: Known<'_>,
     here: &mut Here,
@@ -52,16 +52,22 @@ pub fn fill_place(
     token: Token,
 ) -> Result<(), NoMemory> {
     let before = derivations.count();
-    for _time in 0..usize::saturating_add(known.classes.count(), 2) {
+    let mut left = here.partly_tried();
+    'times: loop {
         offer_token(known, here, token)?;
         settle(known, here, derivations)?;
-        if here.may_lack() || !lacks_some(known, here) {
-            break;
+        if here.may_lack() {
+            return Ok(());
         }
+        try_lacking(known, here);
+        let fewer = here.partly_tried();
+        if fewer >= left {
+            return Ok(());
+        }
+        left = fewer;
         here.clear();
         derivations.keep(before);
     }
-    Ok(())
 }
 
 /// The row of the place at hand, by class.

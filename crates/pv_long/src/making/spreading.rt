@@ -3,13 +3,13 @@
 use crate::making::classes::Classes;
 use crate::making::derivations::{Derivation, Derivations, Rule};
 use crate::making::empties::{cost_at, sum_of};
+use crate::making::ends::Ends;
 use crate::making::fronts::{beyond, costs_at_least, costs_at_most, end_of, more_than, reach_to};
 use crate::making::here::{COSTS, Here, Step};
 use crate::making::known_columns::KnownColumns;
 use pv_bounds::{Reach, Row};
 use pv_chars::NoMemory;
 use pv_layout::Form;
-use pv_rules::HEAVIEST;
 use std::alloc::Global;
 
 /// How far on all cuts are tried.
@@ -125,10 +125,10 @@ fn follow_twin(
     last: u32,
 ) -> Result<(), NoMemory> {
     let reaches = known.reaches(here.example(user), user);
-    for _reach in 0..reaches.len() {
-        let Some(like) = reaches.get(here.followed(user)) else {
-            break;
-        };
+    let Some(reaches) = reaches.get(here.followed(user)..) else {
+        return Ok(());
+    };
+    for like in reaches {
         if let Some(
             Derivation {
                 rule: Rule::Two { cut, .. },
@@ -213,20 +213,16 @@ fn first_of(known: Known<'_>, user: u32) -> Option<u32> {
     }
 }
 
-/// Lets all cuts be tried of the columns that might have led further by others, and tells whether
-/// there are any.
-pub fn lacks_some(known: Known<'_>, here: &mut Here) -> bool {
-    let mut lacks = false;
+/// Lets all cuts be tried of the columns that might have led further by others.
+pub fn try_lacking(known: Known<'_>, here: &mut Here) {
     for user in 0..known.classes.count() {
         let user = u32::try_from(user).unwrap_or(u32::MAX);
         if let Some(first) = first_of(known, user) {
             if !has_all(known, here, user, first) {
                 here.try_all(user);
-                lacks = true;
             }
         }
     }
-    lacks
 }
 
 // Offers what a sequence of two columns reaches by the step of one of them.
@@ -297,16 +293,29 @@ fn settle_cost(
     known: Known<'_>,
     here: &mut Here,
     derivations: &mut Derivations,
+    ends: &mut Ends,
     beyond: usize,
 ) -> Result<(), NoMemory> {
-    let ends = usize::saturating_add(known.tokens as usize, 1);
-    for _step in 0..usize::saturating_mul(known.classes.count(), ends) {
-        let Some(step) = here.settle(beyond, derivations)? else {
-            break;
-        };
+    'steps: while let Some(step) = here.settle(known.alloc, beyond, derivations, ends)? {
         for user in known.above(step.column) {
             derive(known, here, derivations, *user, step)?;
         }
+    }
+    Ok(())
+}
+
+// Offers what follows from all reaches whose costs are told apart.
+fn settle_costs(
+    known: Known<'_>,
+    here: &mut Here,
+    derivations: &mut Derivations,
+    ends: &mut Ends,
+) -> Result<(), NoMemory> {
+    for beyond in 0..COSTS {
+        if beyond >= here.costs() {
+            break;
+        }
+        settle_cost(known, here, derivations, ends, beyond)?;
     }
     Ok(())
 }
@@ -318,16 +327,12 @@ pub fn settle(
     here: &mut Here,
     derivations: &mut Derivations,
 ) -> Result<(), NoMemory> {
-    for _round in 0..HEAVIEST {
-        for beyond in 0..COSTS {
-            if beyond >= here.costs() {
-                break;
-            }
-            settle_cost(known, here, derivations, beyond)?;
-        }
-        if !here.go_dearer(known.alloc)? {
-            break;
-        }
+    let mut ends = Ends::none(known.alloc, known.classes.count())?;
+    settle_costs(known, here, derivations, &mut ends)?;
+    let mut least = 0;
+    'rounds: while let Some(dearer) = here.go_dearer(known.alloc, least)? {
+        least = dearer;
+        settle_costs(known, here, derivations, &mut ends)?;
     }
     Ok(())
 }
