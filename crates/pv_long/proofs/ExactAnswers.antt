@@ -1,5 +1,5 @@
 -- What is told of a document is so.
-use Rattle.std.proofs.Common.{List, [], arith, length, lit≤, max, refl, sym, ℕ, ◌∙◌, ◌∷◌, ◌<◌, ◌≡◌, ◌≤◌}
+use Rattle.std.proofs.Common.{Err, IfErr, List, Ok, Result, [], arith, length, lit≤, max, refl, sym, ℕ, ◌∙◌, ◌∷◌, ◌<◌, ◌≡◌, ◌≤◌}
 use Rattle.pv_dtd.specs.Hedge.{IsValid, elements}
 use Rattle.pv_dtd.specs.Plain.{PlainDtd}
 use Rattle.pv_dtd.specs.Proper.{IsProperDtd}
@@ -23,8 +23,9 @@ use Rattle.pv_fresh.specs.Answers.{HasPossibility}
 use Rattle.pv_compare.specs.Kept.{IsBodyText, KeepsDocument}
 use Rattle.pv_long.specs.AddedBounds.{AreBounded}
 use Rattle.pv_long.specs.NewTags.{IsWrittenWithTags}
-use Rattle.pv_long.specs.BoundAnswers.{AreMissing, IsCompletion, IsCompletionText, IsExact, IsOwnText, IsWithinBounds, OneLeast, SaysNothing, TellsNone}
+use Rattle.pv_long.specs.BoundAnswers.{AreMissing, IsCompletion, IsCompletionText, IsExact, IsOwnText, IsWithinBounds, OneLeast, SaysHeavy, SaysNothing, TellsNone}
 use Rattle.pv_long.specs.declared.answers.Completion.{Completion}
+use Rattle.pv_long.specs.declared.answers.Missing.{Missing}
 use Rattle.pv_long.specs.declared.errors.LongError.{LongError}
 use Rattle.pv_long.specs.declared.errors.LongError.TheVariants as error
 use Rattle.pv_long.proofs.TaggedDocs.{own_tags}
@@ -104,12 +105,25 @@ module _ {M : Type 0} (g : PlainDtd) (root : List ℕ) (doc : PlainDoc M) where
     };
   }
 
-  pub tells_none : (vs : PlainVerdicts) (e : LongError) → HasPossibility root g doc vs → SaysNothing e → TellsNone g root doc e
+  pub says_heavy : (e : LongError) → SaysNothing e → SaysHeavy g root doc e
+  says_heavy (error.Impossible path) h = absurd h
+  says_heavy (error.TooWide path) h = absurd h
+  says_heavy error.TooHeavy h = absurd h
+  says_heavy error.TooMany h = tt
+  says_heavy error.Unproved h = tt
+  says_heavy error.NoMemory h = tt
+
+  tells_none : (vs : PlainVerdicts) (e : LongError) → HasPossibility root g doc vs → SaysHeavy g root doc e → TellsNone g root doc e
   tells_none vs (error.Impossible path) has h = absurd h
   tells_none vs (error.TooWide path) has h = absurd h
+  tells_none vs error.TooHeavy has h = record { may = record { narrow = has.narrow; possible = has.possible }; heavy = h }
   tells_none vs error.TooMany has h = record { narrow = has.narrow; possible = has.possible }
   tells_none vs error.Unproved has h = record { narrow = has.narrow; possible = has.possible }
   tells_none vs error.NoMemory has h = tt
+
+  pub refused : (vs : PlainVerdicts) (told : Result Missing LongError) → HasPossibility root g doc vs → IfErr told (SaysHeavy g root doc) → IfErr told (TellsNone g root doc)
+  refused vs (Ok m) has h = tt
+  refused vs (Err e) has h = tells_none vs e has h
 
 nothing_long : (xs : List ℕ) → length xs ≡ 0 → xs ≡ []
 nothing_long [] e = refl

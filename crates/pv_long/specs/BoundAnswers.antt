@@ -8,6 +8,7 @@ use Rattle.pv_tree.specs.Lists.{lists_of}
 use Rattle.pv_tree.specs.Plain.{PlainDoc}
 use Rattle.pv_tree.specs.View.{view}
 use Rattle.pv_tree.specs.declared.nodes.Mark.{Mark}
+use Rattle.pv_rules.specs.Derivations.{heaviest}
 use Rattle.pv_missing.specs.Completions.{Completes, HasCompletion, IsLeast, IsPotentiallyValid}
 use Rattle.pv_missing.specs.Verdicts.{HavePossible}
 use Rattle.pv_missing.specs.Widths.{IsFirstTooWide, IsListForVerdict}
@@ -19,7 +20,7 @@ use Rattle.pv_long.specs.declared.answers.Missing.{Missing}
 use Rattle.pv_long.specs.declared.answers.Missing.TheVariants.{Between, Exactly}
 use Rattle.pv_long.specs.declared.errors.LongError.{LongError}
 use Rattle.pv_long.specs.declared.errors.LongError.TheVariants.{Impossible, NoMemory, TooMany}
-use Rattle.pv_long.specs.declared.errors.LongError.TheVariants.{TooWide, Unproved}
+use Rattle.pv_long.specs.declared.errors.LongError.TheVariants.{TooHeavy, TooWide, Unproved}
 
 -- The body is the text of a valid document that is this one with count elements inserted, and
 -- written as this one is. The marks are their numbers in it, in document order, the root having the
@@ -84,11 +85,17 @@ pub record MayBeCompleted {M : Type 0} (g : PlainDtd) (root : List ℕ) (doc : P
     pub narrow : AllByRecursion (IsListForVerdict g) (lists_of doc)
     pub possible : IsPotentiallyValid g root (view doc.root)
 
--- Why nothing is told. A limit and a check that isn't passed come only where none of the other
--- causes does; want of memory says nothing of the document.
+-- it can be made valid, and each completion inserts more than 1,000,000 elements
+pub record IsTooHeavy {M : Type 0} (g : PlainDtd) (root : List ℕ) (doc : PlainDoc M) : Type 0 where
+  pub may : MayBeCompleted g root doc
+  pub heavy : AreMissing g root doc heaviest
+
+-- Why nothing is told. That too many elements are missing, a limit, and a check that isn't passed come
+-- only where none of the other causes does; want of memory says nothing of the document.
 abbrev pub TellsNone : {M : Type 0} → PlainDtd → List ℕ → PlainDoc M → LongError → Type 0
 TellsNone g root doc (Impossible path) = IsImpossibleAt root g doc path
 TellsNone g root doc (TooWide path) = IsFirstTooWide g (lists_of doc) path
+TellsNone g root doc TooHeavy = IsTooHeavy g root doc
 TellsNone g root doc TooMany = MayBeCompleted g root doc
 TellsNone g root doc Unproved = MayBeCompleted g root doc
 TellsNone g root doc NoMemory = Unit {0}
@@ -97,9 +104,19 @@ TellsNone g root doc NoMemory = Unit {0}
 abbrev pub SaysNothing : LongError → Type 0
 SaysNothing (Impossible path) = ⊥
 SaysNothing (TooWide path) = ⊥
+SaysNothing TooHeavy = ⊥
 SaysNothing TooMany = Unit {0}
 SaysNothing Unproved = Unit {0}
 SaysNothing NoMemory = Unit {0}
+
+-- an error that says nothing of a document, or that more than 1,000,000 elements are missing in it
+abbrev pub SaysHeavy : {M : Type 0} → PlainDtd → List ℕ → PlainDoc M → LongError → Type 0
+SaysHeavy g root doc (Impossible path) = ⊥
+SaysHeavy g root doc (TooWide path) = ⊥
+SaysHeavy g root doc TooHeavy = AreMissing g root doc heaviest
+SaysHeavy g root doc TooMany = Unit {0}
+SaysHeavy g root doc Unproved = Unit {0}
+SaysHeavy g root doc NoMemory = Unit {0}
 
 -- a hedge has one least number of missing elements
 abbrev pub OneLeast : Type 0

@@ -26,17 +26,19 @@ use pv_fresh::owner_under;
 use pv_layout::ColumnLayout;
 use pv_missing::{Of, Verdicts};
 use pv_model::Token;
-use pv_rules::Site;
+use pv_rules::{HEAVIEST, Site};
 use pv_tree::{Doc, Lists, Mark, Node, Verdict, word};
 use pv_write::Piece;
 use std::alloc::Global;
 
 /// What is found of the lists so far: how many there were, a number that their bounds add up to at
-/// least, and the pieces of each, none where it isn't Possible.
+/// least, whether one of them lacks more than 1,000,000 elements by its bound, and the pieces of each,
+/// none where it isn't Possible or lacks so many.
 #[derive(Drop)]
 pub struct Found {
     used: u64,
     pub least: u32,
+    pub has_heavy: bool,
     pub pieces: Vec<Vec<Piece>>,
 }
 
@@ -48,6 +50,7 @@ impl Found {
         Found {
             used: 0,
             least: 0,
+            has_heavy: false,
             pieces: Vec::new(alloc),
         }
     }
@@ -156,7 +159,7 @@ fn few_pieces(
 }
 
 // How many elements are missing in a list of this word at least, and the pieces of a completion, by
-// what is made of it.
+// what is made of it; no pieces where more than 1,000,000 are.
 fn bound_filled(
     alloc: Global,
     known: &KnownColumns<'_>,
@@ -170,6 +173,9 @@ fn bound_filled(
         IsBound (dtd_of known.now.layout.now.grammar.now) root list found.0) }
 {
     let least = word_bound(alloc, known.layout, of, word, &filled.fronts)?;
+    if least >= HEAVIEST {
+        return Ok((least, Vec::new(alloc)));
+    }
     let pieces = pieces_by(alloc, known, of, word, filled)?;
     Ok((least, pieces))
 }
@@ -193,7 +199,8 @@ fn bound_within(
 }
 
 // A lower bound of a word, and pieces, by whatever is made of it: of a short one all, of a longer
-// one what is seen within windows, and else as much as there is room for.
+// one what is seen within windows, and else as much as there is room for. There are no pieces where
+// more than 1,000,000 elements are missing.
 fn bound_word(
     alloc: Global,
     known: &KnownColumns<'_>,
@@ -209,6 +216,9 @@ fn bound_word(
         return bound_filled(alloc, known, of, word, &filled);
     }
     let least = bound_within(alloc, known, of, word)?;
+    if least >= HEAVIEST {
+        return Ok((least, Vec::new(alloc)));
+    }
     if least > 0 {
         let pieces = few_pieces(alloc, known, of, word, least)?;
         return Ok((least, pieces));
@@ -257,6 +267,7 @@ fn bound_list(
     };
     let (least, pieces) = bound_kids(alloc, known, of, kids)?;
     found.pieces.push(pieces)?;
+    found.has_heavy = found.has_heavy || least >= HEAVIEST;
     found.least = u32::saturating_add(found.least, least);
     Ok(())
 }

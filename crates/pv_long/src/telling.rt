@@ -11,10 +11,11 @@ ghost use Rattle.pv_read.specs.Meaning.{DocumentMeans, is_document};
 ghost use Rattle.pv_missing.specs.Verdicts.{possible_in};
 ghost use Rattle.pv_fresh.specs.Answers.{HasPossibility};
 ghost use Rattle.pv_long.specs.NewTags.{IsWrittenWithTags};
-ghost use Rattle.pv_long.specs.BoundAnswers.{AreMissing, IsCompletion, IsMissing, IsOwnText, TellsNone};
+ghost use Rattle.pv_long.specs.BoundAnswers.{AreMissing, IsCompletion, IsMissing, IsOwnText, SaysHeavy};
+ghost use Rattle.pv_long.specs.BoundAnswers.{TellsNone};
 
 use crate::answers::{Completion, Missing};
-use crate::bounding::bound_doc;
+use crate::bounding::{Found, bound_doc};
 use crate::checking::is_completion;
 use crate::errors::{LongError, MakeError};
 use crate::making::known_columns::known_columns;
@@ -30,9 +31,10 @@ use pv_missing::laws::proper::proper_doc_law;
 use pv_missing::laws::verdicts::none_possible_law;
 use pv_productive::Grammar;
 use pv_read::laws::{agreement_law, wider_limits_law};
+use pv_rules::HEAVIEST;
 use pv_tree::{Doc, Mark};
 use pv_write::laws::spelled_is_written_law;
-use pv_write::{TaggedText, doc_with_tags};
+use pv_write::{Piece, TaggedText, doc_with_tags};
 use std::alloc::Global;
 
 // The verdicts of the lists of a document that isn't impossible.
@@ -100,6 +102,48 @@ fn least_of(bound: u32, verdicts: &Verdicts) -> Result<u32, MakeError>
     Ok(u32::max(bound, left))
 }
 
+// What is found of the lists of a document, and a number that no completion passes from above, no
+// fewer than its Possible lists.
+fn bound_lists(
+    alloc: Global,
+    grammar: &Grammar,
+    root: &[u8],
+    doc: &Doc,
+    verdicts: &Verdicts,
+) -> Result<(u32, Found), MakeError>
+    requires { HasPossibility root.now (dtd_of grammar.now) (plain_doc doc.now) verdicts.now }
+    ensures least { IfOk result (λ found.
+        AreMissing (dtd_of grammar.now) root.now (plain_doc doc.now) found.0) }
+    ensures lists { IfOk result (λ found. possible_in verdicts.now.verdicts ≤ found.0) }
+{
+    bounds_add_up_law::<Mark>();
+    possible_missing_law::<Mark>();
+    proper_doc_law(doc);
+    let layout = lay_out(alloc, grammar)?;
+    let known = known_columns(alloc, &layout)?;
+    let found = bound_doc(alloc, &known, root, doc, verdicts)?;
+    let least = least_of(found.least, verdicts)?;
+    Ok((least, found))
+}
+
+// The completion of a document by the pieces of its lists.
+fn complete_by(
+    alloc: Global,
+    dtd: &Dtd,
+    root: &[u8],
+    doc: &Doc,
+    bytes: &[u8],
+    pieces: &[Vec<Piece>],
+) -> Result<Completion, MakeError>
+    requires { DocumentMeans blank_mark root.now bytes.now (is_document (plain_doc doc.now)) }
+    ensures { IfOk result (IsCompletion (plain_dtd dtd.now) root.now (plain_doc doc.now)) }
+{
+    check_tags(dtd, pieces, bytes.len())?;
+    let text = doc_with_tags(alloc, dtd, pieces, doc)?;
+    let completion = completion_of(alloc, dtd, root, bytes, text)?;
+    Ok(completion)
+}
+
 // A number that no completion of a document passes from above, no fewer than its Possible lists,
 // and one of its completions.
 fn bounds_of(
@@ -109,7 +153,7 @@ fn bounds_of(
     doc: &Doc,
     bytes: &[u8],
     verdicts: &Verdicts,
-) -> Result<(u32, Completion), MakeError>
+) -> Result<(u32, Completion), LongError>
     requires text { DocumentMeans blank_mark root.now bytes.now (is_document (plain_doc doc.now)) }
     requires possible { HasPossibility root.now (dtd_of grammar.now) (plain_doc doc.now)
         verdicts.now }
@@ -118,18 +162,13 @@ fn bounds_of(
     ensures lists { IfOk result (λ found. possible_in verdicts.now.verdicts ≤ found.0) }
     ensures completion { IfOk result (λ found.
         IsCompletion (dtd_of grammar.now) root.now (plain_doc doc.now) found.1) }
+    ensures refused { IfErr result (SaysHeavy (dtd_of grammar.now) root.now (plain_doc doc.now)) }
 {
-    bounds_add_up_law::<Mark>();
-    possible_missing_law::<Mark>();
-    proper_doc_law(doc);
-    let dtd = grammar.dtd();
-    let layout = lay_out(alloc, grammar)?;
-    let known = known_columns(alloc, &layout)?;
-    let found = bound_doc(alloc, &known, root, doc, verdicts)?;
-    let least = least_of(found.least, verdicts)?;
-    check_tags(dtd, &found.pieces, bytes.len())?;
-    let text = doc_with_tags(alloc, dtd, &found.pieces, doc)?;
-    let completion = completion_of(alloc, dtd, root, bytes, text)?;
+    let (least, found) = bound_lists(alloc, grammar, root, doc, verdicts)?;
+    if found.has_heavy && least >= HEAVIEST {
+        return Err(LongError::TooHeavy);
+    }
+    let completion = complete_by(alloc, grammar.dtd(), root, doc, bytes, &found.pieces)?;
     Ok((least, completion))
 }
 
@@ -153,12 +192,13 @@ fn missing_by(
     doc: &Doc,
     bytes: &[u8],
     verdicts: &Verdicts,
-) -> Result<Missing, MakeError>
+) -> Result<Missing, LongError>
     requires text { DocumentMeans blank_mark root.now bytes.now (is_document (plain_doc doc.now)) }
     requires possible { HasPossibility root.now (dtd_of grammar.now) (plain_doc doc.now)
         verdicts.now }
-    ensures { IfOk result (IsMissing (dtd_of grammar.now) root.now (plain_doc doc.now)
+    ensures told { IfOk result (IsMissing (dtd_of grammar.now) root.now (plain_doc doc.now)
         bytes.now) }
+    ensures refused { IfErr result (SaysHeavy (dtd_of grammar.now) root.now (plain_doc doc.now)) }
 {
     none_possible_law::<Mark>();
     extensions_complete_law::<Mark, Mark>();
@@ -197,5 +237,5 @@ pub fn missing(
     ensures refused { IfErr result (TellsNone (dtd_of grammar.now) root.now (plain_doc doc.now)) }
 {
     let verdicts = verdicts_of(alloc, grammar, root, doc)?;
-    Ok(missing_by(alloc, grammar, root, doc, bytes, &verdicts)?)
+    missing_by(alloc, grammar, root, doc, bytes, &verdicts)
 }

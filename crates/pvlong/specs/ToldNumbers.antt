@@ -9,7 +9,7 @@ use Rattle.pv_missing.specs.Completions.{HasCompletion, IsLeast}
 use Rattle.pv_missing.specs.Widths.{IsFirstTooWide}
 use Rattle.pv_fresh.specs.Answers.{IsImpossibleAt}
 use Rattle.pv_long.specs.BoundAnswers.{AreMissing, CountsPossible, IsCompletionText, KeepsValid}
-use Rattle.pv_long.specs.BoundAnswers.{MayBeCompleted}
+use Rattle.pv_long.specs.BoundAnswers.{IsTooHeavy, MayBeCompleted}
 use Rattle.pv_words.specs.Paths.{path_text}
 use Rattle.pv_opening.specs.declared.status.Status.TheVariants.{Done, Limit, Negative}
 use Rattle.pv_opening.specs.Response.{PlainResponse, with_line}
@@ -22,13 +22,16 @@ use Rattle.pvlong.specs.declared.telling.Told.{Told}
 
 -- Nothing is told: the path is that of the first list that is too wide for a verdict; or none is,
 -- no insertions make the document valid, and the path is that of its first impossible list. Or none
--- is, some insertions do, and what is made passes a limit or doesn't pass its check.
+-- is, some insertions do, and all such insert more than 1,000,000 elements, or what is made passes a
+-- limit or doesn't pass its check.
 pub data TellsNothing {M : Type 0} (root : List ℕ) (g : PlainDtd) (doc : PlainDoc M)
     (r : PlainResponse) : Type 0 where
   is_too_wide : (path : List ℕ) → IsFirstTooWide g (lists_of doc) path →
       r ≡ with_line Limit (codes "no wide " ++ path_text path) → TellsNothing root g doc r
   is_impossible : (path : List ℕ) → IsImpossibleAt root g doc path →
       r ≡ with_line Negative (codes "no impossible " ++ path_text path) →
+      TellsNothing root g doc r
+  is_heavy : IsTooHeavy g root doc → r ≡ with_line Limit (codes "no heavy") →
       TellsNothing root g doc r
   passes_limit : MayBeCompleted g root doc → r ≡ with_line Limit (codes "no limit") →
       TellsNothing root g doc r

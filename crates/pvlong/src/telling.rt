@@ -98,6 +98,7 @@ pub fn refuse_missing(alloc: Global, error: LongError) -> Stop
         LongError::Impossible(path) => {
             refuse_path(alloc, Status::Negative, b"no impossible ", path.places())
         }
+        LongError::TooHeavy => refuse(alloc, Status::Limit, b"no heavy"),
         LongError::TooMany => refuse(alloc, Status::Limit, b"no limit"),
         LongError::Unproved => refuse(alloc, Status::Limit, b"no proof"),
         LongError::NoMemory => Stop::NoMemory,

@@ -1,27 +1,22 @@
 use Rattle.std.proofs.Common.{arith}
-use Rattle.pv_dtd.proofs.ProperDtds.{proper}
-use Rattle.pv_dtd.specs.PlainForms.{plain_dtd}
+use Rattle.std.proofs.lemmas.Result.{err_from_is_err_and}
 use Rattle.pv_productive.specs.PlainForms.{dtd_of}
 use Rattle.pv_tree.specs.PlainDocs.{plain_doc}
-use Rattle.pv_write.specs.PieceForms.{plain_lists}
-use Rattle.pv_long.proofs.ExactAnswers.{are_missing}
-use Rattle.pv_long.proofs.TaggedDocs.{written_with_tags}
+use Rattle.pv_long.proofs.ExactAnswers.{says_heavy}
 use Rattle.pv_long.proofs.telling.bounds_of.Goals as goal
 
-pub returns-clause-least : goal.returns-clause-least
-returns-clause-least c =
-    are_missing (dtd_of c.args.grammar.now) c.args.root.now (plain_doc c.args.doc.now) c.bounds_add_up_law.ensures c.possible_missing_law.ensures c.in_ok-found.found.least c.in_ok-least.least
-    c.args.verdicts.now.verdicts (proper c.args.grammar.now.layout.dtd) c.proper_doc_law.ensures
-    (rw (c.in_ok-known.ensures, c.in_ok-layout.ensures) at c.in_ok-found.ensures)
-    c.requires.possible.verdicts.are_verdicts c.in_ok-least.ensures
+pub returns-in_err-least-clause-refused : goal.returns-in_err-least-clause-refused
+returns-in_err-least-clause-refused c =
+    let p = err_from_is_err_and c.from_residual.result c.from_residual.ensures.1 in
+    rw p.1 (says_heavy (dtd_of c.args.grammar.now) c.args.root.now (plain_doc c.args.doc.now) p.0 p.2)
 
-pub returns-clause-lists : goal.returns-clause-lists
-returns-clause-lists c = omega (arith, c.in_ok-least.ensures)
+pub returns-then-least-ge-HEAVIEST-clause-refused : goal.returns-then-least-ge-HEAVIEST-clause-refused
+returns-then-least-ge-HEAVIEST-clause-refused c = λ n some.
+    let k = c.in_ok-least.ensures.least n some in
+    let h = c.if-least-ge-HEAVIEST.true in
+    omega arith
 
-pub returns-clause-completion : goal.returns-clause-completion
-returns-clause-completion c =
-    let g = plain_dtd c.dtd-dtd.result.now in
-    let doc = plain_doc c.args.doc.now in
-    let written = written_with_tags g doc (plain_lists c.in_ok-found.found.pieces.items) c.in_ok-text.text.marks.items c.in_ok-text.text.body.items (rw c.deref-2.ensures.value at c.in_ok-text.ensures)
-    (rw c.deref.ensures.value at c.in_ok-check_tags.ensures) c.args.doc.now.formed in
-    rw c.dtd-dtd.ensures at (c.in_ok-completion.ensures doc c.requires.text written)
+pub returns-in_err-completion-clause-refused : goal.returns-in_err-completion-clause-refused
+returns-in_err-completion-clause-refused c =
+    let p = err_from_is_err_and c.from_residual-in_err-completion.result c.from_residual-in_err-completion.ensures.1 in
+    rw p.1 (says_heavy (dtd_of c.args.grammar.now) c.args.root.now (plain_doc c.args.doc.now) p.0 p.2)
