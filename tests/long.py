@@ -106,7 +106,7 @@ def told_of(status: int, output: bytes) -> Told:
         need(status == 0 and (found[2] is None or least < most), f"status {status}, {line!r}")
         return Told(least, most, line)
     wanted = 1 if line.startswith("no impossible ") else 8
-    need(status == wanted and re.fullmatch(r"no (impossible|wide) [0-9.]+\n|no limit\n|no proof\n", line), f"status {status}, {line!r}")
+    need(status == wanted and re.fullmatch(r"no (impossible|wide) [0-9.]+\n|no (heavy|limit|proof)\n", line), f"status {status}, {line!r}")
     return Told(NEVER, NEVER, line)
 
 
@@ -181,6 +181,19 @@ def try_mixed(both: Programs) -> None:
     after = os.times()
     took = after.children_user + after.children_system - before.children_user - before.children_system
     both.case("rows", lambda: need(took <= SOON * both.times, f"{took:.1f} s of a processor") or "soon", lambda: "mixed contents")
+
+
+def try_heavy(both: Programs) -> None:
+    """Lists that lack more than 1,000,000 elements: a session says so as well."""
+    doubling = "".join(f"<!ELEMENT t{at} (t{at + 1}, t{at + 1})>" for at in range(20)) + "<!ELEMENT t20 EMPTY>"
+    write("heavy.dtd", f"<!ELEMENT a (t20*, t0)>{doubling}")
+    for root, kids in (("t0", 0), ("a", 10)):
+        def judged(root=root, kids=kids) -> str:
+            told = judge(both, "heavy.dtd", root, f"<{root}>{'<t20/>' * kids}</{root}>")
+            same((told.line, both.session_need("heavy.dtd", root, "d.xml")), ("no heavy\n", "no heavy"), "what is said of it")
+            return "heavy"
+
+        both.case("heavy lists", judged, lambda root=root, kids=kids: f"{root}: {kids}")
 
 
 def try_search(both: Programs) -> None:
@@ -348,6 +361,7 @@ def main() -> int:
         for row in ROWS:
             try_row(both, *row)
         try_mixed(both)
+        try_heavy(both)
         until(share, lambda: try_search(both), lambda: try_derivations(both))
         until(share, lambda: try_made(both), lambda: try_one_list(both))
         tries = [lambda it=it, room=room: try_wide(both, os.path.basename(it.original), it.flat, it.models, it.least, room, it.original)
