@@ -18,7 +18,7 @@ sys.dont_write_bytecode = True
 from sources import copy, needs  # noqa: E402
 
 # Where names of other crates are looked for, the lowest first.
-CRATES = ["pv_chars", "pv_steps", "pv_model", "pv_dtd", "pv_tree", "pv_read", "pv_productive", "pv_fresh", "pv_edit", "pv_session"]
+CRATES = ["pv_chars", "pv_steps", "pv_model", "pv_dtd", "pv_tree", "pv_read", "pv_productive", "pv_fresh", "pv_edit", "pv_cache", "pv_session"]
 BLOCK = re.compile(r"^ *///(?: .*)?\n *///\n */// ```rust\n((?: *///.*\n)+?) */// ```$", re.MULTILINE)
 SOURCE = re.compile(r"\b(test_\w+): (\w+)|\((test_\w+), `(\w+)`\)")
 RESULT = re.compile(r"^test (\w+)::(\w+) \.\.\. (\w+)", re.MULTILINE)

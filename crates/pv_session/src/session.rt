@@ -114,6 +114,17 @@ impl Session {
     /// The session on a document as it was opened, by a grammar whose rules are laid out.
     ///
     /// `begin` calls it once it has laid the rules out.
+    ///
+    /// ```rust
+    /// let dtd = read_dtd(alloc, b"<!ELEMENT doc (head)><!ELEMENT head (#PCDATA)>")?;
+    /// let grammar = build(alloc, dtd)?;
+    /// let doc = read_doc(alloc, b"<doc>Hello</doc>", b"doc")?;
+    /// let verdicts = check_doc(alloc, &grammar, b"doc", &doc, &mut steps)?;
+    /// let planned = PlannedGrammar::of(alloc, grammar)?;
+    /// let root = bytes_of(alloc, b"doc")?;
+    /// let session = Session::begin_by(alloc, planned, root, doc, verdicts);
+    /// assert!(rt; session.open_count() == 1 && session.history().is_empty());
+    /// ```
     pub fn begin_by(
         alloc: Global,
         grammar: PlannedGrammar,

@@ -19,6 +19,25 @@ use std::alloc::Global;
 /// tests of a list, by the name of the root, and `awaits` that these lists come next.
 ///
 /// `first_invalid` asks of each list by such a test whether it is valid by itself.
+///
+/// ```rust
+/// // Passes lists of at most two nodes, and counts what it is asked.
+/// struct Short;
+/// impl ListTest for Short {
+///     type State = u64;
+///     ghost passes = { λ _ _ list. length (trees_of list.kids) ≤ 2 };
+///     ghost awaits = { λ _ _ _ _. Unit {0} };
+///     fn passes_list(&self, list: &DocList<'_>, asked: &mut u64) -> Result<bool, NoMemory> {
+///         *asked += 1;
+///         Ok(list.kids.len() <= 2)
+///     }
+/// }
+/// let doc = read_doc(alloc, b"<a><b>x<c/>y</b><b/></a>", b"a")?;
+/// let mut asked = 0;
+/// let found = first_list(alloc, &Short, &doc, &mut asked)?;
+/// assert!(rt; found.is_some_and(|path| path.places() == [0, 0].as_slice()));
+/// assert!(rt; asked == 3); // those of the document node, of `a` and of its first kid
+/// ```
 pub trait ListTest {
     /// What is kept from one list to the next.
     type State;
@@ -36,7 +55,8 @@ pub trait ListTest {
 
 /// The path of the first list, in document order, that doesn't pass.
 ///
-/// See `first_invalid`, whose example finds the first list that isn't valid by itself.
+/// See `first_invalid`, whose example finds the first list that isn't valid by itself, and
+/// `ListTest`, whose example finds the first of more than two nodes.
 pub fn first_list<T: ListTest>(
     alloc: Global,
     test: &T,
