@@ -2,8 +2,8 @@
 prose of the pages keeps to 120 columns, it and the messages of the clients to the words of the field, and that by cmark, where it is installed, no
 list, heading or table of a page comes about by accident; that each check has its file's name, and docs/PROVED.md their table; the file that each
 choice of docs/DECISIONS.md names; that each edit which the gate leaves out still has its place; that no line of a crate is longer than 200 columns,
-and that a file of proofs or of definitions is named after its subject. Prints each finding, and how many files and pages passed; ends with 1
-where one failed."""
+that no comment there begins with "the same", and that a file of proofs or of definitions is named after its subject. Prints each finding, and how many
+files and pages passed; ends with 1 where one failed."""
 import re
 import shutil
 import subprocess
@@ -26,6 +26,9 @@ CHOICE = re.compile(r"^- \*\*.*?(?=^- \*\*|^## |\Z)", re.MULTILINE | re.DOTALL)
 MOST_EDITS = 3
 # So many columns a line of a crate has, at most.
 MOST_COLUMNS = 200
+# A comment of a crate, and one whose first line may begin with what is said elsewhere.
+COMMENT = re.compile(r"\s*(--|//)")
+SAME = re.compile(r"\s*(--|//[/!]?) [Tt]he same\b")
 # A participle says what is done, but not to what, and an adjective what a thing is like, but not which.
 PARTICIPLE = re.compile(r"[A-Z][a-z]+(?:ing|ed)")
 BARE = frozenset("""
@@ -182,9 +185,11 @@ def crate_files() -> Iterator[tuple[str, str]]:
         where = file.relative_to(TOP)
         if "out" in where.parts:
             continue
-        long = [number for number, line in enumerate(file.read_text(encoding="utf-8").splitlines(), 1) if len(line) > MOST_COLUMNS]
-        what = f"{where}:{long[0]}: a line of more than {MOST_COLUMNS} columns" if long else ""
-        yield str(where), what or ("" if is_named(where) else f"{where}: its name says no subject")
+        lines = file.read_text(encoding="utf-8").splitlines()
+        found = [f"{where}:{number}: a line of more than {MOST_COLUMNS} columns" for number, line in enumerate(lines, 1) if len(line) > MOST_COLUMNS]
+        found += [f"{where}:{number}: a comment that begins with \"the same\" and doesn't say what is" for number, line in enumerate(lines, 1)
+                  if SAME.match(line) and not COMMENT.match("".join(lines[number - 2:number - 1]))]
+        yield str(where), "\n".join(found[:1]) or ("" if is_named(where) else f"{where}: its name says no subject")
 
 
 def findings() -> Iterator[tuple[str, str]]:

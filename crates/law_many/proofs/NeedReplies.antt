@@ -45,7 +45,7 @@ module _ (root : List ℕ) (g : PlainDtd) (doc : PlainDoc Mark) where
       (no_lines refl refl) (sym (append-nil (reply_bytes told))))
       (ap responds is)
 
-  -- the same cause, of the session's document
+  -- a cause that a fresh check finds stands of the session's document too
   cause_begun : (e : NeedError) → HasCause g root doc e →
       HasCause g root (doc_as at_begin (unmarked_doc doc)) e
   cause_begun e has =

@@ -118,7 +118,7 @@ letter = element (codes "doc") (attribute 34 (codes "id") (codes "d1")) (tagged 
     newline ∷ letter_head ∷ newline ∷ letter_sec ∷ newline ∷
     misc_node (codes "<?page 2?>") ∷ newline ∷ [])) tt
 
--- the same letter completed, with this sec in the place of its own:
+-- the letter completed, with this sec in the place of its own:
 --
 -- <sec class='intro'><title>Opening</title><p>
 -- Cafés opened early. See <![CDATA[<menu>]]> below.

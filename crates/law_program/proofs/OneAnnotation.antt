@@ -133,7 +133,7 @@ ranges_file_sure one file =
     (fetch_sure file MAX_RANGES_BYTES (codes "limit ranges-file"))
     (sure_at ranges_stage IsEqual (ranges_sure one))
 
--- the same DTD, text and ranges
+-- both have the same DTD, text and ranges
 abbrev AreSameGiven : (PlainDtd × List (List ℕ)) × List Range →
     (PlainDtd × List (List ℕ)) × List Range → Type 0
 AreSameGiven a b = IsSamePair IsEqual a.0 b.0 × (a.1 ≡ b.1)

@@ -26,7 +26,7 @@ use Rattle.pv_commands.specs.Verify.{TellsAcceptance, TellsOfPack, is_accepted, 
 use Rattle.pv_opening.specs.declared.status.Status.TheVariants.{BadPack, Limit, Negative}
 use Rattle.pv_opening.proofs.OneOpening.{AreSameOpened, AreSure, IsEqual, IsSure, ReadsOne, ReadsOneDtd, fetch_sure, followed_sure, opening_sure, reading_sure, sure_at}
 
--- the same DTD, document and certificate
+-- both have the same DTD, document and certificate
 abbrev pub AreSameFiles : {Z : Type 0} → PlainOpened × Z → PlainOpened × Z → Type 0
 AreSameFiles a b = AreSameOpened a.0 b.0 × (a.1 ≡ b.1)
 

@@ -81,7 +81,7 @@ part_covered ones (r ∷ rs) extra (suc n) h j rest =
         let b = least_rises j r.end ones le in
         let l = least_light j ones in omega arith
 
--- the same for others that cost no less than the ones, and so much, after a place
+-- the ones and so much cost no more than the others after a place where they do so up to the end of each of the first of these, and no more than the rest
 pub part_after : (ones others : List Reach) (extra place count : ℕ) → ((m : ℕ) (d : Reach) → m < count → m < length others → place < (get_or others m d).end →
     min heaviest (extra + least_to (get_or others m d).end ones) ≤ (get_or others m d).cost) → (k : ℕ) → place < k → min heaviest (extra + least_to k ones) ≤ least_to k (drop count others) →
     min heaviest (extra + least_to k ones) ≤ least_to k others

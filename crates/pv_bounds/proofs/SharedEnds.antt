@@ -37,7 +37,7 @@ least_drop j zero xs = omega arith
 least_drop j (suc k) [] = omega arith
 least_drop j (suc k) (r ∷ rs) = let t = least_drop j k rs in omega arith
 
--- the same ends at other costs
+-- where the first of shared ends costs at most so much more, so do all; and where it costs at least so much more
 up_to_less : (j a b extra e : ℕ) → a ≤ extra + b → cost_up_to j (shared_reach a e) ≤ extra + cost_up_to j (shared_reach b e)
 up_to_less j a b extra e l = elim (cases_lt e j) [
   | inl lt ↦ (let p = past_end j (shared_reach a e) lt in let q = past_end j (shared_reach b e) lt in omega arith)

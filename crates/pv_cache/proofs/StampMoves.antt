@@ -270,7 +270,7 @@ leads_from f doc inverse before l =
       is_inverse = l.is_inverse;
     }
 
--- the same document for the same DTD and root's name
+-- a well marked document stays one under an equal DTD and an equal name of the root
 pub same_ground : (g h : PlainDtd) (root name : List ℕ) (doc : PlainDoc Mark) → g ≡ h →
     root ≡ name → ∥ IsWellMarked g root doc ∥₁ → ∥ IsWellMarked h name doc ∥₁
 same_ground g h root name doc p q w =

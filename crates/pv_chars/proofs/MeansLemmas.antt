@@ -255,7 +255,7 @@ pub cut_data : (bytes : List ℕ) (count : ℕ) → IsCut bytes count → has_da
 cut_data bytes count c = ap has_data (cut_is bytes count c) ∙ units_data c.units c.are_units ∙ ap (list_any (λ b. not (is_space b))) (sym c.whole)
 
 -- ---- a part of a text
--- the same text under another name of its bytes
+-- what cuts a text cuts bytes that equal it
 pub cut_named : (bytes items : List ℕ) (count : ℕ) → IsCut items count → bytes ≡ items → IsCut bytes count
 cut_named bytes items count c e = subst (λ (l : List ℕ). IsCut l count) (sym e) c
 

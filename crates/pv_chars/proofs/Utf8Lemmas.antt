@@ -38,7 +38,7 @@ four_bytes c l = above c 128 _ _ (omega arith) ∙ above c 2048 _ _ (omega arith
 begins_by : (c : ℕ) (own rest : List ℕ) → IsScalar c → encode c ≡ own → BeginsWith (own ++ rest) c rest
 begins_by c own rest is e = record { scalar = is; whole = ap (λ (l : List ℕ). l ++ rest) (sym e) }
 
--- the same where the code point and the rest have other names
+-- bytes that begin with a code point begin with one that equals it, and so do the rests
 renamed : (bytes : List ℕ) (found wanted : ℕ × List ℕ) → found ≡ wanted → BeginsWith bytes found.0 found.1 → BeginsWith bytes wanted.0 wanted.1
 renamed bytes found wanted e begins = let P : ℕ × List ℕ → Type 0 = λ p. BeginsWith bytes p.0 p.1 in subst P e begins
 

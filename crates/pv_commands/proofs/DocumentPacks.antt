@@ -87,7 +87,7 @@ module _ (root : List ℕ) (g : PlainDtd) (doc : PlainDoc Mark) where
   found_refused e ShelfFault dtd proper cause told = absurd told
   found_refused e NoMemory dtd proper cause told = short_of_memory 0 (inl refl) refl
 
--- the same, of the opened files
+-- a course of `complete` on the arguments is one on the opened files, which equal them
 pub packs_as : (root : List ℕ) (g d : PlainDtd) (doc same : PlainDoc Mark)
     (result : Result Response Stop) → d ≡ g → same ≡ doc →
     TakesCourse (IsPackCourse root g doc) result → TakesCourse (IsPackCourse root d same) result

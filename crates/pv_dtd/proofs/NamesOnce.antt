@@ -14,7 +14,7 @@ use Rattle.pv_dtd.proofs.Places.{is_some-place}
 use Rattle.pv_dtd.proofs.DistinctLists.{are_new, new-distinct}
 use Rattle.pv_dtd.proofs.NameSequences.{with_names-append}
 
--- the same names are among both
+-- each name is in both lists or in neither
 abbrev pub HaveSame : List (List ℕ) → List (List ℕ) → Type 0
 HaveSame a b = (x : List ℕ) → list_any (bytes_eq x) a ≡ list_any (bytes_eq x) b
 

@@ -18,7 +18,7 @@ pub record Stops (stops : ℕ → Bool) (bytes : List ℕ) (stop : ℕ) (rest : 
   pub whole : bytes ≡ text ++ stop ∷ rest
   pub is_stop : stops stop ≡ true
 
--- the same inside a literal
+-- inside a literal: after its end and a text with literals stands a byte that stops
 pub record StopsBehind (stops : ℕ → Bool) (quote : ℕ) (bytes : List ℕ) (stop : ℕ) (rest : List ℕ) : Type 0 where
   pub inner : List ℕ
   pub text : List ℕ

@@ -45,7 +45,7 @@ module _ {B F : Type 0} (limits : TextLimits) (m : Judgement B F) (root bytes ma
   pub is_meant : DocumentMeansWithin limits blank_mark root bytes (is_document (document (take (length bytes - length tag.from_tag.now) bytes) r.tree after))
   is_meant = read_whole limits root bytes mark text few front tag opens count r.tree after r.leads ends (take (length bytes - length tag.from_tag.now) bytes) refl
 
-  -- the same of the document that the bytes mean, whichever it is
+  -- the lists that are read are those of the document that the bytes mean, whichever it is
   pub of_any : suc tag.count + length tag.rest.now < MAX_KIDS → (doc : PlainDoc Mark) → DocumentMeansWithin limits blank_mark root bytes (is_document doc) → ReadsLists m root lists doc.root
   of_any less doc means =
       let outcome = same_document_meaning one_item limits blank_mark root is_meant means in

@@ -189,7 +189,7 @@ document_one_refusal one root bytes r also (too_many_bytes beyond line) (no_docu
     let same = one.means_one document_limits root bytes too_long_document (faulty_document kind k) beyond means in cc
 document_one_refusal one root bytes r also (too_many_bytes beyond line) (too_many_bytes again next) = line ∙ sym next
 
--- the same DTD, and documents with one text
+-- both have the same DTD and bytes, and documents with one text
 pub record AreSameOpened (x y : PlainOpened) : Type 0 where
   pub dtds : x.dtd ≡ y.dtd
   pub bytes : x.bytes ≡ y.bytes

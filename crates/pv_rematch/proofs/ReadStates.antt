@@ -28,7 +28,7 @@ after_same p u s t b e m h = record {
   goes_on = λ v. rw (b, e, m) (h.goes_on v);
 }
 
--- the same is reached after both
+-- after two words that are read to equal states, the same further tokens make words of the part
 pub same_behind : (p : PlainPart) (u v : List PlainToken) (s t : State) → s.is_start ≡ t.is_start →
     s.is_end ≡ t.is_end → s.positions.items ≡ t.positions.items → IsAfter p u s → IsAfter p v t →
     (w : List PlainToken) → is_word p (u ++ w) ≡ is_word p (v ++ w)

@@ -138,7 +138,7 @@ parts_read ts place end lt =
     ∙ ap (map plain_token) (ap (λ l. take (end - place) (drop place ts) ++ l) (sym rest)
     ∙ take-append-drop (end - place) (drop place ts)) ∙ sym (drop-map plain_token place ts)
 
--- the same of the word before, around what is gone
+-- the word before the change: its tokens up to the place, what is gone, and those after what came
 pub before_rest : (ts : List Token) (gone : List PlainToken) (from came : ℕ) →
     splice (map plain_token ts) from (from + came) gone ≡ (take from (map plain_token ts) ++ gone)
     ++ map plain_token (drop (from + came) ts)
@@ -190,7 +190,7 @@ turn_walked p ts rest ps old s f place end n k lt order within r o few last b i 
     (omega (arith, last, few, within, ap length o, length-drop n ps)) (subst Q all g.points) (b
     ∙ g.answer)
 
--- the same with parts of the lists, as the program takes them
+-- what waits is told of parts of the lists as the program takes them, which equal these
 pub wait_parts : (p : PlainPart) (x : List PlainToken) (rest rest2 : List Token) (was : Bool)
     (k : ℕ) (old old2 : List Point) → rest ≡ rest2 → old ≡ old2 →
     Wait p (x ++ map plain_token rest2) was k old2 → Wait p (x ++ map plain_token rest) was k old

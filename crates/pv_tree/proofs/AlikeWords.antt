@@ -17,7 +17,7 @@ has_text (named y ∷ u) = has_text u
 has_text (text ∷ u) = true
 has_text (other ∷ u) = has_text u
 
--- the same other tokens, and data in both or in neither
+-- both words have the same tokens besides data, and data is in both or in neither
 pub record IsAlike (u v : List PlainToken) : Type 0 where
   pub same_others : without_text u ≡ without_text v
   pub same_data : has_text u ≡ has_text v

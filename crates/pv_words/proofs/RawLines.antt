@@ -58,7 +58,7 @@ raw_lines_of-front b (c ∷ cs) more free =
     let rest = raw_lines_of-front c cs more free.1 in
     rw (not-eq b 10 free.0) (record { behind = rest.behind; others = rest.others; are = ap (with_first_byte b) rest.are })
 
--- the same of the first ended piece, if there is one
+-- the first ended piece, if there is one, begins with the bytes before the first LF
 pub ended_raw_lines-front : (front more : List ℕ) → HasNoFeed front → (ended_raw_lines (front ++ more) ≡ []) ⊎ BeginsRawLines front (ended_raw_lines (front ++ more))
 ended_raw_lines-front [] more free = begins (ended_raw_lines more)
   where

@@ -20,7 +20,7 @@ abbrev Checks : List ℕ → PlainDtd → PlainDoc Mark → Result Response Stop
 Checks root g doc =
     TakesCourse (Behind (width_stage g doc) (λ _. Responds (TellsPossibility root g doc)))
 
--- the same, of the opened files
+-- an answer on the arguments is one on the opened files, which equal them
 checks_as : (root : List ℕ) (g d : PlainDtd) (doc same : PlainDoc Mark)
     (result : Result Response Stop) → d ≡ g → same ≡ doc → Checks root g doc result →
     Checks root d same result

@@ -17,7 +17,7 @@ use Rattle.pv_opening.proofs.JudgedLists.{stops_within}
 use Rattle.pv_opening.proofs.Stages.{found_behind, stop_found, tells_found}
 use Rattle.pv_commands.proofs.standoff.show.Goals as goal
 
--- the same, of the opened DTD
+-- an answer by the argument is one by the opened DTD, which equals it
 shows_as : (root : List ℕ) (g d : PlainDtd) (doc : PlainDoc Mark) (result : Result Response Stop) →
     d ≡ g → TakesCourse (IsShownCourse root g doc) result →
     TakesCourse (IsShownCourse root d doc) result

@@ -23,7 +23,7 @@ use Rattle.pv_commands.proofs.why.tell.Goals as goal
 abbrev Explains : List ℕ → PlainDtd → PlainDoc Mark → Result Response Stop → Type 0
 Explains root g doc = TakesCourse (Behind (width_stage g doc) (λ _. Responds (TellsWhy root g doc)))
 
--- the same, of the opened files
+-- an answer on the arguments is one on the opened files, which equal them
 explains_as : (root : List ℕ) (g d : PlainDtd) (doc same : PlainDoc Mark)
     (result : Result Response Stop) → d ≡ g → same ≡ doc → Explains root g doc result →
     Explains root d same result

@@ -18,7 +18,7 @@ abbrev Counts : List ℕ → PlainDtd → PlainDoc Mark → Result Response Stop
 Counts root g doc =
     TakesCourse (Behind (width_stage g doc) (λ _. Responds (TellsMissing root g doc)))
 
--- the same, of the opened files
+-- an answer on the arguments is one on the opened files, which equal them
 counts_as : (root : List ℕ) (g d : PlainDtd) (doc same : PlainDoc Mark)
     (result : Result Response Stop) → d ≡ g → same ≡ doc → Counts root g doc result →
     Counts root d same result
