@@ -19,6 +19,7 @@ from lib.waiting import PATIENCE, runs_still, until
 sys.path.append(str(Path(__file__).resolve().parent.parent / "tools"))
 sys.dont_write_bytecode = True
 from machine import processors  # noqa: E402
+from processes import session_of  # noqa: E402
 from progress import Progress  # noqa: E402
 from scratch import scratch  # noqa: E402
 from sources import MINUTES, chains_behind, needs, read_minutes  # noqa: E402
@@ -249,8 +250,9 @@ def try_remains(trial: Trial) -> None:
     trial.expect("a killed build leaves its folder", len(left) == 1 and left[0].startswith("pvtag-held-"), left)
     with scratch(trial.temporary):
         trial.expect("as long as a run works in it, it stays", left[0] in trial.left(), trial.left())
-    os.killpg(os.getsid(asleep), signal.SIGKILL)
-    trial.has_ended(asleep)
+    leader = os.getsid(asleep)
+    os.killpg(leader, signal.SIGKILL)
+    until(lambda: not session_of(leader))
     (trial.top / "build/pvtag.new").touch()
     told = trial.run("tools/build")
     trial.expect("the next one removes it", told[0] == 0 and trial.left() == [], (told, trial.left()))
