@@ -16,14 +16,17 @@ import sys
 import tempfile
 import threading
 import time
-from concurrent.futures import ThreadPoolExecutor, as_completed
+from collections.abc import Iterator
+from concurrent.futures import FIRST_COMPLETED, Future, ThreadPoolExecutor, wait
 from pathlib import Path
-from typing import IO, NamedTuple
+from typing import IO, NamedTuple, TypeVar
 
 TOP = Path(__file__).resolve().parent.parent
 sys.path.append(str(TOP / "tools"))
 sys.dont_write_bytecode = True
 from processes import end_all  # noqa: E402
+
+T = TypeVar("T")
 
 COUNT = re.compile(r"^(?:[\w' -]+: )?(\d+) passed, (\d+) failed", re.MULTILINE)
 SKIPPED = re.compile(r"^skipped: ", re.MULTILINE)
@@ -341,13 +344,21 @@ def show(name: str, shown: str) -> None:
     print(f"== {name}\n{shown}", end="" if shown.endswith("\n") or not shown else "\n", flush=True)
 
 
+def ended(tries: list[Future[T]]) -> Iterator[Future[T]]:
+    """The tries as they end. Each wait is short: a signal that comes just before one is taken only after it."""
+    waiting = set(tries)
+    while waiting:
+        done, waiting = wait(waiting, 1, FIRST_COMPLETED)
+        yield from done
+
+
 def run(checks: list[Check]) -> list[Result]:
     """Runs the checks, as many at a time as there are processors, and shows each once it has ended. One that fails beside others, and not for its
     time, is run once more, alone, and that counts: a fault of the program is there again, and that a machine was busy isn't one."""
     results, runs = [], Runs()
     with ThreadPoolExecutor(processors()) as pool:
         try:
-            for done in as_completed([pool.submit(runs.result_of, it) for it in checks]):
+            for done in ended([pool.submit(runs.result_of, it) for it in checks]):
                 result, shown = done.result()
                 results.append(result._replace(first=shown if result.failed else ""))
                 show(result.check.name, shown)
