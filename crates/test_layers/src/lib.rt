@@ -14,5 +14,3 @@ mod rematch;
 mod script;
 #[cfg(test)]
 mod standoff;
-#[cfg(test)]
-mod tokens;

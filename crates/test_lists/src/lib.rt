@@ -11,8 +11,6 @@ mod need;
 #[cfg(test)]
 mod packs;
 #[cfg(test)]
-mod random;
-#[cfg(test)]
 mod threads;
 #[cfg(test)]
 mod verdicts;

@@ -4,4 +4,5 @@
 mod changing;
 mod games;
 mod last;
+mod random;
 mod rows;

@@ -1,9 +1,7 @@
 //! What the tests share: a pair, grammars, and what the judge says.
 
 use pv_denial::{Denial, Judged, judge};
-use pv_model::NameId;
 use pv_productive::{Grammar, build};
-use pv_rules::Site;
 use std::alloc::Global;
 use std::test::Fail;
 use test_fixture::documents::{document_of, dtd_of};
@@ -16,25 +14,6 @@ pub const PAIR: &str = "<!ELEMENT r (a, b)><!ELEMENT a EMPTY><!ELEMENT b EMPTY>"
 
 /// The pair the wrong way round.
 pub const TURNED: Texts = (PAIR, "r", "<r><b/><a/></r>");
-
-/// A site, and its values at the three places of the pair.
-pub type Line = (Site, [u32; 3]);
-
-/// The furthest places over the pair the wrong way round: the rows that show that it is
-/// impossible.
-pub const ROWS: &[Line] = &[
-    (Site::Content(NameId(0)), [1, 2, 2]),
-    (Site::Content(NameId(1)), [0, 1, 2]),
-    (Site::Content(NameId(2)), [0, 1, 2]),
-    (Site::Name(NameId(0)), [1, 2, 2]),
-    (Site::Name(NameId(1)), [0, 2, 2]),
-    (Site::Name(NameId(2)), [1, 1, 2]),
-    (Site::Part(0), [1, 2, 2]),
-    (Site::Part(1), [0, 2, 2]),
-    (Site::Part(2), [1, 1, 2]),
-    (Site::Rest(1), [1, 2, 2]),
-    (Site::Rest(2), [1, 1, 2]),
-];
 
 /// The grammar of a DTD.
 pub fn grammar_of(alloc: Global, dtd: &str) -> Result<Grammar, Fail> {

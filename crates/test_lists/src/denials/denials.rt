@@ -1,6 +1,6 @@
 //! Denials that are judged.
 
-use crate::denials::calls::{Line, PAIR, ROWS, judged};
+use crate::denials::calls::{PAIR, judged};
 use pv_chars::{List, NoMemory};
 use pv_denial::{Cause, Denial, Flaw, Judged, Row, Rows};
 use pv_model::NameId;
@@ -8,6 +8,24 @@ use pv_rules::Site;
 use pv_tree::Path;
 use std::alloc::Global;
 use std::test::Fail;
+
+/// A site, and its three values.
+type Line = (Site, [u32; 3]);
+
+/// The rows that show that the pair is impossible the wrong way round.
+const ROWS: &[Line] = &[
+    (Site::Content(NameId(0)), [1, 2, 2]),
+    (Site::Content(NameId(1)), [0, 1, 2]),
+    (Site::Content(NameId(2)), [0, 1, 2]),
+    (Site::Name(NameId(0)), [1, 2, 2]),
+    (Site::Name(NameId(1)), [0, 2, 2]),
+    (Site::Name(NameId(2)), [1, 1, 2]),
+    (Site::Part(0), [1, 2, 2]),
+    (Site::Part(1), [0, 2, 2]),
+    (Site::Part(2), [1, 1, 2]),
+    (Site::Rest(1), [1, 2, 2]),
+    (Site::Rest(2), [1, 1, 2]),
+];
 
 /// The rows of `ROWS` but the first.
 const ONE_LEFT_OUT: &[Line] = &[

@@ -1,6 +1,6 @@
 //! The furthest places of sites.
 
-use crate::denials::calls::{PAIR, ROWS, grammar_of};
+use crate::denials::calls::{PAIR, grammar_of};
 use pv_missing::are_productive;
 use pv_model::{NameId, Token};
 use pv_productive::Grammar;
@@ -53,9 +53,24 @@ fn planned_end(
 /// The pair the wrong way round.
 static TURNED: [Token; 2] = [Token::Name(NameId(2)), Token::Name(NameId(1))];
 
+/// Sites, and their furthest places from each place of the turned pair.
+static ENDS: [(Site, [u32; 3]); 11] = [
+    (Site::Content(NameId(0)), [1, 2, 2]),
+    (Site::Content(NameId(1)), [0, 1, 2]),
+    (Site::Content(NameId(2)), [0, 1, 2]),
+    (Site::Name(NameId(0)), [1, 2, 2]),
+    (Site::Name(NameId(1)), [0, 2, 2]),
+    (Site::Name(NameId(2)), [1, 1, 2]),
+    (Site::Part(0), [1, 2, 2]),
+    (Site::Part(1), [0, 2, 2]),
+    (Site::Part(2), [1, 1, 2]),
+    (Site::Rest(1), [1, 2, 2]),
+    (Site::Rest(2), [1, 1, 2]),
+];
+
 #[test]
 fn furthest_places(rt: HostRuntime) -> Result<(), Fail> {
-    for (site, ends) in ROWS {
+    for (site, ends) in &ENDS {
         for (place, end) in ends.iter().enumerate() {
             let found = end_of(rt.alloc(), PAIR, &TURNED, *site, place as u32)?;
             assert_eq!(rt; found, Some(*end), "{site:?} from {place}");

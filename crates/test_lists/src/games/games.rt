@@ -3,9 +3,8 @@
 ghost use Rattle.std.specs.Prelude.{◌≡◌, ◌<◌};
 
 use crate::games::comparing::{expect_fresh, expect_same, expect_stamped};
-use crate::games::random::random_move;
+use crate::games::random::{Random, random_move};
 use crate::games::sessions::{Texts, begin, make};
-use crate::random::Random;
 use pv_edit::Done;
 use pv_script::{Command, read_command};
 use pv_session::Session;

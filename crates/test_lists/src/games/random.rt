@@ -1,6 +1,5 @@
 //! Moves at random.
 
-use crate::random::Random;
 use pv_chars::bytes_of;
 use pv_edit::{Edit, kid_path};
 use pv_script::Command;
@@ -8,6 +7,32 @@ use pv_session::Session;
 use pv_tree::{Node, Path};
 use std::alloc::Global;
 use std::test::Fail;
+
+/// Numbers at random, by a linear congruential generator.
+#[derive(Drop)]
+pub struct Random {
+    pub state: u32,
+}
+
+impl Random {
+    /// A number below the bound; 0 where that is 0.
+    pub fn below(&mut self, bound: u32) -> u32 {
+        self.state = self
+            .state
+            .wrapping_mul(1_664_525)
+            .wrapping_add(1_013_904_223);
+        if bound == 0 {
+            return 0;
+        }
+        (self.state >> 16) % bound
+    }
+
+    /// One of the items.
+    pub fn pick<'a, T>(&mut self, items: &'a [T]) -> Result<&'a T, Fail> {
+        let at = self.below(u32::try_from(items.len())?);
+        Ok(items.get(at as usize).ok_or("nothing to pick from")?)
+    }
+}
 
 const TEXTS: &[&str] = &["x", " ", "]]", ">", "&#32;", "é&amp;", "Tea, too"];
 

@@ -6,7 +6,23 @@ use pv_rules::Site;
 use pv_tables::Table;
 use std::alloc::Global;
 use std::test::Fail;
-use test_fixture::dtds::ONE_MISSING;
+
+// The pack of an element that needs another one.
+const PAIR: &str = "pvpack 1
+total 1
+mark 1
+body 14
+<a><b></b></a>
+list 0
+c 0 0 0 1
+c 1 0 0 0
+n 0 0 0 2
+n 1 0 0 1
+p 0 0 0 1
+p 1 0 0 1
+s 1 0 0 1
+end
+";
 
 // A pack of a valid document.
 const VALID: &str = "pvpack 1
@@ -24,7 +40,7 @@ fn is_written_again(alloc: Global, text: &str) -> Result<bool, Fail> {
 
 #[test]
 fn read_and_written(rt: HostRuntime) -> Result<(), Fail> {
-    assert!(rt; is_written_again(rt.alloc(), ONE_MISSING)?, "{ONE_MISSING}");
+    assert!(rt; is_written_again(rt.alloc(), PAIR)?, "{PAIR}");
     assert!(rt; is_written_again(rt.alloc(), VALID)?, "{VALID}");
     Ok(())
 }
@@ -48,11 +64,11 @@ fn is_pair(pack: &Pack) -> bool {
 }
 
 fn is_pair_read(alloc: Global) -> Result<bool, PackError> {
-    Ok(is_pair(&read_pack(alloc, ONE_MISSING.as_bytes())?))
+    Ok(is_pair(&read_pack(alloc, PAIR.as_bytes())?))
 }
 
 fn is_pair_taken(alloc: Global) -> Result<bool, Fail> {
-    let text = ONE_MISSING.as_bytes().to_vec(alloc)?;
+    let text = PAIR.as_bytes().to_vec(alloc)?;
     Ok(is_pair(&take_pack(alloc, text)?))
 }
 

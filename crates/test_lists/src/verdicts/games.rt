@@ -2,9 +2,9 @@
 
 ghost use Rattle.std.specs.Prelude.{◌≡◌, ◌<◌};
 
-use crate::random::Random;
 use crate::verdicts::changing::{make_change, spliced};
 use crate::verdicts::last::judge_by;
+use crate::verdicts::random::Random;
 use pv_missing::Of;
 use pv_model::{NameId, Token};
 use pv_productive::{Grammar, build};

@@ -1,11 +1,10 @@
 //! Rows of `verdicts` after each kind of move: the verdict of each list, and the number of the move
 //! that changed it last.
 
-use crate::runs::rows::{Script, check_scripts};
-use crate::session::scripts::HELLO;
+use crate::session::scripts::{HELLO, Row, check};
 use std::test::Fail;
 
-static MOVES: [Script; 10] = [
+static MOVES: [Row; 10] = [
     (
         HELLO,
         "wrap 0 0 1 head\nverdicts\n\
@@ -131,5 +130,5 @@ static MOVES: [Script; 10] = [
 
 #[test]
 fn moves(rt: HostRuntime) -> Result<(), Fail> {
-    check_scripts(&rt, &MOVES, 65_536)
+    check(&rt, &MOVES, 65_536)
 }

@@ -1,7 +1,5 @@
 //! Numbers at random.
 
-use std::test::Fail;
-
 /// Numbers at random, by a linear congruential generator.
 #[derive(Drop)]
 pub struct Random {
@@ -19,11 +17,5 @@ impl Random {
             return 0;
         }
         (self.state >> 16) % bound
-    }
-
-    /// One of the items.
-    pub fn pick<'a, T>(&mut self, items: &'a [T]) -> Result<&'a T, Fail> {
-        let at = self.below(u32::try_from(items.len())?);
-        Ok(items.get(at as usize).ok_or("nothing to pick from")?)
     }
 }
