@@ -516,8 +516,7 @@ def ends_what_is_cut_off(program):
                 before, moves = state(editor), len(editor.made)
                 session = editor.session
                 session.output = Cut(session.output, count, fault)
-                # Round it a list stays open: it isn't known which of the two is, so that the verdicts are asked for.
-                editor.verdicts.known.clear()
+                # Round it a list stays open: the reply leaves a choice, so that the verdicts are asked for.
                 told = None
                 try:
                     wrap(editor, "place", "brother")

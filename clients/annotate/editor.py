@@ -22,7 +22,7 @@ from pvtag.program import Trouble, file_of, read_file
 from pvtag.session import Ended, Made, Refused, Session
 from .runs import Stale, below
 from .script import Script, hash_of
-from .verdicts import Verdicts
+from .verdicts import verdicts_of
 
 # A window that was away for more moves than these gets the whole tree.
 KEPT = 1000
@@ -58,7 +58,6 @@ class Editor:
         except BadLine as bad:
             raise script.trouble(bad) from None
         self.changes: list[Told] = []
-        self.verdicts = Verdicts()
         self.version, self.needed = version, {"version": -1}
         # What a refusal is explained by: the tree, the lines up to the one that was refused, and the path that was told; it
         # gives a call that asks the program, `later`, when the lock isn't held any more.
@@ -192,7 +191,7 @@ class Editor:
         changed, self.document.changed = self.document.changed, {}
         if before == self.session.moves or reply is None:
             return {}
-        found = self.verdicts.of(changed, reply.open - self.open, reply.bad - self.bad)
+        found = verdicts_of(changed, reply.open - self.open, reply.bad - self.bad)
         if found is None:
             rows = self.session.changed(before)
             if isinstance(rows, Refused):
@@ -200,7 +199,6 @@ class Editor:
             found = {self.document.there(row.path): row.verdict for row in rows}
         for node, verdict in found.items():
             node.verdict = verdict
-        self.verdicts.keep(found)
         self.open, self.bad = reply.open, reply.bad
         return {node.id: verdict for node, verdict in found.items()}
 
