@@ -5,7 +5,8 @@ use Rattle.std.proofs.lemmas.Option.{slice_get-get_or}
 use Rattle.pv_model.specs.Plain.{PlainModel, PlainPart, PlainParts, PlainToken, any, children, choice, empty, mixed, name, named, no_parts, opt, other, part, plus, seq, star, text}
 use Rattle.pv_model.specs.Models.{Allows, IsOfMixed, Matches, MatchesAll, MatchesSome, Rounds, no_round, round}
 use Rattle.pv_dtd.specs.Plain.{PlainDtd, declared, model_of, names_in, names_in_all}
-use Rattle.pv_missing.specs.Covers.{Covers, IsPossibleWith, cover_kept, cover_new, cover_none, cover_text}
+use Rattle.pv_missing.specs.Covers.{Covers, IsPossibleWith, cover_kept, cover_new, cover_none}
+use Rattle.pv_missing.specs.Covers.{cover_text}
 use Rattle.pv_dtd.specs.Productive.{IsProductive}
 
 -- a word without names, and how many names a word has of each number, by weights

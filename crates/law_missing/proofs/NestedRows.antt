@@ -7,7 +7,8 @@ use Rattle.pv_dtd.specs.Plain.{model_of, number_of}
 use Rattle.pv_dtd.specs.Hedge.{elements}
 use Rattle.pv_tree.specs.Lists.{IsOwnValid, an_element, lists_at, the_document}
 use Rattle.pv_tree.specs.Plain.{Forest, Tree, forest_of, no_trees, tree}
-use Rattle.pv_missing.specs.Covers.{Covers, IsPossibleWith, cover_kept, cover_new, cover_none, cover_text}
+use Rattle.pv_missing.specs.Covers.{Covers, IsPossibleWith, cover_kept, cover_new, cover_none}
+use Rattle.pv_missing.specs.Covers.{cover_text}
 use Rattle.pv_dtd.specs.Proper.{IsProperDtd}
 use Rattle.pv_dtd.specs.Productive.{IsProductive, IsProductiveName}
 use Rattle.law_missing.specs.Documents.{tag, three_ys}

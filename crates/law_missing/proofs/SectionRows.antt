@@ -9,7 +9,8 @@ use Rattle.pv_tree.specs.Lists.{IsOwnValid, an_element, lists_from, the_document
 use Rattle.pv_tree.specs.Plain.{Forest, element, forest_of, no_trees, tagged, tree}
 use Rattle.pv_tree.specs.Words.{word_of}
 use Rattle.pv_missing.specs.Verdicts.{AreProductiveKids}
-use Rattle.pv_missing.specs.Covers.{Covers, IsPossibleRootWith, IsPossibleWith, cover_kept, cover_none, cover_text}
+use Rattle.pv_missing.specs.Covers.{Covers, IsPossibleRootWith, IsPossibleWith, cover_kept}
+use Rattle.pv_missing.specs.Covers.{cover_none, cover_text}
 use Rattle.pv_missing.specs.MissingNumbers.{MissesInContent, MissesInRoot}
 use Rattle.pv_dtd.specs.Productive.{IsProductive, IsProductiveName}
 use Rattle.law_missing.specs.Documents.{comment_alone, em_alone, head_then_text, hello, p_alone, p_then_title, sec_then_head, sec_with, tag}

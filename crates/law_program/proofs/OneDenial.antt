@@ -8,7 +8,8 @@ use Rattle.pv_cache.proofs.ListMarks.{all_narrow_to, first_to, list_as, lists_as
 use Rattle.pv_cache.proofs.OtherMarks.{heads_as, word_as}
 use Rattle.pv_reach.proofs.OtherMarks.{view_as}
 use Rattle.pv_denial.specs.Causes.{HasKidsInEmpty, HoldsOfList, IsCause}
-use Rattle.pv_denial.specs.Judgements.{IsAbout, IsDenialJudged, IsNarrowFor, IsReached, IsRightCause}
+use Rattle.pv_denial.specs.Judgements.{IsAbout, IsDenialJudged, IsNarrowFor, IsReached}
+use Rattle.pv_denial.specs.Judgements.{IsRightCause}
 use Rattle.pv_denial.specs.Judgements.{IsRightTable, IsTooWideFor, JudgesAt}
 use Rattle.pv_denial.specs.Laws.{OneJudged}
 use Rattle.pv_denial.specs.declared.denials.Cause.{Cause}

@@ -1,7 +1,8 @@
 -- The causes of responses, of a command line that reads a DTD and a document.
 use Rattle.std.proofs.Common.{◌≡◌, inl, inr, ℕ, List, Option, Some, false, ap, refl, sym, ◌∙◌}
 use Rattle.std.proofs.Common.{subst, true}
-use Rattle.pv_dtd.specs.Kinds.{Kind as DtdKind, parameter, nesting, syntax, twice, mixed_twice, limit}
+use Rattle.pv_dtd.specs.Kinds.{Kind as DtdKind, parameter, nesting, syntax, twice, mixed_twice}
+use Rattle.pv_dtd.specs.Kinds.{limit}
 use Rattle.pv_dtd.specs.Meaning.{DtdTextMeans, faulty as faulty_dtd, is_dtd}
 use Rattle.pv_dtd.specs.Plain.{PlainDtd}
 use Rattle.pv_read.specs.Kinds.{Kind, subset, syntax as bad_syntax, entity, mismatch, doctype_name}
@@ -18,7 +19,8 @@ use Rattle.pv_params.specs.Meaning.{limit as params_limit, syntax as params_synt
 use Rattle.pv_opening.specs.Parameters.{RefusesParameters, is_parameters_limit, not_expanded}
 use Rattle.law_program.specs.Causes.{HoldsText, NeedsTables, ReadsScript, TestsFor, parameters}
 use Rattle.law_program.specs.Causes.{ReadsBoth, ReadsDocument, ReadsDtd, RespondsBy}
-use Rattle.law_program.specs.Causes.{is_document_limit, is_dtd_limit, dtd_file, document_file, in_dtd}
+use Rattle.law_program.specs.Causes.{is_document_limit, is_dtd_limit, dtd_file, document_file}
+use Rattle.law_program.specs.Causes.{in_dtd}
 use Rattle.law_program.specs.Causes.{in_document, document_bytes, list_width, not_possible}
 use Rattle.law_program.specs.Causes.{not_valid, script_line, whole_script, missing_elements}
 use Rattle.law_program.specs.Causes.{table_entries, weights_width}

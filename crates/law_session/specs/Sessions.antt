@@ -13,11 +13,12 @@ use Rattle.pv_opening.specs.Possibility.{AreAllNarrow}
 use Rattle.pv_opening.specs.declared.status.Status.{Status}
 use Rattle.pv_conversation.specs.Script.{IsWithin}
 use Rattle.pv_cli.specs.CommandLine.{PlainCommandLine, on_document}
-use Rattle.pv_cli.specs.Headline.{AnswersScript, GuardsSession, HadNoMemory, HoldsDocument, NoneRose}
+use Rattle.pv_cli.specs.Headline.{AnswersScript, GuardsSession, HadNoMemory, HoldsDocument}
+use Rattle.pv_cli.specs.Headline.{NoneRose}
 use Rattle.pv_cli.specs.declared.verb.Verb.TheVariants.{Session}
 
--- the file of this name is the text of this DTD, within the limits, and neither `%` nor `<![` stands
--- in it
+-- the file of this name is the text of this DTD, within the limits, and neither `%` nor `<![`
+-- stands in it
 pub record HoldsSimpleDtd (told : List (List ℕ × List ℕ)) (name : List ℕ) (g : PlainDtd) : Type 0 where
   pub bytes : List ℕ
   pub is_file : file_named name told ≡ Some bytes

@@ -1,8 +1,11 @@
 -- The reaches of fronts up to ends that they share.
 use Rattle.std.specs.Prelude.{min}
-use Rattle.std.proofs.Common.{List, [], ap, arith, drop, get_or, inl, inr, length, length-append, length-drop, refl, suc, sym, take, zero, ℕ, ◌+◌, ◌++◌, ◌-◌, ◌<◌, ◌∙◌, ◌∷◌, ◌≡◌, ◌≤◌}
+use Rattle.std.proofs.Common.{List, [], ap, arith, drop, get_or, inl, inr, length, length-append}
+use Rattle.std.proofs.Common.{length-drop, refl, suc, sym, take, zero, ℕ, ◌+◌, ◌++◌, ◌-◌, ◌<◌, ◌∙◌}
+use Rattle.std.proofs.Common.{◌∷◌, ◌≡◌, ◌≤◌}
 use Rattle.std.proofs.lemmas.Bool.{cases_lt}
-use Rattle.std.proofs.lemmas.List.{drop-drop, drop_all, drop_at, get_or-append-add, get_or-drop, get_or-take, get_or_append_left, length-take-le}
+use Rattle.std.proofs.lemmas.List.{drop-drop, drop_all, drop_at, get_or-append-add, get_or-drop}
+use Rattle.std.proofs.lemmas.List.{get_or-take, get_or_append_left, length-take-le}
 use Rattle.pv_rules.specs.Derivations.{heaviest}
 use Rattle.pv_bounds.specs.Fronts.{cost_up_to, rising, front_list, least_to, shared_reach}
 use Rattle.pv_bounds.specs.declared.front.Front.{Front}

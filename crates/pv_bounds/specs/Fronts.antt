@@ -18,7 +18,8 @@ use Rattle.pv_bounds.specs.declared.fronts.Row.{Row}
 abbrev pub start_in : Row → ℕ → ℕ
 start_in row c = slice_index_or row.starts.items c 0
 
--- the near reaches of a class in a row: up to where those of the next class start, if both are there
+-- the near reaches of a class in a row: up to where those of the next class start, if both are
+-- there
 abbrev pub reaches_in : Row → ℕ → List Reach
 reaches_in row c =
     if nat_le (start_in row c) (start_in row (suc c)) &&

@@ -37,8 +37,8 @@ fn cuts_hold(alloc: Global, claim: &Claim<'_>, forms: &[Form]) -> Result<bool, N
     Ok(true)
 }
 
-// Whether no column costs more than its rules lead to. Those that cut no span are looked at place by
-// place, since the fronts of one place lie together.
+// Whether no column costs more than its rules lead to. Those that cut no span are looked at place
+// by place, since the fronts of one place lie together.
 fn columns_hold(alloc: Global, claim: &Claim<'_>, forms: &[Form]) -> Result<bool, NoMemory>
     requires { length forms.now ≤ no_column }
     ensures { IfOk result (λ hold. IsTrue hold → (c i : ℕ) → c < length forms.now →

@@ -28,7 +28,8 @@ use Rattle.pv_cache.specs.Laws.{MarksTell, UpdatedIsMarked}
 use Rattle.pv_cache.specs.Updates.{update_below, update_doc, update_kids, update_owner, update_root}
 use Rattle.pv_cache.specs.declared.updates.InnerVerdict.{InnerVerdict}
 use Rattle.pv_cache.specs.WellMarked.{EachListIn, IsWellMarked, TellsList}
-use Rattle.pv_cache.proofs.MarksAroundNodes.{ShowsSame, ShowSame, below-shows, changed-around, around-node}
+use Rattle.pv_cache.proofs.MarksAroundNodes.{ShowsSame, ShowSame, below-shows, changed-around}
+use Rattle.pv_cache.proofs.MarksAroundNodes.{around-node}
 use Rattle.pv_cache.proofs.MarksAroundNodes.{below-head, updated-around, tells-again, tells-same}
 use Rattle.pv_cache.proofs.NodeLists.{node-has}
 use Rattle.pv_cache.proofs.TreeMarks.{doc-bad, doc-left, doc-narrow, doc-nodes, doc-told}

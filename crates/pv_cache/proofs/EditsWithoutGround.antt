@@ -30,10 +30,12 @@ use Rattle.pv_tree.specs.Words.{word_of}
 use Rattle.pv_tree.specs.declared.nodes.Mark.{Mark}
 use Rattle.pv_tree.specs.declared.nodes.Verdict.{Verdict}
 use Rattle.pv_tree.specs.declared.nodes.Verdict.TheVariants as verdict
-use Rattle.pv_cache.specs.AcceptedEdits.{HaveBoth, IsAccepted, IsHoldable, IsNarrowAt, IsWithinLimits}
+use Rattle.pv_cache.specs.AcceptedEdits.{HaveBoth, IsAccepted, IsHoldable, IsNarrowAt}
+use Rattle.pv_cache.specs.AcceptedEdits.{IsWithinLimits}
 use Rattle.pv_cache.specs.AcceptedEdits.{MAX_EDITED_NODES}
 use Rattle.pv_cache.specs.BadLists.{bad_gained, bad_lost, own_inner}
-use Rattle.pv_cache.specs.VerdictsAfterChange.{AreJudged, IsFirstAmong, IsFirstImpossibleAt, IsInnerJudged}
+use Rattle.pv_cache.specs.VerdictsAfterChange.{AreJudged, IsFirstAmong, IsFirstImpossibleAt}
+use Rattle.pv_cache.specs.VerdictsAfterChange.{IsInnerJudged}
 use Rattle.pv_cache.specs.VerdictsAfterChange.{IsJudged, inner_first, outer_first, owner_at}
 use Rattle.pv_cache.specs.MarkedTasks.{AreNarrowAfter}
 use Rattle.pv_cache.specs.GroundLaws.{AcceptedExactlyWithoutGround}
@@ -42,7 +44,8 @@ use Rattle.pv_cache.specs.Moves.{HasGround}
 use Rattle.pv_cache.specs.Stamps.{doc_as}
 use Rattle.pv_cache.specs.WellMarked.{IsWellMarked, own_bad}
 use Rattle.pv_cache.specs.declared.updates.InnerVerdict.{InnerVerdict}
-use Rattle.pv_cache.proofs.RemarkedDocuments.{applied_as, first_at_from, first_at_to, outcome_as, unmarked_as}
+use Rattle.pv_cache.proofs.RemarkedDocuments.{applied_as, first_at_from, first_at_to, outcome_as}
+use Rattle.pv_cache.proofs.RemarkedDocuments.{unmarked_as}
 use Rattle.pv_cache.proofs.RemarkedDocuments.{within_from, within_to}
 use Rattle.pv_cache.proofs.FirstChangedList.{first-is-first, owner_here, owner_stays}
 use Rattle.pv_cache.proofs.Grounds.{gets_no_worse}

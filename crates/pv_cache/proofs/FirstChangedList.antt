@@ -2,7 +2,8 @@
 use Rattle.std.proofs.Common.{Bool, List, Option, Some, [], ap, false, refl, subst, suc, sym, true}
 use Rattle.std.proofs.Common.{zero, ℕ, ◌++◌, ◌∙◌, ◌∷◌, ◌≡◌}
 use Rattle.std.specs.List.{AllByRecursion, between}
-use Rattle.pv_cache.specs.VerdictsAfterChange.{AreJudged, IsFirstAmong, IsFirstImpossibleAt, IsInnerJudged}
+use Rattle.pv_cache.specs.VerdictsAfterChange.{AreJudged, IsFirstAmong, IsFirstImpossibleAt}
+use Rattle.pv_cache.specs.VerdictsAfterChange.{IsInnerJudged}
 use Rattle.pv_cache.specs.VerdictsAfterChange.{IsLiveListAt, inner_first, outer_first, owner_at}
 use Rattle.pv_cache.specs.Laws.{FirstIsFirstAmong}
 use Rattle.pv_cache.specs.declared.updates.InnerVerdict.{InnerVerdict}

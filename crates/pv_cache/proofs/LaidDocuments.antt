@@ -16,7 +16,8 @@ use Rattle.pv_tree.proofs.JoinedLists.{all_left, all_right}
 use Rattle.pv_tree.specs.declared.nodes.Mark.{Mark}
 use Rattle.pv_tree.specs.declared.nodes.Verdict.{Verdict}
 use Rattle.pv_cache.specs.VerdictsAfterChange.{IsJudged}
-use Rattle.pv_cache.specs.LaidMarks.{lay_node, lay_kids, lay_doc, lists_in, lists_in_all, nth_verdict}
+use Rattle.pv_cache.specs.LaidMarks.{lay_node, lay_kids, lay_doc, lists_in, lists_in_all}
+use Rattle.pv_cache.specs.LaidMarks.{nth_verdict}
 use Rattle.pv_cache.specs.Stamps.{doc_as, stamps_of}
 use Rattle.pv_cache.specs.WellMarked.{EachList, EachListIn, IsWellMarked, TellsList}
 use Rattle.pv_cache.specs.AcceptedEdits.{MAX_EDITED_NODES}

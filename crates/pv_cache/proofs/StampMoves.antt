@@ -44,7 +44,8 @@ use Rattle.pv_cache.specs.declared.updates.InnerVerdict.{InnerVerdict}
 use Rattle.pv_cache.specs.Moves.{HasBad, HasGround, HasOpen, IsEdited, IsReverted}
 use Rattle.pv_cache.specs.Stamps.{doc_as, stamp_of, stamp_lists, stamped_doc_of, stamps_of}
 use Rattle.pv_cache.specs.WellMarked.{IsWellMarked, told_bad}
-use Rattle.pv_cache.proofs.RemarkedDocuments.{accepted_as, count_to, ground_as, holdable_alike, reverted_as}
+use Rattle.pv_cache.proofs.RemarkedDocuments.{accepted_as, count_to, ground_as, holdable_alike}
+use Rattle.pv_cache.proofs.RemarkedDocuments.{reverted_as}
 use Rattle.pv_cache.proofs.RemarkedDocuments.{unmarked_as}
 use Rattle.pv_cache.proofs.Grounds.{is_accepted, is_given, many_ground, marked_bad, marked_holdable}
 use Rattle.pv_cache.proofs.Grounds.{marked_open, refused_ground}

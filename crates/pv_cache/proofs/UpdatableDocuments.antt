@@ -34,7 +34,8 @@ use Rattle.pv_cache.specs.WellMarked.{IsWellMarked, TellsList, told_left, told_l
 use Rattle.pv_cache.specs.WellMarked.{told_nodes_in}
 use Rattle.pv_cache.specs.declared.updates.Exchange.{Exchange}
 use Rattle.pv_cache.specs.declared.updates.InnerVerdict.{InnerVerdict}
-use Rattle.pv_cache.proofs.MarksAroundNodes.{Around, below-shows, beside-kid, changed-around, further}
+use Rattle.pv_cache.proofs.MarksAroundNodes.{Around, below-shows, beside-kid, changed-around}
+use Rattle.pv_cache.proofs.MarksAroundNodes.{further}
 use Rattle.pv_cache.proofs.MarksAroundNodes.{right-here}
 use Rattle.pv_cache.proofs.Docs.{in-root, updated-marked, owner-shows}
 use Rattle.pv_cache.proofs.ExchangedKids.{owner-tells}

@@ -2,7 +2,8 @@
 use Rattle.std.specs.Prelude.{List, Option, true, false, ℕ, ◌+◌, ◌≡◌}
 use Rattle.std.specs.List.{AllByRecursion}
 use Rattle.pv_cache.specs.BadLists.{bad_gained, bad_lost}
-use Rattle.pv_cache.specs.VerdictsAfterChange.{AreJudged, IsFirstAmong, IsFirstImpossibleAt, owner_at}
+use Rattle.pv_cache.specs.VerdictsAfterChange.{AreJudged, IsFirstAmong, IsFirstImpossibleAt}
+use Rattle.pv_cache.specs.VerdictsAfterChange.{owner_at}
 use Rattle.pv_cache.specs.Updates.{update_doc}
 use Rattle.pv_cache.specs.Moves.{HasBad, HasOpen}
 use Rattle.pv_cache.specs.Rows.{AreRows}

@@ -89,7 +89,8 @@ impl WellMarked {
         }
     }
 
-    // Keeps what edits of the list are judged by in which the element at a path stands, if one does.
+    // Keeps what edits of the list are judged by in which the element at a path stands, if one
+    // does.
     fn keep_around(&mut self, path: &Path)
         ensures { plain_marked self.new ≡ plain_marked self.old }
     {

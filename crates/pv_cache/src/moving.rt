@@ -72,8 +72,8 @@ impl WellMarked {
         Ok(ready)
     }
 
-    // Prepares an edit as `prepare_edit` does. The tokens of the list that it changes are kept, also
-    // if it is refused then.
+    // Prepares an edit as `prepare_edit` does. The tokens of the list that it changes are kept,
+    // also if it is refused then.
     fn prepare_keeping(&mut self, edit: &Edit) -> Result<Preparation, EditAnswer>
         ensures same { plain_marked self.new ≡ plain_marked self.old }
         ensures given { OnOk result (reason_of blank_mark (plain_doc self.new.doc).root edit.now

@@ -3,7 +3,8 @@
 ghost use Rattle.std.specs.Prelude.{◌≡◌, ◌&&◌, ◌∷◌, ◌++◌, [], false, true, ℕ, List, IfOk};
 ghost use Rattle.std.specs.Prelude.{IsTrue, MatchOption, OnOk, length, map, ◌≤◌};
 ghost use Rattle.std.specs.List.{between, list_any, splice};
-ghost use Rattle.pv_cache.specs.ChangedWords.{AreListTokens, AreWords, IsCame, IsComing, IsInnerWord};
+ghost use Rattle.pv_cache.specs.ChangedWords.{AreListTokens, AreWords, IsCame, IsComing};
+ghost use Rattle.pv_cache.specs.ChangedWords.{IsInnerWord};
 ghost use Rattle.pv_cache.specs.ChangedWords.{IsSpliced, IsWordOf};
 ghost use Rattle.pv_cache.specs.ShownKids.{number_shown, shown_of};
 ghost use Rattle.pv_dtd.specs.PlainForms.{plain_dtd};

@@ -1,5 +1,6 @@
 -- The lines of a pack at the front of some bytes.
-use Rattle.std.proofs.Common.{◌≡◌, ◌≢◌, ◌≤◌, ◌<◌, ℕ, List, ◌∷◌, ◌++◌, length, drop, refl, ap, ◌∙◌, append_assoc, arith, decimal, codes, Some, None, true}
+use Rattle.std.proofs.Common.{◌≡◌, ◌≢◌, ◌≤◌, ◌<◌, ℕ, List, ◌∷◌, ◌++◌, length, drop, refl, ap, ◌∙◌}
+use Rattle.std.proofs.Common.{append_assoc, arith, decimal, codes, Some, None, true}
 use Rattle.std.proofs.lemmas.List.{length-append}
 use Rattle.std.proofs.Math.Seq.{drop-append_seam}
 use Rattle.pv_words.specs.Numbers.{MAX_NUMBER}

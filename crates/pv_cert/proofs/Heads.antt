@@ -8,12 +8,15 @@ use Rattle.pv_cert.specs.Fronts.{Begins, BeginsNone}
 use Rattle.pv_cert.specs.Lines.{PackLine, version_line, total_line, mark_line, body_line, entry_line, end_line}
 use Rattle.pv_cert.specs.Meaning.{Answers, HasTooMany, IsFaulty, MAX_PACK_BYTES, Outcome, PackMeans, Refuses, Stand, entries_among, is_pack, is_fault, is_past_limit}
 use Rattle.pv_cert.specs.Packs.{AreLines, last_line, lines_text, table_lines}
-use Rattle.pv_cert.specs.Steps.{EndsWithTables, HasTooManyBehind, IsFaultyBehind, RefusesTables, TakesMarks, head_lines, pack_within}
+use Rattle.pv_cert.specs.Steps.{EndsWithTables, HasTooManyBehind, IsFaultyBehind, RefusesTables}
+use Rattle.pv_cert.specs.Steps.{TakesMarks, head_lines, pack_within}
 use Rattle.pv_cert.specs.declared.packs.Pack.{Pack}
 use Rattle.pv_cert.specs.declared.errors.PackError.{PackError}
 use Rattle.pv_cert.specs.declared.errors.PackError.TheVariants.{Limit, NoMemory, Syntax}
 use Rattle.pv_cert.proofs.OneMeaning.{one-meaning}
-use Rattle.pv_cert.proofs.LineSequences.{behind-marks, entries-append, entries-of-marks, last-append, no-mark-or-body, no-total, stand-append, stand-more, stand-one, text-append}
+use Rattle.pv_cert.proofs.LineSequences.{behind-marks, entries-append, entries-of-marks}
+use Rattle.pv_cert.proofs.LineSequences.{last-append, no-mark-or-body, no-total, stand-append}
+use Rattle.pv_cert.proofs.LineSequences.{stand-more, stand-one, text-append}
 
 version-stands : (bytes rest : List ℕ) → Begins bytes version_line rest → Stand None bytes (version_line ∷ []) rest
 version-stands bytes rest b = stand-one None bytes version_line rest record { may_follow = tt; begins = b }

@@ -11,7 +11,8 @@ use Rattle.pv_cert.specs.Packs.{IsOfTables, MayFollow, last_line, lines_of_table
 use Rattle.pv_cert.specs.Steps.{EndsWithTables, Follows, HasEntryBeyond, HasTooManyBehind, IsFaultyBehind, RefusesEntries, RefusesTables, StandsNoEntry, TakesEntries, line_before}
 use Rattle.pv_cert.specs.declared.errors.PackError.{PackError}
 use Rattle.pv_cert.specs.declared.errors.PackError.TheVariants.{Limit, NoMemory, Syntax}
-use Rattle.pv_cert.proofs.LineSequences.{entries-append, entries-of, last-append, stand-append, stand-more, stand-none}
+use Rattle.pv_cert.proofs.LineSequences.{entries-append, entries-of, last-append, stand-append}
+use Rattle.pv_cert.proofs.LineSequences.{stand-more, stand-none}
 
 -- after this line may stand the head of a table, the end, and some entries
 pub record IsTablePlace (before : Option PackLine) : Type 0 where

@@ -1,10 +1,12 @@
 -- The parts of an XML declaration, read from the front.
-use Rattle.std.proofs.Common.{◌≡◌, ◌≢◌, ℕ, List, [], ◌∷◌, ◌++◌, false, Some, None, refl, sym, ap, subst, ◌∙◌, append_assoc}
+use Rattle.std.proofs.Common.{◌≡◌, ◌≢◌, ℕ, List, [], ◌∷◌, ◌++◌, false, Some, None, refl, sym, ap}
+use Rattle.std.proofs.Common.{subst, ◌∙◌, append_assoc}
 use Rattle.std.specs.Prelude.{codes}
 use Rattle.pv_chars.specs.Spaces.{is_space}
 use Rattle.pv_chars.specs.Scan.{after_space, after_blank}
 use Rattle.pv_chars.specs.Fronts.{Begins, BeginsNone}
-use Rattle.pv_chars.specs.Declarations.{is_quote, IsQuoted, IsPart, BeginsNoQuoted, BeginsNoPart, IsPartOf}
+use Rattle.pv_chars.specs.Declarations.{is_quote, IsQuoted, IsPart, BeginsNoQuoted, BeginsNoPart}
+use Rattle.pv_chars.specs.Declarations.{IsPartOf}
 use Rattle.pv_chars.proofs.TextScans.{begins, after_space_takes, after_space-append, after_blank_takes, after_blank-append}
 use Rattle.pv_chars.proofs.Beginnings.{HasNoSpace, no_space, unlike}
 use Rattle.pv_chars.proofs.MarkupLemmas.{behind}

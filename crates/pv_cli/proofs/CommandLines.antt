@@ -1,8 +1,10 @@
 -- Command lines of two words, of four and of five.
-use Rattle.std.proofs.Common.{◌≡◌, ℕ, ◌<◌, ◌≤◌, List, [], ◌∷◌, length, get_or, Option, Some, None, option_map, true, false, codes, refl, arith}
+use Rattle.std.proofs.Common.{◌≡◌, ℕ, ◌<◌, ◌≤◌, List, [], ◌∷◌, length, get_or, Option, Some, None}
+use Rattle.std.proofs.Common.{option_map, true, false, codes, refl, arith}
 use Rattle.std.specs.Str.{bytes_eq}
 use Rattle.pv_chars.specs.Names.{is_name}
-use Rattle.pv_cli.specs.CommandLine.{checker_of, command_line_of, drill, drill_size, on_certificate, on_document, on_dtd, on_ranges, verb_of}
+use Rattle.pv_cli.specs.CommandLine.{checker_of, command_line_of, drill, drill_size, on_certificate}
+use Rattle.pv_cli.specs.CommandLine.{on_document, on_dtd, on_ranges, verb_of}
 use Rattle.pv_cli.specs.declared.checker.Checker.{Checker}
 use Rattle.pv_cli.specs.declared.verb.Verb.{Verb}
 

@@ -6,7 +6,8 @@ use Rattle.std.proofs.lemmas.List.{get_or_default}
 use Rattle.pv_model.specs.declared.models.Token.{Token}
 use Rattle.pv_columns.specs.ColumnRules.{ReadThrough, ReadsToken, TokensMayBeMissing, by_rule, done}
 use Rattle.pv_columns.specs.Laws.{ClosedMarksAreLive}
-use Rattle.pv_columns.specs.Marks.{AreNullable, AreClosedMarks, AreLiveMarks, AreMarked, IsMarked, unmarked}
+use Rattle.pv_columns.specs.Marks.{AreNullable, AreClosedMarks, AreLiveMarks, AreMarked, IsMarked}
+use Rattle.pv_columns.specs.Marks.{unmarked}
 use Rattle.pv_columns.specs.declared.rules.ColumnRule.{ColumnRule}
 use Rattle.pv_columns.proofs.Spans.{ends_are_intervals, join, reaches_on, reads_on}
 

@@ -5,7 +5,8 @@ use Rattle.std.proofs.Common.{Contains, List, arith, get_or, inl, inr, length, s
 use Rattle.std.proofs.lemmas.List.{get_or_default}
 use Rattle.std.proofs.lemmas.List.Sums.{sum_by-set}
 use Rattle.pv_columns.specs.Bits.{HasIn, bit}
-use Rattle.pv_columns.specs.EdgeFlows.{AreAttained, AreClosed, Flows, Grow, Holds, Joins, flows_along, flows_seed}
+use Rattle.pv_columns.specs.EdgeFlows.{AreAttained, AreClosed, Flows, Grow, Holds, Joins}
+use Rattle.pv_columns.specs.EdgeFlows.{flows_along, flows_seed}
 use Rattle.pv_columns.specs.declared.layers.Edge.{Edge}
 use Rattle.pv_columns.proofs.Bits.{of_or, or_left, or_right}
 use Rattle.pv_columns.proofs.ClosedMarks.{same_or_not}

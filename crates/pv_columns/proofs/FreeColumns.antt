@@ -1,5 +1,6 @@
 -- Free columns by their layers.
-use Rattle.std.proofs.Common.{Bool, Contains, List, None, [], arith, get_or, inl, inr, length, refl, subst, suc, zero, ℕ, ◌+◌, ◌/◌, ◌%◌, ◌<◌, ◌∷◌, ◌≡◌}
+use Rattle.std.proofs.Common.{Bool, Contains, List, None, [], arith, get_or, inl, inr, length, refl}
+use Rattle.std.proofs.Common.{subst, suc, zero, ℕ, ◌+◌, ◌/◌, ◌%◌, ◌<◌, ◌∷◌, ◌≡◌}
 use Rattle.std.proofs.lemmas.Bool.{cases_lt}
 use Rattle.pv_model.specs.declared.models.Token.{Token}
 use Rattle.pv_columns.specs.Marks.{AreMarked, IsAmong, IsMarked}

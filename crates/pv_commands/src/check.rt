@@ -8,7 +8,8 @@ ghost use Rattle.pv_commands.specs.Check.{IsCheckCourse, TellsPossibility, possi
 ghost use Rattle.pv_commands.specs.Returns.{BehindDocument};
 ghost use Rattle.pv_dtd.specs.Plain.{PlainDtd};
 ghost use Rattle.pv_opening.specs.Documents.{PlainOpened};
-ghost use Rattle.pv_opening.specs.JudgedCounts.{CountsJudged, CountsNoMore, judging_stage, lists_judged};
+ghost use Rattle.pv_opening.specs.JudgedCounts.{CountsJudged, CountsNoMore, judging_stage};
+ghost use Rattle.pv_opening.specs.JudgedCounts.{lists_judged};
 ghost use Rattle.pv_opening.specs.Possibility.{AreVerdictsOf, width_stage};
 ghost use Rattle.pv_opening.specs.Response.{plain_response, with_line};
 ghost use Rattle.pv_opening.specs.Returns.{TakesCourse, ending_of, plain_fetched};

@@ -3,7 +3,8 @@
 ghost use Rattle.std.specs.Prelude.{◌≡◌, length};
 ghost use Rattle.pv_commands.specs.Returns.{BehindDocument};
 ghost use Rattle.pv_opening.specs.Documents.{PlainOpened};
-ghost use Rattle.pv_opening.specs.JudgedCounts.{CountsJudged, CountsNoMore, judging_stage, lists_judged};
+ghost use Rattle.pv_opening.specs.JudgedCounts.{CountsJudged, CountsNoMore, judging_stage};
+ghost use Rattle.pv_opening.specs.JudgedCounts.{lists_judged};
 ghost use Rattle.pv_opening.specs.Possibility.{width_stage};
 ghost use Rattle.pv_opening.specs.Returns.{TakesCourse, TellsBy, ending_of, plain_fetched};
 ghost use Rattle.pv_commands.specs.Why.{IsWhyCourse, TellsWhy};

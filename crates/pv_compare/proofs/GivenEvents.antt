@@ -5,7 +5,8 @@ use Rattle.pv_read.specs.Errors.{Refuses}
 use Rattle.pv_read.specs.Meaning.{DocumentMeansWithin}
 use Rattle.pv_read.specs.declared.errors.DocError.{DocError}
 use Rattle.pv_read.specs.declared.errors.DocError.TheVariants.{Deep, DoctypeName, Entity, Limit, Mismatch, NoMemory, Subset, Syntax}
-use Rattle.pv_flat.specs.ComingEvents.{EventsCome, ComesAt, TextEnd, LeadsBy, RefusesRest, TextComes, ends_with, flat_limits}
+use Rattle.pv_flat.specs.ComingEvents.{EventsCome, ComesAt, TextEnd, LeadsBy, RefusesRest}
+use Rattle.pv_flat.specs.ComingEvents.{TextComes, ends_with, flat_limits}
 use Rattle.pv_flat.specs.Plain.{PlainEvent}
 use Rattle.pv_flat.specs.declared.state.Events.{Events}
 use Rattle.pv_flat.specs.declared.state.Stage.TheVariants as stage

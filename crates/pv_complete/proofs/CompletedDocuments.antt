@@ -33,7 +33,8 @@ use Rattle.pv_missing.specs.ListWeights.{SumIsLeast}
 use Rattle.pv_tables.specs.WeightLaws.{PossibleWeightsAddUp}
 use Rattle.pv_complete.specs.LeastCompletions.{IsLeastCompletion}
 use Rattle.pv_complete.specs.GrownTrees.{Grows, HasShortNames, IsBounded, IsGrownText}
-use Rattle.pv_write.specs.Events.{Event, events_text, marks_from, new_end, new_start, news, old_bytes, old_start, opens}
+use Rattle.pv_write.specs.Events.{Event, events_text, marks_from, new_end, new_start, news}
+use Rattle.pv_write.specs.Events.{old_bytes, old_start, opens}
 use Rattle.pv_complete.specs.MergedLists.{AreValidTrees, IsCompletedList, IsValidTree}
 use Rattle.pv_complete.specs.NeededElements.{Needs}
 use Rattle.pv_complete.specs.Pieces.{Writes, WritesAt}

@@ -15,7 +15,8 @@ use Rattle.pv_write.specs.Events.{Event, marks_from, old_bytes, opens}
 use Rattle.pv_complete.specs.MergedLists.{IsCompletedList}
 use Rattle.pv_complete.specs.MergingLaws.{BareIsCompleted, ElementIsCompleted, LeafIsCompleted, MergedIsCompleted}
 use Rattle.pv_write.specs.Pieces.{PlainPiece}
-use Rattle.pv_complete.specs.Pieces.{Writes, WritesContent, write_kept, write_new, write_none, write_text}
+use Rattle.pv_complete.specs.Pieces.{Writes, WritesContent, write_kept, write_new, write_none}
+use Rattle.pv_complete.specs.Pieces.{write_text}
 use Rattle.pv_write.specs.TaggedTexts.{gap_of}
 use Rattle.pv_complete.specs.GrownTrees.{KeepsEnding}
 use Rattle.pv_complete.specs.Writable.{KeepsWritable}

@@ -1,5 +1,7 @@
 -- A list that is filled with its pieces, and the lists below it with theirs, is merged with them.
-use Rattle.std.proofs.Common.{Bool, List, Some, [], ap, append-nil, append_assoc, arith, codes, false, inl, inr, refl, subst, suc, sym, true, ℕ, ◌++◌, ◌+◌, ◌∙◌, ◌∷◌, ◌≡◌}
+use Rattle.std.proofs.Common.{Bool, List, Some, [], ap, append-nil, append_assoc, arith, codes}
+use Rattle.std.proofs.Common.{false, inl, inr, refl, subst, suc, sym, true, ℕ, ◌++◌, ◌+◌, ◌∙◌, ◌∷◌}
+use Rattle.std.proofs.Common.{◌≡◌}
 use Rattle.pv_chars.specs.Texts.{has_data}
 use Rattle.pv_model.specs.Plain.{PlainToken, named, text}
 use Rattle.pv_dtd.specs.Hedge.{token}
@@ -7,20 +9,26 @@ use Rattle.pv_dtd.specs.Plain.{PlainDtd, number_of}
 use Rattle.pv_dtd.specs.Proper.{IsProperDtd}
 use Rattle.pv_rules.specs.Sites.{PlainSite, content_site, name_site, part_site, rest_site}
 use Rattle.pv_tree.specs.Lists.{Listed, an_element, lists_at, lists_from}
-use Rattle.pv_tree.specs.Plain.{Forest, Tree, cdata_node, element, is_element, misc_node, no_trees, short, tagged, text_node, tree}
+use Rattle.pv_tree.specs.Plain.{Forest, Tree, cdata_node, element, is_element, misc_node, no_trees}
+use Rattle.pv_tree.specs.Plain.{short, tagged, text_node, tree}
 use Rattle.pv_tree.specs.Words.{node_before, word_of}
 use Rattle.pv_tree.specs.declared.nodes.Mark.{Mark}
 use Rattle.pv_write.specs.Events.{Event, news, old_bytes, old_start}
-use Rattle.pv_write.specs.Pieces.{AwaitsNode, PlainPiece, TakesNext, after_node, finish, is_token, kept, others_of, start}
-use Rattle.pv_write.specs.TaggedTexts.{PutsIn, put_bare, put_end, put_finish, put_leaf, put_start, put_tags, gap_of}
+use Rattle.pv_write.specs.Pieces.{AwaitsNode, PlainPiece, TakesNext, after_node, finish, is_token}
+use Rattle.pv_write.specs.Pieces.{kept, others_of, start}
+use Rattle.pv_write.specs.TaggedTexts.{PutsIn, put_bare, put_end, put_finish, put_leaf, put_start}
+use Rattle.pv_write.specs.TaggedTexts.{put_tags, gap_of}
 use Rattle.pv_write.specs.Text.{tree_text}
 use Rattle.pv_write.proofs.EventLists.{news-join}
 use Rattle.pv_missing.specs.Verdicts.{IsLiveContent}
 use Rattle.pv_complete.specs.ListPieces.{ArePiecesOf, HavePieces, StandFor, kept_for}
-use Rattle.pv_complete.specs.MergedLists.{IsCompletedTree, Merges, merge_along, merge_end, merge_finish, merge_kept, merge_left, merge_start}
-use Rattle.pv_complete.specs.Pieces.{Writes, WritesAt, WritesContent, write_kept, write_new, write_none, write_text}
+use Rattle.pv_complete.specs.MergedLists.{IsCompletedTree, Merges, merge_along, merge_end}
+use Rattle.pv_complete.specs.MergedLists.{merge_finish, merge_kept, merge_left, merge_start}
+use Rattle.pv_complete.specs.Pieces.{Writes, WritesAt, WritesContent, write_kept, write_new}
+use Rattle.pv_complete.specs.Pieces.{write_none, write_text}
 use Rattle.pv_complete.specs.Writable.{HasNames}
-use Rattle.pv_complete.proofs.CompletedTrees.{bare_completed, element_completed, leaf_completed, merged_completed}
+use Rattle.pv_complete.proofs.CompletedTrees.{bare_completed, element_completed, leaf_completed}
+use Rattle.pv_complete.proofs.CompletedTrees.{merged_completed}
 
 -- ---- pieces that suit a word: each token of it is kept by one
 abbrev pub SuitsWord : List PlainPiece → List PlainToken → Type 0

@@ -1,6 +1,7 @@
 -- The Possible lists of a document that misses at most 1,000,000 elements are light, and so is the list that comes next.
 use Rattle.std.specs.Option.{option_map}
-use Rattle.std.proofs.Common.{List, None, Option, Some, [], arith, drop, refl, subst, sym, true, length, ℕ, ◌<◌, ◌∙◌, ◌∷◌, ◌≡◌, ◌≢◌}
+use Rattle.std.proofs.Common.{List, None, Option, Some, [], arith, drop, refl, subst, sym, true}
+use Rattle.std.proofs.Common.{length, ℕ, ◌<◌, ◌∙◌, ◌∷◌, ◌≡◌, ◌≢◌}
 use Rattle.std.proofs.Math.Logic.{∥∥₁_elim, ∥∥₁_map}
 use Rattle.std.specs.List.{AllByRecursion}
 use Rattle.pv_dtd.specs.Plain.{PlainDtd}

@@ -22,7 +22,8 @@ use Rattle.pv_complete.specs.Loads.{UsesVerdict}
 use Rattle.pv_complete.specs.NeededElements.{CanWeigh, HasCause, Needs}
 use Rattle.pv_tables.specs.Tables.{AreTables, IsTableOf, entries_in, no_list, other_list, possible_list}
 use Rattle.pv_complete.specs.Tables.{HasTables, HasTablesCause, most_entries}
-use Rattle.pv_complete.specs.TableWalks.{AreListEntries, Makes, MakesTables, PlainMade, StopsKids, StopsLists, StopsTables, StopsWord}
+use Rattle.pv_complete.specs.TableWalks.{AreListEntries, Makes, MakesTables, PlainMade, StopsKids}
+use Rattle.pv_complete.specs.TableWalks.{StopsLists, StopsTables, StopsWord}
 use Rattle.pv_complete.specs.declared.errors.NeedError.{NeedError}
 use Rattle.pv_complete.specs.declared.errors.NeedError.TheVariants.{Impossible, NoMemory, TooHeavy, TooMany, TooWide}
 use Rattle.pv_complete.proofs.WeightSums.{live_site}

@@ -17,9 +17,12 @@ use Rattle.pv_write.proofs.EventLists.{events-join, marks-join, news-join, opens
 use Rattle.pv_missing.specs.Completions.{LeavesOut, out_done, out_new}
 use Rattle.pv_missing.specs.Extensions.{join}
 use Rattle.pv_missing.proofs.CoversToInsertions.{allows-empty, empty_join}
-use Rattle.pv_write.specs.Events.{Event, events_text, marks_from, new_end, new_start, news, old_bytes, old_start, opens}
+use Rattle.pv_write.specs.Events.{Event, events_text, marks_from, new_end, new_start, news}
+use Rattle.pv_write.specs.Events.{old_bytes, old_start, opens}
 use Rattle.pv_complete.specs.GrownTrees.{trees_and}
-use Rattle.pv_complete.specs.MergedLists.{AreValidTrees, IsCompletedList, IsCompletedTree, Merges, merge_along, merge_end, merge_finish, merge_kept, merge_left, merge_start, view_beside}
+use Rattle.pv_complete.specs.MergedLists.{AreValidTrees, IsCompletedList, IsCompletedTree, Merges}
+use Rattle.pv_complete.specs.MergedLists.{merge_along, merge_end, merge_finish, merge_kept}
+use Rattle.pv_complete.specs.MergedLists.{merge_left, merge_start, view_beside}
 use Rattle.pv_write.specs.Pieces.{PlainPiece, finish, kept, start}
 use Rattle.pv_complete.specs.Pieces.{Writes, write_kept, write_new, write_none, write_text}
 use Rattle.pv_complete.specs.Writable.{HasNames, KeepsWritable}

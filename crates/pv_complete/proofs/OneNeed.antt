@@ -13,7 +13,8 @@ use Rattle.pv_missing.specs.Proper.{IsProperDoc}
 use Rattle.pv_missing.specs.Verdicts.{IsLive}
 use Rattle.pv_missing.specs.Widths.{IsFirstTooWide, IsListForVerdict}
 use Rattle.pv_complete.specs.NeedLaws.{HasNeed, OneNeed}
-use Rattle.pv_complete.specs.NeededElements.{CanNeed, CanWeigh, HasCause, IsHeavy, Needs, StopsAtImpossible, StopsAtWide}
+use Rattle.pv_complete.specs.NeededElements.{CanNeed, CanWeigh, HasCause, IsHeavy, Needs}
+use Rattle.pv_complete.specs.NeededElements.{StopsAtImpossible, StopsAtWide}
 use Rattle.pv_complete.specs.declared.errors.NeedError.{NeedError}
 use Rattle.pv_complete.specs.declared.errors.NeedError.TheVariants.{Impossible, NoMemory, TooHeavy, TooMany, TooWide}
 

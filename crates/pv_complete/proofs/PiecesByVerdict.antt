@@ -1,5 +1,6 @@
 -- The pieces of a list by its verdict.
-use Rattle.std.proofs.Common.{Global, List, None, Option, Some, Vec, [], ap, append-nil, append_assoc, drop, false, inl, inr, map, refl, subst, suc}
+use Rattle.std.proofs.Common.{Global, List, None, Option, Some, Vec, [], ap, append-nil}
+use Rattle.std.proofs.Common.{append_assoc, drop, false, inl, inr, map, refl, subst, suc}
 use Rattle.std.proofs.Common.{true, zero, zero-add, ℕ, ◌++◌, ◌+◌, ◌∙◌, ◌∷◌, ◌≡◌, ◌≢◌}
 use Rattle.std.specs.List.{AllByRecursion}
 use Rattle.pv_model.specs.Plain.{PlainModel, PlainToken, any, children, empty, mixed, named, other, text}
@@ -22,9 +23,11 @@ use Rattle.pv_missing.proofs.OneLiveWord.{one_live_word}
 use Rattle.pv_tables.proofs.WeightSums.{same_word}
 use Rattle.pv_complete.specs.Loads.{UsesVerdict}
 use Rattle.pv_write.specs.Pieces.{PlainPiece}
-use Rattle.pv_complete.specs.Pieces.{Writes, WritesAt, WritesContent, write_kept, write_none, write_text}
+use Rattle.pv_complete.specs.Pieces.{Writes, WritesAt, WritesContent, write_kept, write_none}
+use Rattle.pv_complete.specs.Pieces.{write_text}
 use Rattle.pv_write.specs.PieceForms.{plain_lists, plain_pieces}
-use Rattle.pv_complete.specs.ListPieces.{AreNextPieces, AreNotImpossible, ArePieces, HaveFound, kept_for}
+use Rattle.pv_complete.specs.ListPieces.{AreNextPieces, AreNotImpossible, ArePieces, HaveFound}
+use Rattle.pv_complete.specs.ListPieces.{kept_for}
 use Rattle.pv_write.specs.declared.pieces.Piece.{Piece}
 
 -- ---- a valid list's pieces

@@ -12,7 +12,8 @@ use Rattle.pv_tree.specs.Legal.{are_formed, fits_kids, is_formed}
 use Rattle.pv_tree.specs.Plain.{Ending, Forest, Tree, cdata_node, element, misc_node, no_trees, short, tagged, text_node, tree}
 use Rattle.pv_tree.specs.View.{spread, view_all, view_before}
 use Rattle.pv_write.specs.Text.{forest_text, tree_text}
-use Rattle.pv_complete.specs.GrownTrees.{Grows, KeepsEnding, trees_and, grows_kept, grows_leaf, grows_new, grows_none}
+use Rattle.pv_complete.specs.GrownTrees.{Grows, KeepsEnding, trees_and, grows_kept, grows_leaf}
+use Rattle.pv_complete.specs.GrownTrees.{grows_new, grows_none}
 use Rattle.pv_complete.specs.GrownTrees.{HasShortNames, most_tag_bytes}
 use Rattle.pv_complete.proofs.FewMarks.{elements_spread}
 

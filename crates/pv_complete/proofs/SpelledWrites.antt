@@ -17,7 +17,8 @@ use Rattle.pv_missing.specs.PlainForms.{plain_of}
 use Rattle.pv_missing.specs.declared.owners.Of.{Of}
 use Rattle.pv_missing.specs.declared.owners.Of.TheVariants as of
 use Rattle.pv_write.specs.Pieces.{PlainPiece, finish, kept, start}
-use Rattle.pv_complete.specs.Pieces.{Writes, WritesAt, WritesContent, write_kept, write_new, write_none, write_text}
+use Rattle.pv_complete.specs.Pieces.{Writes, WritesAt, WritesContent, write_kept, write_new}
+use Rattle.pv_complete.specs.Pieces.{write_none, write_text}
 use Rattle.pv_complete.specs.Spelling.{HoldsData, MayBeNothing, MayBeOne, MayBeTwo, SpellsSpan, any_two, children_one, choice_one, data_nothing}
 use Rattle.pv_complete.specs.Spelling.{empty_nothing, last_one, mixed_two, name_one, opt_nothing, opt_one, plus_one, plus_two, rest_two, seq_one}
 use Rattle.pv_complete.specs.Spelling.{spell_kept, spell_new, spell_none, spell_one, spell_text, spell_two, star_nothing, star_two}

@@ -28,7 +28,8 @@ use Rattle.pv_missing.specs.Widths.{IsListForWeights}
 use Rattle.pv_missing.proofs.Verdict.{one_verdict}
 use Rattle.pv_tables.specs.WeightLaws.{LiveWeighs, PossibleWeigh, PossibleWeightsAddUp}
 use Rattle.pv_complete.specs.Loads.{LoadsMore, AddsUp, PlainLoad, StopsAtList, UsesVerdict}
-use Rattle.pv_complete.specs.NeededElements.{AreListsForVerdicts, CanWeigh, IsHeavy, Needs, WeighsIn}
+use Rattle.pv_complete.specs.NeededElements.{AreListsForVerdicts, CanWeigh, IsHeavy, Needs}
+use Rattle.pv_complete.specs.NeededElements.{WeighsIn}
 
 -- the verdict that is next, and those after it
 pub drop_next : (vs : List Verdict) (k n : ℕ) (v : Verdict) → slice_get vs k ≡ Some v → n ≡ k + 1 → drop k vs ≡ v ∷ drop n vs

@@ -14,7 +14,8 @@ use Rattle.pv_tree.specs.Attributes.{IsAttributes, IsKnownReference}
 use Rattle.pv_tree.specs.Legal.{IsLegal, IsLegalEnding, are_formed, fits_kids, front_units, has_names, has_no_close_mark, have_names, have_no_close_mark, is_formed, is_open, starts_no_close_mark}
 use Rattle.pv_tree.specs.Plain.{Ending, Forest, Tree, cdata_node, element, misc_node, no_trees, tagged, text_node, tree}
 use Rattle.pv_tree.specs.Units.{HasUnits}
-use Rattle.pv_complete.specs.GrownTrees.{Grows, KeepsEnding, trees_and, grows_kept, grows_leaf, grows_new, grows_none}
+use Rattle.pv_complete.specs.GrownTrees.{Grows, KeepsEnding, trees_and, grows_kept, grows_leaf}
+use Rattle.pv_complete.specs.GrownTrees.{grows_new, grows_none}
 use Rattle.pv_complete.specs.Writable.{AreElements, AreInFront, AreWritable, HasNames, KeepsWritable}
 
 -- what doesn't begin `]]>` with more units after it, doesn't without them

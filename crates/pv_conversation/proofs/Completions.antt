@@ -7,7 +7,8 @@ use Rattle.pv_cache.proofs.RemarkedDocuments.{unmarked_as}
 use Rattle.pv_reach.proofs.OtherMarks.{view_as}
 use Rattle.pv_complete.specs.LeastCompletions.{IsLeastCompletion}
 use Rattle.pv_complete.specs.NeededElements.{AreLiveVerdicts}
-use Rattle.pv_complete.specs.GrownTrees.{Grows, IsGrownText, KeepsEnding, trees_and, grows_kept, grows_leaf, grows_new, grows_none}
+use Rattle.pv_complete.specs.GrownTrees.{Grows, IsGrownText, KeepsEnding, trees_and, grows_kept}
+use Rattle.pv_complete.specs.GrownTrees.{grows_leaf, grows_new, grows_none}
 use Rattle.pv_dtd.specs.Plain.{PlainDtd}
 use Rattle.pv_dtd.specs.Proper.{IsProperDtd}
 use Rattle.pv_missing.specs.Completions.{Completes}
@@ -19,7 +20,8 @@ use Rattle.pv_session.specs.SessionFacts.{IsSession}
 use Rattle.pv_session.specs.Sessions.{PlainSession, stamped_document}
 use Rattle.pv_tree.specs.declared.nodes.Mark.{Mark}
 use Rattle.pv_write.specs.Text.{doc_text}
-use Rattle.pv_conversation.specs.MissingReplies.{TellsCompletion, TellsNeed, Withholds, is_not_completed, is_withheld}
+use Rattle.pv_conversation.specs.MissingReplies.{TellsCompletion, TellsNeed, Withholds}
+use Rattle.pv_conversation.specs.MissingReplies.{is_not_completed, is_withheld}
 use Rattle.pv_conversation.proofs.MissingElements.{live_verdicts, needs_as}
 use Rattle.pv_conversation.proofs.Texts.{doc_text-without_marks}
 

@@ -6,7 +6,8 @@ use Rattle.pv_words.proofs.RawLines.{raw_lines_of-part}
 use Rattle.pv_words.proofs.FirstWords.{Free-append}
 use Rattle.pv_script.specs.Commands.{SpellsCommand}
 use Rattle.pv_words.specs.Lines.{FEED, HasNoFeed, lines_of, raw_lines_of, with_feeds, without_returns}
-use Rattle.pv_script.specs.TakenLines.{HeldLine, MAX_LINE_BYTES, nothing_held, begun_line, TakesWhole, TakesLine, IsTooLong}
+use Rattle.pv_script.specs.TakenLines.{HeldLine, MAX_LINE_BYTES, nothing_held, begun_line}
+use Rattle.pv_script.specs.TakenLines.{TakesWhole, TakesLine, IsTooLong}
 use Rattle.pv_script.specs.declared.commands.Command.TheVariants.{Quit}
 use Rattle.pv_session.specs.Sessions.{PlainSession}
 use Rattle.pv_conversation.specs.CountedLines.{CountedSession}
@@ -16,7 +17,9 @@ use Rattle.pv_conversation.specs.Script.{MAX_SCRIPT_BYTES, lines_within}
 use Rattle.pv_conversation.specs.Session.{EndsSession, Place, Replies, finished, quitted, past_line, past_script, input_failed, output_failed, no_lines, at_line, at_quit, all_told, limited}
 use Rattle.pv_conversation.proofs.LineCounts.{counts_all, counts_front}
 use Rattle.pv_conversation.proofs.ContinuedScripts.{lines_on, more_changes_nothing}
-use Rattle.pv_conversation.proofs.Limits.{IsReadAs, feeds_more, lines_more_are, past_lines, past_long, past_short, read_all, read_lines, read_long_line, read_within, true_is_no_false}
+use Rattle.pv_conversation.proofs.Limits.{IsReadAs, feeds_more, lines_more_are, past_lines}
+use Rattle.pv_conversation.proofs.Limits.{past_long, past_short, read_all, read_lines}
+use Rattle.pv_conversation.proofs.Limits.{read_long_line, read_within, true_is_no_false}
 use Rattle.pv_conversation.proofs.Replies.{replies_more, replies_quit}
 use Rattle.pv_io.proofs.Streams.{appends_none}
 

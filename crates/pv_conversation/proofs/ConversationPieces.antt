@@ -19,7 +19,9 @@ use Rattle.pv_conversation.specs.ReplyBuffer.{HoldsReplies}
 use Rattle.pv_conversation.specs.Script.{MAX_SCRIPT_BYTES}
 use Rattle.pv_conversation.specs.Session.{all_told, limited}
 use Rattle.pv_conversation.proofs.ConversationLines.{cut_off, ended_as, ended_on, ends_with_last, ends_with_quit, limit_is_no_fault}
-use Rattle.pv_conversation.proofs.ConversationLines.{output_is_no_input, takes_failed, takes_line, takes_long, takes_past_line, takes_past_script, takes_quit, told_is_no_fault, written_as}
+use Rattle.pv_conversation.proofs.ConversationLines.{output_is_no_input, takes_failed, takes_line}
+use Rattle.pv_conversation.proofs.ConversationLines.{takes_long, takes_past_line, takes_past_script}
+use Rattle.pv_conversation.proofs.ConversationLines.{takes_quit, told_is_no_fault, written_as}
 use Rattle.pv_conversation.proofs.HeldReplies.{holds_failed, holds_more, holds_none}
 use Rattle.pv_io.proofs.Streams.{front_behind}
 

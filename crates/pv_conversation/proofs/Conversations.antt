@@ -8,7 +8,8 @@ use Rattle.pv_conversation.specs.Conversation.{Talked}
 use Rattle.pv_conversation.specs.CountedLines.{CountsFirst, lines_answered}
 use Rattle.pv_opening.specs.Course.{RunEnding, no_memory, without_input}
 use Rattle.pv_opening.specs.Devices.{InputNow, OutputNow}
-use Rattle.pv_opening.specs.ShownCourses.{AskedAtMost, CountsInput, CountsShelf, WritesEnding, wrote}
+use Rattle.pv_opening.specs.ShownCourses.{AskedAtMost, CountsInput, CountsShelf, WritesEnding}
+use Rattle.pv_opening.specs.ShownCourses.{wrote}
 use Rattle.pv_conversation.specs.Session.{EndsSession, ended_over, without_room}
 use Rattle.pv_io.proofs.Streams.{appends_none}
 

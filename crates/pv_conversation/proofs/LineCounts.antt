@@ -6,7 +6,8 @@ use Rattle.pv_script.specs.declared.commands.Command.{Command}
 use Rattle.pv_script.specs.declared.commands.Command.TheVariants.{Edit, Undo, Redo, History, Show, Verdicts, Need, Complete, Offer, Quit}
 use Rattle.pv_script.specs.declared.replies.Reply.{Reply}
 use Rattle.pv_session.specs.Sessions.{PlainSession}
-use Rattle.pv_conversation.specs.CountedLines.{CountsFirst, CountsOneLine, CountsLines, GoesBehind, is_quit, no_command, no_quit, was_silent}
+use Rattle.pv_conversation.specs.CountedLines.{CountsFirst, CountsOneLine, CountsLines, GoesBehind}
+use Rattle.pv_conversation.specs.CountedLines.{is_quit, no_command, no_quit, was_silent}
 use Rattle.pv_conversation.specs.Session.{Place, Replies, RepliesBy, RepliesTo, answered, at_line, ended, is_among, known, no_lines, unknown, without_memory}
 
 -- the number after the lines

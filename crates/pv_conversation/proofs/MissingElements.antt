@@ -8,7 +8,8 @@ use Rattle.pv_cache.specs.Stamps.{doc_as, stamp_of, stamps_of}
 use Rattle.pv_cache.proofs.ListMarks.{all_as, all_narrow_from, all_narrow_to, first_as, first_to, list_as, lists_as, verdicts_from}
 use Rattle.pv_cache.proofs.OtherMarks.{heads_as, word_as}
 use Rattle.pv_reach.proofs.OtherMarks.{view_as}
-use Rattle.pv_complete.specs.NeededElements.{AreLiveVerdicts, CanNeed, CanWeigh, HasCause, Needs, StopsAtImpossible, StopsAtWide}
+use Rattle.pv_complete.specs.NeededElements.{AreLiveVerdicts, CanNeed, CanWeigh, HasCause, Needs}
+use Rattle.pv_complete.specs.NeededElements.{StopsAtImpossible, StopsAtWide}
 use Rattle.pv_complete.specs.declared.errors.NeedError.{NeedError}
 use Rattle.pv_complete.specs.declared.errors.NeedError.TheVariants.{Impossible, NoMemory, TooHeavy, TooMany, TooWide}
 use Rattle.pv_dtd.specs.Plain.{PlainDtd}

@@ -12,7 +12,9 @@ use Rattle.pv_session.specs.Sessions.{PlainSession}
 use Rattle.pv_tree.specs.Lists.{lists_of}
 use Rattle.pv_tree.proofs.FirstLists.{one_first}
 use Rattle.pv_conversation.specs.Alike.{RepliesAlike, are_completions, are_one}
-use Rattle.pv_conversation.specs.MissingReplies.{TellsCompletion, TellsNeed, Withholds, is_completed, is_heavy, is_impossible, is_needed, is_not_completed, is_wide, is_withheld}
+use Rattle.pv_conversation.specs.MissingReplies.{TellsCompletion, TellsNeed, Withholds}
+use Rattle.pv_conversation.specs.MissingReplies.{is_completed, is_heavy, is_impossible, is_needed}
+use Rattle.pv_conversation.specs.MissingReplies.{is_not_completed, is_wide, is_withheld}
 use Rattle.pv_opening.proofs.OnePossibility.{none_first}
 
 module _ (s : PlainSession) where

@@ -17,7 +17,8 @@ use Rattle.pv_conversation.specs.declared.talk.Next.{Next}
 use Rattle.pv_conversation.specs.declared.talk.Next.TheVariants as next
 use Rattle.pv_conversation.specs.declared.talk.Reading.{Reading}
 use Rattle.pv_opening.specs.declared.status.Status.{Status}
-use Rattle.pv_conversation.specs.CountedLines.{CountedSession, CountsFirst, CountsOneLine, CountsLines}
+use Rattle.pv_conversation.specs.CountedLines.{CountedSession, CountsFirst, CountsOneLine}
+use Rattle.pv_conversation.specs.CountedLines.{CountsLines}
 use Rattle.pv_conversation.specs.CountedLines.{CountsScript, lines_answered}
 use Rattle.pv_opening.specs.Course.{RunEnding, output_fault}
 use Rattle.pv_opening.specs.Devices.{InputNow, OutputNow}

@@ -2,7 +2,8 @@
 use Rattle.std.specs.Prelude.{Bool, IfSome, IsTrue, MatchOption, option_map}
 use Rattle.std.proofs.lemmas.List.{length-map}
 use Rattle.std.proofs.lemmas.Option.{slice_get_within}
-use Rattle.std.proofs.Common.{List, None, Option, Some, [], ap, inl, length, map, refl, subst, suc, sym, zero, ℕ, ◌∙◌, ◌≡◌, ◌≢◌, ◌<◌, ◌↔◌, ◌∷◌}
+use Rattle.std.proofs.Common.{List, None, Option, Some, [], ap, inl, length, map, refl, subst, suc}
+use Rattle.std.proofs.Common.{sym, zero, ℕ, ◌∙◌, ◌≡◌, ◌≢◌, ◌<◌, ◌↔◌, ◌∷◌}
 use Rattle.pv_model.specs.Plain.{PlainToken, empty}
 use Rattle.pv_model.specs.PlainForms.{plain_token}
 use Rattle.pv_model.specs.declared.models.NameId.{NameId}

@@ -12,13 +12,15 @@ use Rattle.pv_denial.specs.declared.denials.Row.{Row}
 use Rattle.pv_denial_text.specs.Fronts.{Begins, BeginsNone}
 use Rattle.pv_denial_text.specs.Lines.{cause_line, cause_word, end_line, list_line, row_line, version_line}
 use Rattle.pv_denial_text.specs.Meaning.{Answers, DenialMeans, HasTooMany, IsFaulty, MAX_DENIAL_BYTES, Outcome, Refuses, Stand, is_denial, is_fault, is_past_limit}
-use Rattle.pv_denial_text.specs.Steps.{EndsWithRows, HasTooManyBehind, IsFaultyBehind, RefusesRows, head_lines}
+use Rattle.pv_denial_text.specs.Steps.{EndsWithRows, HasTooManyBehind, IsFaultyBehind, RefusesRows}
+use Rattle.pv_denial_text.specs.Steps.{head_lines}
 use Rattle.pv_denial_text.specs.Texts.{lines_text}
 use Rattle.pv_denial_text.specs.declared.errors.TableError.{TableError}
 use Rattle.pv_denial_text.specs.declared.errors.TableError.TheVariants.{Limit, NoMemory, Syntax}
 use Rattle.pv_denial_text.proofs.OneLine.{cause-free}
 use Rattle.pv_denial_text.proofs.OneMeaning.{one-meaning}
-use Rattle.pv_denial_text.proofs.LineSequences.{no-cause, no-list, stand-append, stand-more, stand-one}
+use Rattle.pv_denial_text.proofs.LineSequences.{no-cause, no-list, stand-append, stand-more}
+use Rattle.pv_denial_text.proofs.LineSequences.{stand-one}
 
 -- the line of a path
 list-front : (bytes path rest : List ℕ) → Begins bytes (list_line path) rest → IsLineOf (codes "list ") bytes (path_text path) rest

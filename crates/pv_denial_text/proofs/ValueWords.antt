@@ -1,5 +1,6 @@
 -- The values of a row, read one by one.
-use Rattle.std.proofs.Common.{◌≡◌, ◌<◌, ℕ, List, [], ◌∷◌, ◌++◌, map, refl, sym, ap, ◌∙◌, append_assoc, arith, decimal, subst, None}
+use Rattle.std.proofs.Common.{◌≡◌, ◌<◌, ℕ, List, [], ◌∷◌, ◌++◌, map, refl, sym, ap, ◌∙◌}
+use Rattle.std.proofs.Common.{append_assoc, arith, decimal, subst, None}
 use Rattle.pv_words.specs.Numbers.{AreNumbers, number_spelled, IsNumberBefore}
 use Rattle.pv_words.specs.Words.{words}
 use Rattle.pv_words.proofs.NumberWords.{decimal-free, number_spelled-decimal}

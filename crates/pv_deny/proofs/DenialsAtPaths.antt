@@ -23,7 +23,8 @@ use Rattle.pv_denial.specs.declared.denials.Cause.TheVariants as cause
 use Rattle.pv_denial.specs.declared.denials.Denial.{Denial}
 use Rattle.pv_denial.specs.declared.denials.Row.{Row}
 use Rattle.pv_denial.specs.declared.places.OwnedList.{OwnedList}
-use Rattle.pv_deny.specs.DocumentDenials.{Answers, HasOutcome, HasTooMany, IsDenialOf, HasOutcomeBy, Outcome, is_denial, is_possible, is_too_many, is_too_wide}
+use Rattle.pv_deny.specs.DocumentDenials.{Answers, HasOutcome, HasTooMany, IsDenialOf, HasOutcomeBy}
+use Rattle.pv_deny.specs.DocumentDenials.{Outcome, is_denial, is_possible, is_too_many, is_too_wide}
 use Rattle.pv_deny.specs.Laws.{OneOutcome}
 use Rattle.pv_deny.specs.ToldRows.{HasManyValues, HasRowsBy}
 use Rattle.pv_deny.specs.declared.errors.DenyError.{DenyError}

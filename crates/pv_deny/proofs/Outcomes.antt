@@ -33,7 +33,9 @@ use Rattle.pv_denial.specs.declared.denials.Cause.{Cause}
 use Rattle.pv_denial.specs.declared.denials.Cause.TheVariants as cause
 use Rattle.pv_denial.specs.declared.denials.Denial.{Denial}
 use Rattle.pv_denial.specs.declared.denials.Row.{Row}
-use Rattle.pv_deny.specs.DocumentDenials.{AreDerivingSites, AreFurthestRows, HasOutcome, HasTooMany, IsDenialOf, IsFurthestRow, Outcome, is_denial, is_possible, is_too_many, is_too_wide}
+use Rattle.pv_deny.specs.DocumentDenials.{AreDerivingSites, AreFurthestRows, HasOutcome, HasTooMany}
+use Rattle.pv_deny.specs.DocumentDenials.{IsDenialOf, IsFurthestRow, Outcome, is_denial}
+use Rattle.pv_deny.specs.DocumentDenials.{is_possible, is_too_many, is_too_wide}
 use Rattle.pv_denial.proofs.Lists.{every, one_ascending, same_list}
 use Rattle.pv_deny.proofs.RowFacts.{values_in_rows}
 

@@ -17,7 +17,8 @@ use Rattle.pv_reach.specs.Laws.{SpansWithin}
 use Rattle.pv_reach.specs.declared.reaches.Reaches.{Reaches}
 use Rattle.pv_denial.specs.Rows.{EachRow, IsSiteBefore, most_values, values_in}
 use Rattle.pv_denial.specs.declared.denials.Row.{Row}
-use Rattle.pv_deny.specs.DocumentDenials.{AreDerivingSites, AreFurthestRows, DerivesSome, IsFurthestRow}
+use Rattle.pv_deny.specs.DocumentDenials.{AreDerivingSites, AreFurthestRows, DerivesSome}
+use Rattle.pv_deny.specs.DocumentDenials.{IsFurthestRow}
 use Rattle.pv_deny.specs.ToldRows.{AreToldRows, AreToldSites, IsBelow, IsToldRow, IsTold}
 use Rattle.pv_denial.proofs.Lists.{front_or_end}
 use Rattle.pv_denial.proofs.SiteRows.{slice_get_below}

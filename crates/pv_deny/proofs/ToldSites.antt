@@ -1,5 +1,6 @@
 -- The sites that furthest places tell something of, found one by one.
-use Rattle.std.proofs.Common.{List, Some, [], arith, inl, inr, length, refl, slice_get, subst, sym, ℕ, ◌+◌, ◌++◌, ◌<◌, ◌∙◌, ◌∷◌, ◌≡◌, ◌⊎◌}
+use Rattle.std.proofs.Common.{List, Some, [], arith, inl, inr, length, refl, slice_get, subst, sym}
+use Rattle.std.proofs.Common.{ℕ, ◌+◌, ◌++◌, ◌<◌, ◌∙◌, ◌∷◌, ◌≡◌, ◌⊎◌}
 use Rattle.std.proofs.lemmas.Option.{slice_get_within}
 use Rattle.pv_dtd.specs.Plain.{PlainDtd}
 use Rattle.pv_rules.specs.PlainForms.{plain_site}

@@ -12,7 +12,8 @@ use Rattle.pv_denial.specs.Rows.{AreBarrierRows, AreInOrder}
 use Rattle.pv_denial.specs.declared.denials.Denial.{Denial}
 use Rattle.pv_denial.specs.declared.denials.Judged.TheVariants as judged
 use Rattle.pv_denial.specs.declared.denials.Row.{Row}
-use Rattle.pv_deny.specs.DocumentDenials.{AreFurthestRows, HasOutcome, HasTooMany, IsDenialOf, Outcome}
+use Rattle.pv_deny.specs.DocumentDenials.{AreFurthestRows, HasOutcome, HasTooMany, IsDenialOf}
+use Rattle.pv_deny.specs.DocumentDenials.{Outcome}
 
 -- rows of furthest places over a word of productive names are a barrier for it
 abbrev pub FurthestIsBarrier : Type 0

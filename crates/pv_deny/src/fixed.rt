@@ -9,7 +9,8 @@ ghost use Rattle.pv_missing.specs.Verdicts.{IsFirstImpossible};
 ghost use Rattle.pv_missing.specs.Widths.{IsListForVerdict};
 ghost use Rattle.pv_denial.specs.Judgements.{IsDenialJudged};
 ghost use Rattle.pv_denial.specs.declared.denials.Judged.TheVariants as judged;
-ghost use Rattle.pv_deny.specs.DocumentDenials.{Answers, HasOutcome, IsDenialOf, HasOutcomeBy, Outcome};
+ghost use Rattle.pv_deny.specs.DocumentDenials.{Answers, HasOutcome, IsDenialOf, HasOutcomeBy};
+ghost use Rattle.pv_deny.specs.DocumentDenials.{Outcome};
 
 use crate::denying::denial_over;
 use crate::errors::DenyError;

@@ -17,11 +17,13 @@ use Rattle.pv_dtd.specs.Items.{DtdItem, text_declaration, element, skipped, comm
 use Rattle.pv_dtd.specs.Items.{mentioned_by, declared_by, declared_in, model_in, models_in, mentioned_in, particles_in, particles_in_all}
 use Rattle.pv_dtd.specs.Items.{parts_of_model, parts_of_models}
 use Rattle.pv_dtd.specs.Numbering.{with_numbers, model_with_numbers, number_among, each_once, names_of, dtd_of_items}
-use Rattle.pv_dtd.proofs.NamesOnce.{distinct-once, once_all, once_one_of, once_fewer, once-distinct, with_names-once}
+use Rattle.pv_dtd.proofs.NamesOnce.{distinct-once, once_all, once_one_of, once_fewer, once-distinct}
+use Rattle.pv_dtd.proofs.NamesOnce.{with_names-once}
 use Rattle.pv_dtd.proofs.DistinctNumbers.{apart_from_distinct}
 use Rattle.pv_dtd.specs.SoFar.{IsSoundItem, AreSoundItems, AreRuled, IsOfItems}
 use Rattle.pv_dtd.proofs.NumbersForNames.{mentions_numbered, nesting_numbered, part_formed, parts_numbered}
-use Rattle.pv_dtd.proofs.NamesAmongOthers.{AreAmong, among-left, among-right, among_by, any_number, distinct_numbered, known_all, once_has}
+use Rattle.pv_dtd.proofs.NamesAmongOthers.{AreAmong, among-left, among-right, among_by, any_number}
+use Rattle.pv_dtd.proofs.NamesAmongOthers.{distinct_numbered, known_all, once_has}
 use Rattle.pv_dtd.proofs.NamesKept.{both_short, declared_legal, declared_short, legal-append, mentioned_legal, mentioned_more, mentioned_short, once_legal}
 
 get_behind : (front names : List (List ℕ)) (i : ℕ) → slice_get (front ++ names) (length front + i) ≡ slice_get names i

@@ -6,7 +6,8 @@ use Rattle.pv_model.specs.Plain.{PlainPart, PlainParts, PlainModel, parts_of}
 use Rattle.pv_model.specs.Plain as plain
 use Rattle.pv_dtd.specs.Items.{NamedPart, named_parts_of, NamedModel, spelled_in, spelled_in_all, spelled_in_model, mentioned_in}
 use Rattle.pv_dtd.specs.Numbering.{number_among, with_numbers, all_with_numbers, model_with_numbers}
-use Rattle.pv_dtd.specs.NameOrder.{names_with, number_in, AreFirstIn, with_names, NumbersNames, NumbersPart, NumbersParts, NumbersModel, NumbersModels}
+use Rattle.pv_dtd.specs.NameOrder.{names_with, number_in, AreFirstIn, with_names, NumbersNames}
+use Rattle.pv_dtd.specs.NameOrder.{NumbersPart, NumbersParts, NumbersModel, NumbersModels}
 use Rattle.pv_dtd.proofs.NameSequences.{goes_on_then, with_name_goes_on, grown_goes_on, with_names-append, place_goes_on, place-names_with}
 
 -- a name's number, however the names go on

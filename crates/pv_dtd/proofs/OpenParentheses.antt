@@ -15,7 +15,8 @@ use Rattle.pv_dtd.specs.Kinds.{IsTooDeep, how_many}
 use Rattle.pv_dtd.specs.SoFar.{IsShallow, IsShallowItem}
 use Rattle.pv_chars.proofs.CharFacts.{comment_opens, instruction_opens}
 use Rattle.pv_dtd.proofs.AllBytes.{PassWords, all_in_mixed, mixed_regrouped, inside_element, element_whole}
-use Rattle.pv_dtd.proofs.GroupDepths.{IsLevel, is_mark, how_many-append, level-append, plain_level, plain_space, plain_name, space_level, opened_level}
+use Rattle.pv_dtd.proofs.GroupDepths.{IsLevel, is_mark, how_many-append, level-append, plain_level}
+use Rattle.pv_dtd.proofs.GroupDepths.{plain_space, plain_name, space_level, opened_level}
 use Rattle.pv_dtd.proofs.GroupDepths.{part_level, others_level, group_regrouped, others_regrouped}
 
 -- a front of two texts joined is a front of the first, or the first and a front of the second

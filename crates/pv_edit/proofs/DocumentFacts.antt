@@ -21,13 +21,18 @@ use Rattle.pv_edit.proofs.NodePlaces.{at_node, node_at}
 use Rattle.pv_edit.proofs.DocumentAsElement.{whole, Made, top-kids, can-change}
 use Rattle.pv_edit.proofs.CutParts.{between-kid}
 use Rattle.pv_edit.proofs.EachNode.{EachNode, each-node, elements-below, each-old, each-of-list, each-after}
-use Rattle.pv_edit.proofs.NodeFacts.{Named, Formed, United, Lawful, names-each, each-names, formed-each, each-formed, units-each, each-units, legal-each}
-use Rattle.pv_edit.proofs.NodeFacts.{each-legal, names-stay, formed-stay, units-stay, legal-stay, no-attributes, owner-formed, owner-legal}
-use Rattle.pv_edit.proofs.ListsWithoutCloseMark.{Unbroken, unbroken-stay, close-each, each-close, front-element}
+use Rattle.pv_edit.proofs.NodeFacts.{Named, Formed, United, Lawful, names-each, each-names}
+use Rattle.pv_edit.proofs.NodeFacts.{formed-each, each-formed, units-each, each-units, legal-each}
+use Rattle.pv_edit.proofs.NodeFacts.{each-legal, names-stay, formed-stay, units-stay, legal-stay}
+use Rattle.pv_edit.proofs.NodeFacts.{no-attributes, owner-formed, owner-legal}
+use Rattle.pv_edit.proofs.ListsWithoutCloseMark.{Unbroken, unbroken-stay, close-each, each-close}
+use Rattle.pv_edit.proofs.ListsWithoutCloseMark.{front-element}
 use Rattle.pv_edit.proofs.Sizes.{nodes-after, depth-after}
 use Rattle.pv_edit.proofs.PassedEdits.{element-at, wrap-passes, insert-passes, unwrap-passes, rename-passes}
 use Rattle.pv_edit.proofs.MadeChanges.{wrap-made, insert-made, unwrap-made, rename-made, split-made, join-made, set-made, add-made, del-made}
-use Rattle.pv_edit.proofs.FillingFacts.{Fresh, wrap-fresh, insert-fresh, unwrap-fresh, kids-depth, rename-fresh, named-depth, split-fresh, join-fresh, set-fresh, add-fresh, del-fresh}
+use Rattle.pv_edit.proofs.FillingFacts.{Fresh, wrap-fresh, insert-fresh, unwrap-fresh, kids-depth}
+use Rattle.pv_edit.proofs.FillingFacts.{rename-fresh, named-depth, split-fresh, join-fresh}
+use Rattle.pv_edit.proofs.FillingFacts.{set-fresh, add-fresh, del-fresh}
 
 document-named : is_name (100 ∷ []) ≡ true
 unfolding is_utf8 chars encode

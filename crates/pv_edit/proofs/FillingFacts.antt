@@ -13,7 +13,8 @@ use Rattle.pv_tree.specs.Plain.{Ending, short, tagged, Tree, element, text_node,
 use Rattle.pv_tree.specs.Places.{kids_of}
 use Rattle.pv_edit.specs.Changes.{Change, in_place_of, all_kids, with_name, list_after}
 use Rattle.pv_edit.specs.Effects.{change_of, parent_of, kid_place, next_of, units_at}
-use Rattle.pv_edit.specs.GivenNames.{is_line_end, is_character_data, is_unit, is_new_text, new_units}
+use Rattle.pv_edit.specs.GivenNames.{is_line_end, is_character_data, is_unit, is_new_text}
+use Rattle.pv_edit.specs.GivenNames.{new_units}
 use Rattle.pv_edit.specs.Reasons.{is_top, is_one_element, kids_at, lacks_element, spells_close_mark, reason_of}
 use Rattle.pv_edit.specs.declared.edits.Edit.TheVariants.{Wrap, Insert, Unwrap, Rename, Split, Join, SetText, AddText, DelText}
 use Rattle.pv_edit.proofs.TooDeepChanges.{whole_range}
@@ -21,7 +22,8 @@ use Rattle.pv_edit.proofs.Levels.{forest-trees}
 use Rattle.pv_edit.proofs.CutParts.{between-kid, between-kids}
 use Rattle.pv_edit.proofs.EachNode.{EachNodes}
 use Rattle.pv_edit.proofs.NodeFacts.{Named, Formed, United, Lawful, no-attributes}
-use Rattle.pv_edit.proofs.ListsWithoutCloseMark.{Unbroken, back-none, front-only, element-between, texts-joined}
+use Rattle.pv_edit.proofs.ListsWithoutCloseMark.{Unbroken, back-none, front-only, element-between}
+use Rattle.pv_edit.proofs.ListsWithoutCloseMark.{texts-joined}
 use Rattle.pv_edit.proofs.PassedEdits.{text-at, element-at, next-kid, text-inside, WrapPasses, wrap-passes, insert-passes, UnwrapPasses}
 use Rattle.pv_edit.proofs.PassedEdits.{unwrap-passes, rename-passes, split-passes, join-passes, set-passes, add-passes, del-passes}
 use Rattle.pv_edit.proofs.MadeChanges.{never}

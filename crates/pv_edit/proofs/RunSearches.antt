@@ -18,7 +18,8 @@ use Rattle.pv_edit.proofs.EachNode.{each-node}
 use Rattle.pv_edit.proofs.Levels.{forest-trees}
 use Rattle.pv_edit.proofs.ListPlaces.{ListAt, top, inside, at_list}
 use Rattle.pv_edit.proofs.CloseMarkSearch.{run_searched, searched_on, searched_three}
-use Rattle.pv_edit.proofs.ListsWithoutCloseMark.{Unbroken, close-each, back-none, front-only, front-search}
+use Rattle.pv_edit.proofs.ListsWithoutCloseMark.{Unbroken, close-each, back-none, front-only}
+use Rattle.pv_edit.proofs.ListsWithoutCloseMark.{front-search}
 
 list-unbroken : {M : Type 0} {path : List ℕ} {root : Tree M} {ts : List (Tree M)} →
     ListAt path root ts → is_element root ≡ true → has_no_close_mark root ≡ true →

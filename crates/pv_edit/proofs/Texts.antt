@@ -22,7 +22,9 @@ use Rattle.pv_chars.proofs.MeansLemmas.{text_means_only}
 use Rattle.pv_chars.proofs.CutLemmas.{units_in-joined}
 use Rattle.pv_chars.proofs.NameLemmas.{IsName-is_name}
 use Rattle.pv_chars.proofs.Ranges.{char_is_scalar}
-use Rattle.pv_edit.specs.GivenNames.{is_line_end, is_new_text, new_units, is_some_bytes, is_one_literal, inner_part, are_char_digits, is_char_ref_in, is_unit, is_character_data}
+use Rattle.pv_edit.specs.GivenNames.{is_line_end, is_new_text, new_units, is_some_bytes}
+use Rattle.pv_edit.specs.GivenNames.{is_one_literal, inner_part, are_char_digits, is_char_ref_in}
+use Rattle.pv_edit.specs.GivenNames.{is_unit, is_character_data}
 
 -- ---- one unit
 literal-tested : (u : List ℕ) → IsLiteral u → (is_utf8 u && is_one_literal (chars u)) ≡ true

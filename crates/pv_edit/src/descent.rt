@@ -6,7 +6,8 @@ ghost use Rattle.pv_tree.specs.Places.{kids_of, node_below};
 ghost use Rattle.pv_tree.specs.PlainForms.{plain, plain_all, plain_end};
 ghost use Rattle.pv_edit.specs.Changes.{change_below, ending_after, owner_after, root_after};
 ghost use Rattle.pv_edit.specs.Changes.{with_list};
-ghost use Rattle.pv_edit.specs.FittingChanges.{CanChange, TakesChange, TakesTop, if_made, plain_change};
+ghost use Rattle.pv_edit.specs.FittingChanges.{CanChange, TakesChange, TakesTop, if_made};
+ghost use Rattle.pv_edit.specs.FittingChanges.{plain_change};
 ghost use Rattle.pv_edit.specs.FittingChanges.{with_kids};
 
 use crate::filling::fill;

@@ -4,7 +4,8 @@ use Rattle.pv_tree.specs.declared.nodes.Mark.{Mark}
 use Rattle.pv_read.specs.Left.{Left}
 use Rattle.pv_read.specs.declared.prolog.RootTag.{RootTag}
 use Rattle.pv_flat.specs.Plain.{PlainEvent, begin_element, end_element}
-use Rattle.pv_flat.specs.ComingEvents.{EventsCome, ComesInside, TextEnd, IsIn, IsOpening, RestComes, open_names}
+use Rattle.pv_flat.specs.ComingEvents.{EventsCome, ComesInside, TextEnd, IsIn, IsOpening, RestComes}
+use Rattle.pv_flat.specs.ComingEvents.{open_names}
 use Rattle.pv_flat.specs.declared.state.Events.{Events}
 use Rattle.pv_flat.specs.declared.state.Stage.TheVariants as stage
 use Rattle.pv_flat.proofs.Openings.{before-is, behind-short, behind-start}

@@ -13,7 +13,8 @@ use Rattle.pv_read.specs.declared.errors.DocError.{DocError}
 use Rattle.pv_read.specs.declared.prolog.RootTag.{RootTag}
 use Rattle.pv_read.proofs.PartsOfDocuments.{refused_front}
 use Rattle.pv_flat.specs.Plain.{PlainEvent, begin_element, end_element}
-use Rattle.pv_flat.specs.ComingEvents.{TextEnd, IsIn, IsOpening, MAX_FLAT_BYTES, RestComes, TextComes, ends_with, flat_limits, refused_as}
+use Rattle.pv_flat.specs.ComingEvents.{TextEnd, IsIn, IsOpening, MAX_FLAT_BYTES, RestComes}
+use Rattle.pv_flat.specs.ComingEvents.{TextComes, ends_with, flat_limits, refused_as}
 
 starts : (bytes mark rest : List ℕ) → TakesByteOrderMark bytes mark rest → bytes ≡ mark ++ rest
 starts bytes mark rest (marked e) = e

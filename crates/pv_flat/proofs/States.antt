@@ -16,7 +16,9 @@ use Rattle.pv_read.specs.declared.errors.DocError.{DocError}
 use Rattle.pv_read.specs.declared.errors.DocError.TheVariants.{Deep, DoctypeName, Entity, Limit, Mismatch, NoMemory, Subset, Syntax}
 use Rattle.pv_read.specs.declared.forms.items.Item.{Item as SpannedItem}
 use Rattle.pv_flat.specs.Plain.{PlainEvent}
-use Rattle.pv_flat.specs.ComingEvents.{AdvancesBy, EventsCome, ComesAt, ComesInside, TextEnd, IsIn, IsInnermost, RestComes, SameState, TakesInside, open_names, refused_as}
+use Rattle.pv_flat.specs.ComingEvents.{AdvancesBy, EventsCome, ComesAt, ComesInside, TextEnd, IsIn}
+use Rattle.pv_flat.specs.ComingEvents.{IsInnermost, RestComes, SameState, TakesInside, open_names}
+use Rattle.pv_flat.specs.ComingEvents.{refused_as}
 use Rattle.pv_flat.specs.declared.state.Events.{Events}
 use Rattle.pv_flat.specs.declared.state.Stage.{Stage}
 use Rattle.pv_flat.specs.declared.state.Stage.TheVariants as stage

@@ -1,5 +1,6 @@
 -- The first of some lists that isn't so, where one more stands between them.
-use Rattle.std.proofs.Common.{◌≡◌, ℕ, List, [], ◌∷◌, ◌++◌, Bool, true, false, Option, Some, None, refl, sym, ◌∙◌, subst}
+use Rattle.std.proofs.Common.{◌≡◌, ℕ, List, [], ◌∷◌, ◌++◌, Bool, true, false, Option, Some, None}
+use Rattle.std.proofs.Common.{refl, sym, ◌∙◌, subst}
 use Rattle.std.specs.List.{AllByRecursion}
 use Rattle.pv_tree.specs.Lists.{Listed, IsFirstNot}
 use Rattle.pv_tree.specs.declared.nodes.Mark.{Mark}

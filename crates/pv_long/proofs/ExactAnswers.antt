@@ -1,5 +1,6 @@
 -- What is told of a document is so.
-use Rattle.std.proofs.Common.{Err, IfErr, List, Ok, Result, [], arith, length, lit≤, max, refl, sym, ℕ, ◌∙◌, ◌∷◌, ◌<◌, ◌≡◌, ◌≤◌}
+use Rattle.std.proofs.Common.{Err, IfErr, List, Ok, Result, [], arith, length, lit≤, max, refl, sym}
+use Rattle.std.proofs.Common.{ℕ, ◌∙◌, ◌∷◌, ◌<◌, ◌≡◌, ◌≤◌}
 use Rattle.pv_dtd.specs.Hedge.{IsValid, elements}
 use Rattle.pv_dtd.specs.Plain.{PlainDtd}
 use Rattle.pv_dtd.specs.Proper.{IsProperDtd}
@@ -23,7 +24,9 @@ use Rattle.pv_fresh.specs.Answers.{HasPossibility}
 use Rattle.pv_compare.specs.Kept.{IsBodyText, KeepsDocument}
 use Rattle.pv_long.specs.AddedBounds.{AreBounded}
 use Rattle.pv_long.specs.NewTags.{IsWrittenWithTags}
-use Rattle.pv_long.specs.BoundAnswers.{AreMissing, IsCompletion, IsCompletionText, IsExact, IsOwnText, IsWithinBounds, OneLeast, SaysHeavy, SaysNothing, TellsNone}
+use Rattle.pv_long.specs.BoundAnswers.{AreMissing, IsCompletion, IsCompletionText, IsExact}
+use Rattle.pv_long.specs.BoundAnswers.{IsOwnText, IsWithinBounds, OneLeast, SaysHeavy, SaysNothing}
+use Rattle.pv_long.specs.BoundAnswers.{TellsNone}
 use Rattle.pv_long.specs.declared.answers.Completion.{Completion}
 use Rattle.pv_long.specs.declared.answers.Missing.{Missing}
 use Rattle.pv_long.specs.declared.errors.LongError.{LongError}

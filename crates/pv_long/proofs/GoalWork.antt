@@ -1,5 +1,6 @@
 -- How much work goals may be.
-use Rattle.std.proofs.Common.{List, [], arith, refl, suc, zero, ℕ, ◌*◌, ◌++◌, ◌+◌, ◌<◌, ◌∷◌, ◌≡◌, ◌≤◌}
+use Rattle.std.proofs.Common.{List, [], arith, refl, suc, zero, ℕ, ◌*◌, ◌++◌, ◌+◌, ◌<◌, ◌∷◌, ◌≡◌}
+use Rattle.std.proofs.Common.{◌≤◌}
 use Rattle.pv_long.specs.Goals.{work_in, work_of}
 use Rattle.pv_long.specs.declared.making.building.Goal.{Goal}
 

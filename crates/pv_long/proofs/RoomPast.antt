@@ -1,5 +1,6 @@
 -- How far fronts may still go.
-use Rattle.std.proofs.Common.{List, [], arith, get_or, length, set, suc, zero, ℕ, ◌<◌, ◌≡◌, ◌^◌, ◌∷◌, ◌≤◌}
+use Rattle.std.proofs.Common.{List, [], arith, get_or, length, set, suc, zero, ℕ, ◌<◌, ◌≡◌, ◌^◌}
+use Rattle.std.proofs.Common.{◌∷◌, ◌≤◌}
 use Rattle.pv_long.specs.Ends.{room_past}
 
 -- less far, where one of them goes further

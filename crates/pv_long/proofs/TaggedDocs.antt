@@ -1,5 +1,7 @@
 -- The text of a document with tags of new elements, whose names the DTD has.
-use Rattle.std.proofs.Common.{Bool, Global, List, Vec, [], ap, append-nil, append_assoc, codes, drop, false, get_or, length, refl, subst, sym, true, ℕ, ◌++◌, ◌+◌, ◌<◌, ◌≤◌, ◌∙◌, ◌∷◌, ◌≡◌, ◌≢◌, IsTrue}
+use Rattle.std.proofs.Common.{Bool, Global, List, Vec, [], ap, append-nil, append_assoc, codes}
+use Rattle.std.proofs.Common.{drop, false, get_or, length, refl, subst, sym, true, ℕ, ◌++◌, ◌+◌}
+use Rattle.std.proofs.Common.{◌<◌, ◌≤◌, ◌∙◌, ◌∷◌, ◌≡◌, ◌≢◌, IsTrue}
 use Rattle.std.proofs.lemmas.Bool.{and_from, and_parts}
 use Rattle.std.proofs.lemmas.List.{drop_all, drop_more}
 use Rattle.std.proofs.lemmas.Option.{slice_get-get_or}
@@ -10,12 +12,15 @@ use Rattle.pv_tree.specs.Plain.{Ending, Forest, PlainDoc, element, no_trees, sho
 use Rattle.pv_tree.specs.declared.nodes.Mark.{Mark}
 use Rattle.pv_write.specs.Events.{Event, events_text, old_bytes}
 use Rattle.pv_write.specs.PieceForms.{plain_lists, plain_piece, plain_pieces}
-use Rattle.pv_write.specs.Pieces.{AwaitsNode, PlainPiece, TakesNext, after_node, is_token, others_of}
-use Rattle.pv_write.specs.TaggedTexts.{PutsIn, IsTaggedText, put_bare, put_end, put_finish, put_leaf, put_start, put_tags, gap_of}
+use Rattle.pv_write.specs.Pieces.{AwaitsNode, PlainPiece, TakesNext, after_node, is_token}
+use Rattle.pv_write.specs.Pieces.{others_of}
+use Rattle.pv_write.specs.TaggedTexts.{PutsIn, IsTaggedText, put_bare, put_end, put_finish}
+use Rattle.pv_write.specs.TaggedTexts.{put_leaf, put_start, put_tags, gap_of}
 use Rattle.pv_write.specs.Text.{tree_text}
 use Rattle.pv_write.specs.declared.pieces.Piece.{Piece}
 use Rattle.pv_write.proofs.EventLists.{events-join}
-use Rattle.pv_long.specs.NewTags.{HasNamesOf, HasNewTags, HasNameOf, IsWrittenWithTags, new_end, new_start, no_more, same_tags, same_text}
+use Rattle.pv_long.specs.NewTags.{HasNamesOf, HasNewTags, HasNameOf, IsWrittenWithTags, new_end}
+use Rattle.pv_long.specs.NewTags.{new_start, no_more, same_tags, same_text}
 
 -- ---- names of tags
 module _ (g : PlainDtd) where

@@ -90,8 +90,8 @@ pub record IsTooHeavy {M : Type 0} (g : PlainDtd) (root : List ℕ) (doc : Plain
   pub may : MayBeCompleted g root doc
   pub heavy : AreMissing g root doc heaviest
 
--- Why nothing is told. That too many elements are missing, a limit, and a check that isn't passed come
--- only where none of the other causes does; want of memory says nothing of the document.
+-- Why nothing is told. That too many elements are missing, a limit, and a check that isn't passed
+-- come only where none of the other causes does; want of memory says nothing of the document.
 abbrev pub TellsNone : {M : Type 0} → PlainDtd → List ℕ → PlainDoc M → LongError → Type 0
 TellsNone g root doc (Impossible path) = IsImpossibleAt root g doc path
 TellsNone g root doc (TooWide path) = IsFirstTooWide g (lists_of doc) path

@@ -32,8 +32,8 @@ use pv_write::Piece;
 use std::alloc::Global;
 
 /// What is found of the lists so far: how many there were, a number that their bounds add up to at
-/// least, whether one of them lacks more than 1,000,000 elements by its bound, and the pieces of each,
-/// none where it isn't Possible or lacks so many.
+/// least, whether one of them lacks more than 1,000,000 elements by its bound, and the pieces of
+/// each, none where it isn't Possible or lacks so many.
 #[derive(Drop)]
 pub struct Found {
     used: u64,

@@ -23,8 +23,8 @@ pub enum LongError {
     /// document more than a gibibyte. The document can be made valid.
     #[error("the document passes a limit")]
     TooMany,
-    /// The lists lack more than 1,000,000 elements, one of them alone so many. The document can be made
-    /// valid.
+    /// The lists lack more than 1,000,000 elements, one of them alone so many. The document can be
+    /// made valid.
     #[error("more than 1,000,000 elements are missing")]
     TooHeavy,
     /// What was made isn't the text of a completion, though there is one. No document is known of

@@ -11,7 +11,8 @@ ghost use Rattle.pv_read.specs.Meaning.{DocumentMeans, is_document};
 ghost use Rattle.pv_missing.specs.Verdicts.{possible_in};
 ghost use Rattle.pv_fresh.specs.Answers.{HasPossibility};
 ghost use Rattle.pv_long.specs.NewTags.{IsWrittenWithTags};
-ghost use Rattle.pv_long.specs.BoundAnswers.{AreMissing, IsCompletion, IsMissing, IsOwnText, SaysHeavy};
+ghost use Rattle.pv_long.specs.BoundAnswers.{AreMissing, IsCompletion, IsMissing, IsOwnText};
+ghost use Rattle.pv_long.specs.BoundAnswers.{SaysHeavy};
 ghost use Rattle.pv_long.specs.BoundAnswers.{TellsNone};
 
 use crate::answers::{Completion, Missing};

@@ -5,7 +5,8 @@ use Rattle.std.specs.List.{AllByRecursion}
 use Rattle.pv_dtd.specs.Plain.{PlainDtd}
 use Rattle.pv_opening.specs.Course.{RunEnding, no_memory, without_input}
 use Rattle.pv_opening.specs.Devices.{InputNow, OutputNow, ShelfNow}
-use Rattle.pv_opening.specs.ShownCourses.{AskedAtMost, CountsInput, CountsShelf, WritesEnding, wrote}
+use Rattle.pv_opening.specs.ShownCourses.{AskedAtMost, CountsInput, CountsShelf, WritesEnding}
+use Rattle.pv_opening.specs.ShownCourses.{wrote}
 use Rattle.pv_opening.specs.declared.status.Status.{Status}
 use Rattle.pv_opening.specs.declared.status.Status.TheVariants.{NoMemory}
 use Rattle.pv_io.proofs.Streams.{appends_none}

@@ -1,5 +1,6 @@
 -- Answers, one after another.
-use Rattle.std.proofs.Common.{◌≡◌, inl, inr, ℕ, ◌+◌, List, [], ◌∷◌, ◌++◌, Option, Result, Ok, Err, Vec, Global, refl, sym, ap, ◌∙◌, subst}
+use Rattle.std.proofs.Common.{◌≡◌, inl, inr, ℕ, ◌+◌, List, [], ◌∷◌, ◌++◌, Option, Result, Ok, Err}
+use Rattle.std.proofs.Common.{Vec, Global, refl, sym, ap, ◌∙◌, subst}
 use Rattle.std.proofs.Common.{append_assoc, arith}
 use Rattle.std.proofs.lemmas.List.{append-nil, map-append}
 use Rattle.std.specs.List.{AllByRecursion}
@@ -17,7 +18,8 @@ use Rattle.pv_opening.specs.declared.stop.Stop.{Stop}
 use Rattle.pv_opening.specs.declared.stop.Stop.TheVariants.{Refused, ShelfFault, NoMemory}
 use Rattle.pv_opening.proofs.Stages.{behind_second, finds_goes, finds_stays, stays_from, stop_counts, stop_ends, stopped_first}
 use Rattle.pv_many.specs.Answers.{NamedAnswer, AnswersName, AnswersNames, Does, FindsDocumentAnswer, IsDocumentAnswer, IsAnswerFor, IsCommandAnswer}
-use Rattle.pv_many.specs.Answers.{ShowsAnswers, answer_text, answers_text, document_file_stage, names_answered}
+use Rattle.pv_many.specs.Answers.{ShowsAnswers, answer_text, answers_text, document_file_stage}
+use Rattle.pv_many.specs.Answers.{names_answered}
 use Rattle.pv_many.specs.declared.requests.Question.{Question}
 use Rattle.pv_many.proofs.NamesRead.{all_as, all_both}
 

@@ -1,5 +1,6 @@
 -- Names that are answered, piece by piece of the input.
-use Rattle.std.proofs.Common.{◌≡◌, ◌≢◌, ℕ, ◌+◌, ◌-◌, ◌<◌, ◌≤◌, Bool, true, false, List, [], ◌∷◌, ◌++◌, codes, length, get_or, take, drop, nat_eq, Option, Ok, refl}
+use Rattle.std.proofs.Common.{◌≡◌, ◌≢◌, ℕ, ◌+◌, ◌-◌, ◌<◌, ◌≤◌, Bool, true, false, List, [], ◌∷◌}
+use Rattle.std.proofs.Common.{◌++◌, codes, length, get_or, take, drop, nat_eq, Option, Ok, refl}
 use Rattle.std.proofs.Common.{sym, ap, ◌∙◌, subst, append_assoc, arith}
 use Rattle.std.proofs.lemmas.List.{append-nil, length-append, take-append-drop, take_more}
 use Rattle.std.specs.Io.KnownBytes.{Appends, Consumes}
@@ -12,7 +13,8 @@ use Rattle.pv_opening.specs.ShownCourses.{AskedAtMost, CountsInput, CountsShelf,
 use Rattle.pv_opening.specs.declared.status.Status.{Status}
 use Rattle.pv_opening.specs.declared.status.Status.TheVariants.{Done, Limit, NoMemory}
 use Rattle.pv_many.specs.Answers.{NamedAnswer, AnswersName, AnswersNames, answers_text, names_answered}
-use Rattle.pv_many.specs.Many.{AnswersOver, AnswersThese, EndsAfter, AnswersPiece, StopsWithin, answered_all, input_failed, output_failed, too_many}
+use Rattle.pv_many.specs.Many.{AnswersOver, AnswersThese, EndsAfter, AnswersPiece, StopsWithin}
+use Rattle.pv_many.specs.Many.{answered_all, input_failed, output_failed, too_many}
 use Rattle.pv_many.specs.Many.{max_names_bytes, without_memory}
 use Rattle.pv_many.specs.Names.{AreNames, HasNoNul, StandInOrder, last_name}
 use Rattle.pv_many.specs.declared.requests.Question.{Question}

@@ -1,5 +1,6 @@
 -- Requests of three words, and words that are none.
-use Rattle.std.proofs.Common.{◌≡◌, ℕ, ◌<◌, ◌≤◌, List, [], ◌∷◌, length, get_or, Option, None, option_map, true, false, refl, arith}
+use Rattle.std.proofs.Common.{◌≡◌, ℕ, ◌<◌, ◌≤◌, List, [], ◌∷◌, length, get_or, Option, None}
+use Rattle.std.proofs.Common.{option_map, true, false, refl, arith}
 use Rattle.pv_chars.specs.Names.{is_name}
 use Rattle.pv_many.specs.Requests.{asked_question, request, asked_request}
 use Rattle.pv_many.specs.declared.requests.Question.{Question}

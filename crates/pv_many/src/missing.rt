@@ -37,7 +37,8 @@ use std::marker::Model;
 use std::sync::ledger::Ledger;
 use std::thread::Threads;
 
-// Why the number isn't told of a document of which no list is impossible, or too wide for a verdict.
+// Why the number isn't told of a document of which no list is impossible, or too wide for a
+// verdict.
 fn withhold(alloc: Global, error: NeedError) -> Stop
     ensures { (root : List ℕ) (g : PlainDtd) (doc : PlainDoc Mark) → AreAllNarrow g doc →
         AllByRecursion (IsLive g root) (lists_of doc) → HasCause g root doc error →

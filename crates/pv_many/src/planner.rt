@@ -80,8 +80,8 @@ impl Planner {
         Ok(())
     }
 
-    /// Whether a text is seen to be a valid document, which needs no plan. Where it isn't, the rules
-    /// are laid out, once; after that no text is read here.
+    /// Whether a text is seen to be a valid document, which needs no plan. Where it isn't, the
+    /// rules are laid out, once; after that no text is read here.
     pub fn find_valid(&mut self, root: &[u8], bytes: &[u8]) -> Result<bool, DocError>
         ensures valid { IfOk result (λ valid. IsTrue valid →
             IsValidText (dtd_of self.old) root.now bytes.now) }

@@ -5,7 +5,8 @@ use Rattle.pv_model.specs.Plain.{PlainPart, PlainParts, PlainToken, any, childre
 use Rattle.pv_model.specs.Models.{IsOfAny, IsOfMixed, Matches, MatchesAll, MatchesSome, Rounds, no_round, round}
 use Rattle.pv_dtd.specs.Plain.{PlainDtd, declared, model_of}
 use Rattle.pv_missing.specs.LiveWords.{AreProductiveTokens, IsProductiveToken}
-use Rattle.pv_missing.specs.Covers.{Covers, IsPossibleWith, cover_kept, cover_new, cover_none, cover_text}
+use Rattle.pv_missing.specs.Covers.{Covers, IsPossibleWith, cover_kept, cover_new, cover_none}
+use Rattle.pv_missing.specs.Covers.{cover_text}
 use Rattle.pv_missing.proofs.Depth.{covers-join}
 use Rattle.pv_missing.proofs.CoverWeights.{map_join}
 use Rattle.pv_missing.proofs.WordDerivations.{IsMember, Symbol, in_front, behind, of_content, of_name, of_part, of_rest, DerivesWord, word_any_name}

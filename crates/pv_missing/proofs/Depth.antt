@@ -3,7 +3,8 @@ use Rattle.std.proofs.Common.{List, Some, [], ap, append-nil, append_assoc, arit
 use Rattle.pv_model.specs.Plain.{PlainModel, PlainToken, named, other, text}
 use Rattle.pv_model.specs.Models.{Allows}
 use Rattle.pv_dtd.specs.Plain.{PlainDtd, declared, model_of}
-use Rattle.pv_missing.specs.Covers.{Covers, IsPossibleWith, cover_kept, cover_new, cover_none, cover_text}
+use Rattle.pv_missing.specs.Covers.{Covers, IsPossibleWith, cover_kept, cover_new, cover_none}
+use Rattle.pv_missing.specs.Covers.{cover_text}
 use Rattle.pv_missing.specs.FilledWords.{Fills, Pieces, StandsFor}
 use Rattle.pv_dtd.specs.Productive.{IsProductive}
 

@@ -2,7 +2,8 @@
 use Rattle.std.proofs.Common.{List, Some, [], ap, arith, refl, suc, ℕ, ◌+◌, ◌∙◌, ◌≡◌}
 use Rattle.pv_dtd.specs.Plain.{PlainDtd, number_of}
 use Rattle.pv_dtd.specs.Hedge.{AreGood, Fits, Hedge, Leaf, elem, elements, leaf}
-use Rattle.pv_missing.specs.Extensions.{Extends, both_done, join, new_element, same_element, same_leaf}
+use Rattle.pv_missing.specs.Extensions.{Extends, both_done, join, new_element, same_element}
+use Rattle.pv_missing.specs.Extensions.{same_leaf}
 use Rattle.pv_dtd.specs.Productive.{IsProductiveName}
 use Rattle.pv_missing.specs.DocumentLaws.{LevelsAgree}
 use Rattle.pv_missing.specs.Levels.{Inserts, IsCompleted, IsGoodExtension, insert_done, insert_kept, insert_leaf, insert_new}

@@ -4,7 +4,8 @@ use Rattle.pv_dtd.specs.Hedge.{Hedge, done, elem, elements, leaf}
 use Rattle.pv_tree.specs.View.{view}
 use Rattle.pv_missing.specs.Completions.{LeavesOut}
 use Rattle.pv_missing.specs.DocumentLaws.{CompletionsInsert, ExtensionsComplete, KeepsLeaves}
-use Rattle.pv_missing.specs.Extensions.{both_done, join, leaves_of, new_element, same_element, same_leaf}
+use Rattle.pv_missing.specs.Extensions.{both_done, join, leaves_of, new_element, same_element}
+use Rattle.pv_missing.specs.Extensions.{same_leaf}
 use Rattle.pv_missing.proofs.Tags.{has_tags, tags_extend}
 
 leaves-join : (a b : Hedge) → leaves_of (join a b) ≡ leaves_of a ++ leaves_of b

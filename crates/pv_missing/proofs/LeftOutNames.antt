@@ -4,7 +4,8 @@ use Rattle.pv_model.specs.Plain.{PlainModel, PlainToken, named, other, text}
 use Rattle.pv_model.specs.Models.{Allows}
 use Rattle.pv_dtd.specs.Plain.{PlainDtd, declared, model_of, spelling_of}
 use Rattle.pv_dtd.specs.Hedge.{AreGood, Hedge, cdata, data_unit, done, elem, elements, leaf, misc, white, word}
-use Rattle.pv_missing.specs.Covers.{Covers, IsPossibleWith, cover_kept, cover_new, cover_none, cover_text}
+use Rattle.pv_missing.specs.Covers.{Covers, IsPossibleWith, cover_kept, cover_new, cover_none}
+use Rattle.pv_missing.specs.Covers.{cover_text}
 use Rattle.pv_dtd.specs.Proper.{IsProperDtd}
 use Rattle.pv_dtd.specs.Productive.{IsProductive}
 use Rattle.pv_missing.proofs.CoversToInsertions.{allows-empty}

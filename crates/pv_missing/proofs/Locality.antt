@@ -5,7 +5,8 @@ use Rattle.pv_dtd.specs.Plain.{PlainDtd, number_of}
 use Rattle.pv_dtd.specs.Hedge.{AreGood, Fits, Hedge, IsValid, done, elem, leaf, token, word}
 use Rattle.pv_missing.specs.Completions.{HasCompletion}
 use Rattle.pv_dtd.specs.Proper.{IsProperDtd}
-use Rattle.pv_missing.specs.Extensions.{Extends, both_done, join, new_element, same_element, same_leaf}
+use Rattle.pv_missing.specs.Extensions.{Extends, both_done, join, new_element, same_element}
+use Rattle.pv_missing.specs.Extensions.{same_leaf}
 use Rattle.pv_missing.specs.Levels.{IsCompleted, IsGoodExtension}
 use Rattle.pv_missing.proofs.InsertionLevels.{GrowsBy, IsCompleted-productive, ext_grows, grows_ext}
 use Rattle.pv_missing.proofs.KeptElements.{CanKeep}

@@ -4,9 +4,11 @@ use Rattle.std.specs.List.{AllByRecursion}
 use Rattle.pv_model.specs.Plain.{PlainModel, PlainToken, empty, named, other, text}
 use Rattle.pv_dtd.specs.Plain.{PlainDtd, model_of}
 use Rattle.pv_dtd.specs.Hedge.{Hedge, cdata, data_unit, done, elem, elements, leaf, misc, white, word}
-use Rattle.pv_missing.specs.Covers.{Covers, IsPossibleWith, cover_kept, cover_new, cover_none, cover_text}
+use Rattle.pv_missing.specs.Covers.{Covers, IsPossibleWith, cover_kept, cover_new, cover_none}
+use Rattle.pv_missing.specs.Covers.{cover_text}
 use Rattle.pv_dtd.specs.Proper.{IsProperDtd}
-use Rattle.pv_missing.specs.Extensions.{Extends, both_done, join, new_element, same_element, same_leaf}
+use Rattle.pv_missing.specs.Extensions.{Extends, both_done, join, new_element, same_element}
+use Rattle.pv_missing.specs.Extensions.{same_leaf}
 use Rattle.pv_missing.specs.ListLaws.{HereExtends, OneList, RootList}
 use Rattle.pv_missing.specs.LiveWords.{AreProductiveTokens, IsLiveWord, live_name, live_none, live_other, live_text, live_unproductive}
 use Rattle.pv_dtd.specs.Productive.{AreProductive, IsProductive, IsProductiveName}

@@ -6,7 +6,8 @@ use Rattle.pv_missing.specs.Covers.{Covers, IsPossibleWith}
 use Rattle.pv_missing.specs.FilledWords.{Pieces, StandsFor}
 use Rattle.pv_missing.specs.WordLaws.{DepthsAgree, Doubled, LeftOut, OwnerIsProductive}
 use Rattle.pv_missing.proofs.Depth.{Deep, cover_deep, fills_possible, possible_fills, stands_for_covers}
-use Rattle.pv_missing.proofs.LeftOutNames.{Lessened, Texts_refl, lessen, possible_part, possible_productive}
+use Rattle.pv_missing.proofs.LeftOutNames.{Lessened, Texts_refl, lessen, possible_part}
+use Rattle.pv_missing.proofs.LeftOutNames.{possible_productive}
 use Rattle.pv_missing.proofs.Repeats.{Omits, Texts, omit_drop, omit_keep, omit_none, texts_again, texts_drop, texts_keep}
 use Rattle.pv_missing.proofs.Texts.{Retexted, no_texts, possible_texts, retext}
 

@@ -4,7 +4,8 @@ use Rattle.pv_model.specs.Plain.{PlainModel, PlainToken, named}
 use Rattle.pv_model.specs.Models.{Allows}
 use Rattle.pv_dtd.specs.Plain.{PlainDtd, declared, model_of, spelling_of}
 use Rattle.pv_dtd.specs.Hedge.{AreGood, Fits, Hedge, done, elem, elements, word}
-use Rattle.pv_missing.specs.Covers.{Covers, IsLeastInNothing, IsPossibleWith, cover_kept, cover_new, cover_none, cover_text}
+use Rattle.pv_missing.specs.Covers.{Covers, IsLeastInNothing, IsPossibleWith, cover_kept, cover_new}
+use Rattle.pv_missing.specs.Covers.{cover_none, cover_text}
 use Rattle.pv_dtd.specs.Proper.{IsProperDtd}
 use Rattle.pv_dtd.specs.Productive.{IsLeastSize}
 use Rattle.pv_missing.specs.WordLaws.{SizeIsMissing}

@@ -6,7 +6,8 @@ use Rattle.pv_tree.specs.Lists.{Listed, lists_of}
 use Rattle.pv_tree.specs.PathOrder.{IsListBefore, IsPathBefore}
 use Rattle.pv_tree.proofs.PathOrder.{before_itself, before_once, lists_ascend}
 use Rattle.pv_missing.specs.DocumentLaws.{SomeBounds}
-use Rattle.pv_missing.specs.ListWeights.{AscendBounds, BoundAt, BoundInAll, IsBound, IsBoundAt, sum_of_bounds}
+use Rattle.pv_missing.specs.ListWeights.{AscendBounds, BoundAt, BoundInAll, IsBound, IsBoundAt}
+use Rattle.pv_missing.specs.ListWeights.{sum_of_bounds}
 use Rattle.pv_missing.proofs.Weights.{bounds_add_up}
 
 abbrev IsBefore : BoundAt → BoundAt → Type 0

@@ -4,7 +4,8 @@ use Rattle.std.specs.List.{AllByRecursion}
 use Rattle.pv_model.specs.Plain.{PlainModel, PlainToken, any, children, empty, mixed, named, text}
 use Rattle.pv_model.specs.Models.{Allows, IsOfAny, IsOfMixed}
 use Rattle.pv_dtd.specs.Plain.{PlainDtd, declared, model_of}
-use Rattle.pv_missing.specs.Covers.{Covers, IsPossibleWith, cover_kept, cover_new, cover_none, cover_text}
+use Rattle.pv_missing.specs.Covers.{Covers, IsPossibleWith, cover_kept, cover_new, cover_none}
+use Rattle.pv_missing.specs.Covers.{cover_text}
 use Rattle.pv_dtd.specs.Productive.{IsProductive}
 use Rattle.pv_missing.proofs.Repeats.{Texts, texts_again, texts_drop, texts_keep, texts_none}
 

@@ -4,7 +4,8 @@ use Rattle.std.proofs.lemmas.List.{length-take-le}
 use Rattle.pv_model.specs.Plain.{PlainPart, name, seq, choice, opt, star, plus, PlainParts, no_parts, part}
 use Rattle.pv_model.specs.Models.{Rounds, no_round, round, Matches, MatchesAll, MatchesSome}
 use Rattle.pv_model.specs.PlainForms.{plain_part, plain_parts}
-use Rattle.pv_model.specs.Layouts.{PlainLayout, in_order, either, optional, repeated, HasWord, has_empty_word, places_of}
+use Rattle.pv_model.specs.Layouts.{PlainLayout, in_order, either, optional, repeated, HasWord}
+use Rattle.pv_model.specs.Layouts.{has_empty_word, places_of}
 use Rattle.pv_model.specs.LaidOut.{listed, IsLaidOut}
 use Rattle.pv_model.specs.declared.models.Part.{Part}
 use Rattle.pv_model.specs.declared.places.Places.{Places}

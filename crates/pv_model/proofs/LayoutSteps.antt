@@ -1,7 +1,8 @@
 -- One more name, in each form of a laid-out particle.
 use Rattle.std.proofs.Common.{◌≡◌, ℕ, Bool, true, false, not, ◌&&◌, ◌||◌, ◌==◌, List, [], ◌∷◌, ◌++◌, length, IsTrue, refl, sym, ap, ◌∙◌, subst, arith, append_assoc, eqb-true, if◌then◌else◌}
 use Rattle.std.proofs.Common.{Err, IfOk, Ok, OnOk, Result}
-use Rattle.pv_model.specs.Layouts.{PlainLayout, one, in_order, either, optional, repeated, places_of, ends, reached, Advances, AdvancesFrom, IsSplit}
+use Rattle.pv_model.specs.Layouts.{PlainLayout, one, in_order, either, optional, repeated}
+use Rattle.pv_model.specs.Layouts.{places_of, ends, reached, Advances, AdvancesFrom, IsSplit}
 use Rattle.pv_model.proofs.LayoutPlaces.{Advances-nothing, reached-before, reached-from, places_of-before, places_of-from, AreFrom-place}
 
 -- some list isn't empty

@@ -8,7 +8,8 @@ use Rattle.pv_model.specs.Positions.{is_end_after_in_order, is_end_after_of_some
 use Rattle.pv_model.specs.Positions.{any_reached, overwrite}
 use Rattle.pv_model.specs.Moves.{Moves}
 use Rattle.pv_model.specs.declared.positions.Moved.{Moved}
-use Rattle.pv_model.proofs.WrittenPositions.{length-positions_after, drop-overwrite, overwrite-overwrite, overwrite_first}
+use Rattle.pv_model.proofs.WrittenPositions.{length-positions_after, drop-overwrite}
+use Rattle.pv_model.proofs.WrittenPositions.{overwrite-overwrite, overwrite_first}
 
 or-swap : (a b c : Bool) → (a || (b || c)) ≡ ((a || c) || b)
 or-swap true b c = refl

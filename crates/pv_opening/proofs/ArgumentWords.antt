@@ -1,5 +1,6 @@
 -- The words of a command line.
-use Rattle.std.proofs.Common.{◌≡◌, ◌<◌, ◌≤◌, List, [], ◌∷◌, length, get_or, String, Global, refl, arith}
+use Rattle.std.proofs.Common.{◌≡◌, ◌<◌, ◌≤◌, List, [], ◌∷◌, length, get_or, String, Global, refl}
+use Rattle.std.proofs.Common.{arith}
 use Rattle.pv_io.specs.Files.{byte_lists}
 
 pub length-byte_lists : (words : List (String Global)) → length (byte_lists words) ≡ length words

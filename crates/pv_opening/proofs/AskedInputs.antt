@@ -1,5 +1,6 @@
 -- How often an input is asked, and what is written over a count that stayed.
-use Rattle.std.proofs.Common.{◌≢◌, ◌≤◌, ◌<◌, ◌+◌, ℕ, zero, suc, List, ◌++◌, length, Option, Result, Ok, Err, refl, subst, arith}
+use Rattle.std.proofs.Common.{◌≢◌, ◌≤◌, ◌<◌, ◌+◌, ℕ, zero, suc, List, ◌++◌, length, Option, Result}
+use Rattle.std.proofs.Common.{Ok, Err, refl, subst, arith}
 use Rattle.std.proofs.lemmas.List.{length-append}
 use Rattle.pv_io.specs.Causes.{Asked, CountStays, MadeCalls, WasAsked, empty_in}
 use Rattle.pv_io.specs.declared.source.Failed.{Failed}

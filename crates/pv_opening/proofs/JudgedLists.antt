@@ -1,7 +1,9 @@
 -- Counts of the lists that are judged after a stage, and after another before it.
 use Rattle.std.proofs.Common.{◌≡◌, inl, inr, ℕ, ◌+◌, Result, Ok, Err, refl, subst}
 use Rattle.pv_opening.specs.Course.{RunEnding}
-use Rattle.pv_opening.specs.JudgedCounts.{CountsJudged, CountsNoMore, CountsOpening, EndsWithin, at_fault, at_refusal, judges_all, judges_none, without_memory}
+use Rattle.pv_opening.specs.JudgedCounts.{CountsJudged, CountsNoMore, CountsOpening, EndsWithin}
+use Rattle.pv_opening.specs.JudgedCounts.{at_fault, at_refusal, judges_all, judges_none}
+use Rattle.pv_opening.specs.JudgedCounts.{without_memory}
 use Rattle.pv_opening.specs.Response.{plain_response}
 use Rattle.pv_opening.specs.Returns.{StopsBy, ending_of}
 use Rattle.pv_opening.specs.Stage.{Stage, beside, followed_by}

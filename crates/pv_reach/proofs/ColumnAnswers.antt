@@ -1,5 +1,6 @@
 -- The answer for a word of productive names, by whether its owner's column reaches the end.
-use Rattle.std.proofs.Common.{Bool, IsTrue, List, [], arith, inl, inr, length, map, ℕ, ◌∷◌, ◌↔◌, ◌≡◌}
+use Rattle.std.proofs.Common.{Bool, IsTrue, List, [], arith, inl, inr, length, map, ℕ, ◌∷◌, ◌↔◌}
+use Rattle.std.proofs.Common.{◌≡◌}
 use Rattle.pv_model.specs.Plain.{named}
 use Rattle.pv_model.specs.PlainForms.{plain_token}
 use Rattle.pv_model.specs.declared.models.Token.{Token}

@@ -10,7 +10,8 @@ use Rattle.pv_rules.specs.Numbering.{first_part}
 use Rattle.pv_rules.specs.declared.flat.ContentKind.TheVariants as content
 use Rattle.pv_rules.specs.declared.flat.FlatContent.{FlatContent}
 use Rattle.pv_rules.proofs.FlatContents.{any_kind, children_kind, content_at, empty_kind, mixed_kind, no_content}
-use Rattle.pv_reach.specs.AddedRules.{AddsRule, AddsListed, AreSoundRules, IsListedRule, IsRuleOfContent, LaysOut}
+use Rattle.pv_reach.specs.AddedRules.{AddsRule, AddsListed, AreSoundRules, IsListedRule}
+use Rattle.pv_reach.specs.AddedRules.{IsRuleOfContent, LaysOut}
 use Rattle.pv_reach.specs.Columns.{Has, IsContentRule, IsRule, any_column, of_content, part_column}
 use Rattle.pv_columns.specs.declared.rules.ColumnRule.{ColumnRule}
 use Rattle.pv_reach.proofs.PushedRules.{adds_as, grow_none, grow_twice, has_as, sound_more}

@@ -1,5 +1,6 @@
 -- The rules of free columns for a word, in front of those that are kept.
-use Rattle.std.proofs.Common.{Contains, List, [], arith, get_or, inl, inr, subst, suc, zero, ℕ, ◌++◌, ◌<◌, ◌∷◌, ◌≡◌}
+use Rattle.std.proofs.Common.{Contains, List, [], arith, get_or, inl, inr, subst, suc, zero, ℕ}
+use Rattle.std.proofs.Common.{◌++◌, ◌<◌, ◌∷◌, ◌≡◌}
 use Rattle.std.proofs.lemmas.List.Elements.{Contains-append_cases, Contains-append_left, Contains-append_right}
 use Rattle.pv_model.specs.declared.models.Token.{Token}
 use Rattle.pv_columns.specs.declared.rules.ColumnRule.{ColumnRule}

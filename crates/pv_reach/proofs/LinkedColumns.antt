@@ -6,7 +6,8 @@ use Rattle.pv_dtd.specs.Plain.{PlainDtd}
 use Rattle.pv_columns.specs.ColumnRules.{ReadThrough, by_rule, done}
 use Rattle.pv_reach.specs.Columns.{AreRules}
 use Rattle.pv_columns.specs.Marks.{AreNullable}
-use Rattle.pv_reach.specs.LeadingColumns.{AreAlike, AreRightEdges, AreLed, IsRightEdgeOf, IsHead, Leads, LeadsOnTo, ReadsWhatever, Turned, along, here}
+use Rattle.pv_reach.specs.LeadingColumns.{AreAlike, AreRightEdges, AreLed, IsRightEdgeOf, IsHead}
+use Rattle.pv_reach.specs.LeadingColumns.{Leads, LeadsOnTo, ReadsWhatever, Turned, along, here}
 use Rattle.pv_columns.specs.declared.layers.Edge.{Edge}
 use Rattle.pv_columns.specs.declared.rules.ColumnRule.{ColumnRule}
 use Rattle.pv_reach.proofs.EmptyReaches.{nothing_reached}

@@ -10,7 +10,9 @@ use Rattle.pv_model.specs.declared.models.Token.TheVariants.{Text}
 use Rattle.pv_dtd.specs.Plain.{IsDeclared, PlainDtd, declared, model_of, parts_in_model, parts_in_models}
 use Rattle.pv_rules.specs.Numbering.{first_part, parts_before}
 use Rattle.pv_reach.proofs.FormedDtds.{IsFormedDtd}
-use Rattle.pv_reach.specs.AddedRules.{AddsRule, AddsDeclared, AreSoundRules, IsDeclaredRule, IsRuleOfAny, IsRuleOfContent, IsRuleOfPart, IsWithinWidth, LaysOut, LaysOutNames, LaysOutParts}
+use Rattle.pv_reach.specs.AddedRules.{AddsRule, AddsDeclared, AreSoundRules, IsDeclaredRule}
+use Rattle.pv_reach.specs.AddedRules.{IsRuleOfAny, IsRuleOfContent, IsRuleOfPart, IsWithinWidth}
+use Rattle.pv_reach.specs.AddedRules.{LaysOut, LaysOutNames, LaysOutParts}
 use Rattle.pv_reach.specs.Columns.{AreRules, Has, IsAnyRule, IsRule, any_column, of_any, of_content, of_part, part_column, token_of}
 use Rattle.pv_columns.specs.declared.rules.ColumnRule.{ColumnRule}
 use Rattle.pv_reach.proofs.PushedRules.{adds_as, grow_none, grow_twice, has_as, sound_more}

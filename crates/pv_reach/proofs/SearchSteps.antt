@@ -1,5 +1,6 @@
 -- How a search along edges takes steps.
-use Rattle.std.proofs.Common.{Bool, IfSome, List, None, Option, Some, [], arith, false, get_or, length, set, suc, true, zero, ℕ, ◌++◌, ◌+◌, ◌<◌, ◌∷◌, ◌≡◌, ◌≤◌}
+use Rattle.std.proofs.Common.{Bool, IfSome, List, None, Option, Some, [], arith, false, get_or}
+use Rattle.std.proofs.Common.{length, set, suc, true, zero, ℕ, ◌++◌, ◌+◌, ◌<◌, ◌∷◌, ◌≡◌, ◌≤◌}
 use Rattle.pv_reach.specs.Searches.{numbers_left, steps_of, steps_on, steps_unentered}
 use Rattle.pv_reach.specs.declared.graph.chains.Chains.{Chains}
 use Rattle.pv_reach.specs.declared.graph.leaving.Visit.{Visit}

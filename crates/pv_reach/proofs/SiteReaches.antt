@@ -23,7 +23,8 @@ use Rattle.pv_columns.proofs.Spans.{join}
 use Rattle.pv_reach.specs.Columns.{AreRules, IsRule, member_columns, of_any, of_content, of_part, part_column, token_of, width_of}
 use Rattle.pv_reach.specs.FurthestEnds.{AreReaches, IsGreatestEnd, past_of, place_told}
 use Rattle.pv_reach.specs.Merging.{Replaces, column_head, column_heads}
-use Rattle.pv_reach.specs.ReachedPlaces.{AreRests, is_of_name, kept_past, past_column, past_members, past_rest}
+use Rattle.pv_reach.specs.ReachedPlaces.{AreRests, is_of_name, kept_past, past_column, past_members}
+use Rattle.pv_reach.specs.ReachedPlaces.{past_rest}
 use Rattle.pv_reach.specs.Tables.{IsFurthest, onward, past}
 use Rattle.pv_reach.specs.declared.tables.ends.Ends.{Ends}
 use Rattle.pv_reach.specs.declared.reaches.Reaches.{Reaches}

@@ -15,7 +15,8 @@ use Rattle.pv_chars.proofs.CharacterLemmas.{AreAll-ascii}
 use Rattle.pv_chars.proofs.MarkupLemmas.{behind, none_before_end}
 use Rattle.pv_chars.proofs.DelimiterPlaces.{byte_ends, byte_nowhere}
 use Rattle.pv_read.specs.Takes.{IsCutBefore}
-use Rattle.pv_read.proofs.AbsentBytes.{has_no, by_holds, not_behind, holds_not, parts_have_no, all_have_no}
+use Rattle.pv_read.proofs.AbsentBytes.{has_no, by_holds, not_behind, holds_not, parts_have_no}
+use Rattle.pv_read.proofs.AbsentBytes.{all_have_no}
 
 pub cut_found : (byte : ℕ) (bytes before found : List ℕ) (k : ℕ) → Passes (is_byte byte) bytes k →
     NoneBefore (Passes (is_byte byte) bytes) 0 (length bytes) k → before ≡ take k bytes →

@@ -15,7 +15,8 @@ use Rattle.pv_chars.proofs.FirstDelimiters.{overlap}
 use Rattle.pv_read.specs.Takes.{IsCutBefore}
 use Rattle.pv_read.proofs.AbsentBytes.{by_holds}
 use Rattle.pv_tree.specs.Attributes.{AreMadeOf, IsTextPiece}
-use Rattle.pv_read.proofs.AbsentBytes.{has_no, code_has_no, parts_have_no, both_have_no, not_behind, reference_has_no, reference_inner, IsMark, ampersand_is_mark}
+use Rattle.pv_read.proofs.AbsentBytes.{has_no, code_has_no, parts_have_no, both_have_no, not_behind}
+use Rattle.pv_read.proofs.AbsentBytes.{reference_has_no, reference_inner, IsMark, ampersand_is_mark}
 
 pub nothing : (P : List ℕ → Type 0) → AreMadeOf P []
 nothing P = record { pieces = []; are_pieces = tt; whole = refl }

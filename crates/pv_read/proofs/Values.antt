@@ -8,7 +8,9 @@ use Rattle.pv_chars.specs.Declarations.{is_quote, IsQuoted}
 use Rattle.pv_chars.specs.References.{IsReference}
 use Rattle.pv_chars.specs.Texts.{joined}
 use Rattle.pv_tree.specs.Attributes.{AreMadeOf, IsTextPiece, IsValuePiece, IsAttValue}
-use Rattle.pv_read.proofs.AbsentBytes.{has_no, by_holds, holds_not, not_behind, both_have_no, parts_have_no, code_has_no, reference_has_no, IsMark, double_quote_is_mark, single_quote_is_mark}
+use Rattle.pv_read.proofs.AbsentBytes.{has_no, by_holds, holds_not, not_behind, both_have_no}
+use Rattle.pv_read.proofs.AbsentBytes.{parts_have_no, code_has_no, reference_has_no, IsMark}
+use Rattle.pv_read.proofs.AbsentBytes.{double_quote_is_mark, single_quote_is_mark}
 
 -- a quote marks no reference
 pub record IsQuoteMark (q : ℕ) : Type 0 where

@@ -15,7 +15,9 @@ use Rattle.pv_script.specs.Edits.{edit_text, numbers_in}
 use Rattle.pv_script.specs.Laws.{OneCommand, CommandOrNone}
 use Rattle.pv_words.specs.Paths.{path_text, path_spelled}
 use Rattle.pv_words.specs.Words.{first_word}
-use Rattle.pv_script.specs.LineReading.{on_number, wrap_of, insert_of, rename_of, split_of, set_text_of, add_text_of, edit_of, wrap_asked_of, ask_by, ask_of, command_in, command_of}
+use Rattle.pv_script.specs.LineReading.{on_number, wrap_of, insert_of, rename_of, split_of}
+use Rattle.pv_script.specs.LineReading.{set_text_of, add_text_of, edit_of, wrap_asked_of, ask_by}
+use Rattle.pv_script.specs.LineReading.{ask_of, command_in, command_of}
 use Rattle.pv_script.specs.declared.commands.Command.{Command}
 use Rattle.pv_script.specs.declared.commands.Command.TheVariants as commands
 use Rattle.pv_script.proofs.ArgumentWords.{on_path-written, on_number-written, on-path, on-number}

@@ -15,7 +15,8 @@ use Rattle.pv_edit.specs.declared.answers.EditAnswer.{EditAnswer}
 use Rattle.pv_edit.specs.declared.edits.Edit.{Edit}
 use Rattle.pv_edit.specs.declared.inverses.Inverse.{Inverse}
 use Rattle.pv_session.specs.Answers.{edit_answer}
-use Rattle.pv_session.specs.SessionFacts.{IsEditMade, IsSession, KeepsWays, LeadsOn, LeadsTo, opened_doc}
+use Rattle.pv_session.specs.SessionFacts.{IsEditMade, IsSession, KeepsWays, LeadsOn, LeadsTo}
+use Rattle.pv_session.specs.SessionFacts.{opened_doc}
 use Rattle.pv_session.specs.Sessions.{PlainSession, session_on, next_move, stamped_document}
 use Rattle.pv_session.specs.Steps.{IsEditStep, IsRedoStep, IsUndoStep, PlainAnswer, accepted, behind_move, is_done, lacks_history, no_past, redone, refusal_of, refused, undone}
 use Rattle.pv_session.proofs.LastItems.{HasLast, has_some}

@@ -12,7 +12,8 @@ use Rattle.pv_words.proofs.NumberWords.{decimal-free, number_spelled-decimal, nu
 use Rattle.pv_words.proofs.FirstWords.{Free, ends-free, none-free, first_word-free, first_word-none, first_word-whole}
 use Rattle.pv_words.proofs.RawLines.{ends_line, raw_lines_of-part}
 use Rattle.pv_standoff.specs.Laws.{OneReading}
-use Rattle.pv_standoff.specs.Lines.{SpellsRange, IsNoRange, SpellRanges, IsFirstNoRange, HasTooMany, number_at, range_with, range_of}
+use Rattle.pv_standoff.specs.Lines.{SpellsRange, IsNoRange, SpellRanges, IsFirstNoRange, HasTooMany}
+use Rattle.pv_standoff.specs.Lines.{number_at, range_with, range_of}
 use Rattle.pv_standoff.specs.Ranges.{AreNamed, MAX_RANGES}
 use Rattle.pv_standoff.specs.declared.errors.RangesError.TheVariants.{Syntax, Limit, NoMemory}
 use Rattle.pv_standoff.specs.declared.ranges.Range.{Range}

@@ -15,7 +15,8 @@ use Rattle.pv_tables.specs.Values.{listed_value}
 use Rattle.pv_tables.specs.declared.tables.Entry.{Entry}
 use Rattle.pv_table_check.specs.ClosedEntries.{AreOver, AreClosedAt}
 use Rattle.pv_table_check.specs.ClosedForms.{KeepsNames, WeighsAsBehindText, WeighsAsOne, WeighsAsTwo, WeighsNothing}
-use Rattle.pv_table_check.proofs.ClosureByForms.{Led, none_from, none_to, one_from, one_to, text_from, text_to, two_from, two_to}
+use Rattle.pv_table_check.proofs.ClosureByForms.{Led, none_from, none_to, one_from, one_to}
+use Rattle.pv_table_check.proofs.ClosureByForms.{text_from, text_to, two_from, two_to}
 
 module _ (cases : ListedOrNot) (g : PlainDtd) (w : List PlainToken) (es : List Entry) (are : AreOver g w es) where
   -- the rules of a site are those of what stands there

@@ -1,5 +1,6 @@
 -- The first of some entries that has a goal.
-use Rattle.std.proofs.Common.{Bool, List, arith, drop, drop-cons, false, get_or, length, refl, suc, true, ℕ, ◌+◌, ◌<◌, ◌∙◌, ◌∷◌, ◌≡◌}
+use Rattle.std.proofs.Common.{Bool, List, arith, drop, drop-cons, false, get_or, length, refl, suc}
+use Rattle.std.proofs.Common.{true, ℕ, ◌+◌, ◌<◌, ◌∙◌, ◌∷◌, ◌≡◌}
 use Rattle.pv_rules.specs.Rules.{Goal}
 use Rattle.pv_tables.specs.TableLaws.{GoalsAreTold}
 use Rattle.pv_tables.specs.Values.{are_same_goals, goal_of, listed_value}

@@ -22,7 +22,8 @@ use Rattle.pv_tree.specs.Attributes.{AreMadeOf, IsAttribute, IsAttributes, IsAtt
 use Rattle.pv_tree.specs.Prolog.{IsCommentOrInstruction, IsEpilog, IsMisc}
 use Rattle.pv_tree.specs.Plain.{Ending, short, tagged, Tree, element, text_node, cdata_node, misc_node, Forest, no_trees, tree}
 use Rattle.pv_tree.specs.Legal.{IsLegal, AreLegal, IsLegalEnding}
-use Rattle.pv_tree.proofs.Decisions.{are_same, both, decided_by, either, holds, in_parts, is_true, made, never, Parts}
+use Rattle.pv_tree.proofs.Decisions.{are_same, both, decided_by, either, holds, in_parts, is_true}
+use Rattle.pv_tree.proofs.Decisions.{made, never, Parts}
 
 -- ---- fixed bytes in front, or after
 record Lead (front : List ℕ) (P : List ℕ → Type 0) (bytes : List ℕ) : Type 0 where

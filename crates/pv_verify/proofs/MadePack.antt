@@ -9,7 +9,8 @@ use Rattle.pv_dtd.specs.Plain.{PlainDtd}
 use Rattle.pv_tree.specs.Lists.{Listed, lists_of}
 use Rattle.pv_tree.specs.View.{view}
 use Rattle.pv_tree.specs.Words.{word_of}
-use Rattle.pv_missing.specs.Completions.{IsPotentiallyValid, LeavesOut, out_done, out_kept, out_leaf, out_new}
+use Rattle.pv_missing.specs.Completions.{IsPotentiallyValid, LeavesOut, out_done, out_kept}
+use Rattle.pv_missing.specs.Completions.{out_leaf, out_new}
 use Rattle.pv_missing.specs.ListWeights.{SumIsLeast, whole}
 use Rattle.pv_tables.specs.TableLaws.{TablesAddUp}
 use Rattle.pv_tables.specs.Values.{HaveTotal, listed_value}

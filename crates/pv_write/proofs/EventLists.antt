@@ -1,6 +1,8 @@
 -- Events side by side, and what they are written as.
-use Rattle.std.proofs.Common.{List, [], ap, append-nil, append_assoc, arith, codes, refl, suc, sym, ℕ, ◌++◌, ◌+◌, ◌∙◌, ◌∷◌, ◌≡◌}
-use Rattle.pv_write.specs.Events.{Event, events_text, marks_from, new_end, new_start, news, old_bytes, old_start, opens}
+use Rattle.std.proofs.Common.{List, [], ap, append-nil, append_assoc, arith, codes, refl, suc, sym}
+use Rattle.std.proofs.Common.{ℕ, ◌++◌, ◌+◌, ◌∙◌, ◌∷◌, ◌≡◌}
+use Rattle.pv_write.specs.Events.{Event, events_text, marks_from, new_end, new_start, news}
+use Rattle.pv_write.specs.Events.{old_bytes, old_start, opens}
 use Rattle.pv_write.specs.TaggedTexts.{Appends, PlainWriting}
 
 pub events-join : (a b : List Event) → events_text (a ++ b) ≡ events_text a ++ events_text b

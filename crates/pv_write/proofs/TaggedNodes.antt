@@ -1,16 +1,20 @@
 -- Nodes and pieces that are written one after the other.
-use Rattle.std.proofs.Common.{List, [], ap, append-nil, append_assoc, codes, drop, false, get_or, length, refl, rules, sym, ℕ, ◌++◌, ◌+◌, ◌<◌, ◌∙◌, ◌∷◌, ◌≡◌}
+use Rattle.std.proofs.Common.{List, [], ap, append-nil, append_assoc, codes, drop, false, get_or}
+use Rattle.std.proofs.Common.{length, refl, rules, sym, ℕ, ◌++◌, ◌+◌, ◌<◌, ◌∙◌, ◌∷◌, ◌≡◌}
 use Rattle.std.specs.Prelude.{◌==◌}
 use Rattle.std.proofs.lemmas.List.{drop_more}
 use Rattle.pv_dtd.specs.Plain.{PlainDtd, spelling_of}
-use Rattle.pv_tree.specs.Plain.{Ending, Forest, Tree, cdata_node, element, is_element, misc_node, no_trees, short, text_node, tree}
+use Rattle.pv_tree.specs.Plain.{Ending, Forest, Tree, cdata_node, element, is_element, misc_node}
+use Rattle.pv_tree.specs.Plain.{no_trees, short, text_node, tree}
 use Rattle.pv_tree.specs.PlainForms.{forest, plain}
 use Rattle.pv_tree.specs.declared.nodes.Mark.{Mark}
 use Rattle.pv_tree.specs.declared.nodes.Node.{Cdata, Misc, Node, Text, the_lemmas}
 use Rattle.pv_write.specs.Events.{new_end, new_start, old_bytes, old_start}
 use Rattle.pv_write.specs.PieceForms.{plain_piece, plain_pieces}
-use Rattle.pv_write.specs.Pieces.{AwaitsNode, PlainPiece, TakesNext, after_node, finish, is_token, others_of, start}
-use Rattle.pv_write.specs.TaggedTexts.{Appends, PlainWriting, WritesAll, WritesUpTo, put_bare, put_end, put_finish, put_leaf, put_start, put_tags, gap_of}
+use Rattle.pv_write.specs.Pieces.{AwaitsNode, PlainPiece, TakesNext, after_node, finish, is_token}
+use Rattle.pv_write.specs.Pieces.{others_of, start}
+use Rattle.pv_write.specs.TaggedTexts.{Appends, PlainWriting, WritesAll, WritesUpTo, put_bare}
+use Rattle.pv_write.specs.TaggedTexts.{put_end, put_finish, put_leaf, put_start, put_tags, gap_of}
 use Rattle.pv_write.specs.Text.{tree_text}
 use Rattle.pv_write.specs.declared.pieces.Piece.{Piece}
 use Rattle.pv_write.proofs.EventLists.{appends_after, appends_join, appends_none}

@@ -1,5 +1,5 @@
--- The text of a document with tags of new elements in it: by the pieces of its lists, whatever these
--- are.
+-- The text of a document with tags of new elements in it: by the pieces of its lists, whatever
+-- these are.
 use Rattle.std.specs.Prelude.{List, [], codes, false, ℕ, ◌+◌, ◌++◌, ◌∷◌, ◌≡◌}
 use Rattle.pv_dtd.specs.Plain.{PlainDtd, spelling_of}
 use Rattle.pv_tree.specs.Plain.{Ending, Forest, PlainDoc, Tree, element, is_element, no_trees}

@@ -10,12 +10,13 @@ use std::alloc::Global;
 #[derive(Drop)]
 pub struct TaggedText {
     pub body: Vec<u8>,
-    /// The numbers of the new elements in the body, in document order, the root having the number 0.
+    /// The numbers of the new elements in the body, in document order, the root having the number
+    /// 0.
     pub marks: Vec<u64>,
 }
 
-/// The text so far, the numbers of the new elements, how many elements have begun, and the pieces of
-/// the lists that are to come.
+/// The text so far, the numbers of the new elements, how many elements have begun, and the pieces
+/// of the lists that are to come.
 #[derive(Drop)]
 pub struct Writing<'a> {
     pub body: Vec<u8>,

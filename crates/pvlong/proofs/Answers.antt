@@ -9,7 +9,8 @@ use Rattle.pv_opening.specs.Opening.{AreFiles, fetching_stage, opening_stage}
 use Rattle.pv_opening.specs.Returns.{ReturnsOver, TakesCourse, ending_of, plain_fetched}
 use Rattle.pv_opening.specs.ShownCourses.{CountsShelf}
 use Rattle.pv_opening.proofs.Stages.{behind_second, finds_goes, finds_stays, stays_from, stop_counts, stop_ends, stopped_first}
-use Rattle.pvlong.specs.RequestAnswers.{AnswersWords, EndsWith, FindsAnswer, AnswersFetched, IsAnswerTo, IsToldOf}
+use Rattle.pvlong.specs.RequestAnswers.{AnswersWords, EndsWith, FindsAnswer, AnswersFetched}
+use Rattle.pvlong.specs.RequestAnswers.{IsAnswerTo, IsToldOf}
 use Rattle.pvlong.specs.Requests.{PlainRequest, request, request_of}
 use Rattle.pvlong.specs.ToldNumbers.{not_least_in, response_in}
 use Rattle.pvlong.specs.declared.exits.Exit.{Exit}

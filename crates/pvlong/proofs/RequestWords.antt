@@ -1,5 +1,6 @@
 -- Requests of four words, and words that are none.
-use Rattle.std.proofs.Common.{◌≡◌, ℕ, List, [], ◌∷◌, length, Option, None, option_map, true, false, refl}
+use Rattle.std.proofs.Common.{◌≡◌, ℕ, List, [], ◌∷◌, length, Option, None, option_map, true, false}
+use Rattle.std.proofs.Common.{refl}
 use Rattle.pv_chars.specs.Names.{is_name}
 use Rattle.pvlong.specs.Requests.{question_of, request, request_of}
 use Rattle.pvlong.specs.declared.requests.Question.{Question}

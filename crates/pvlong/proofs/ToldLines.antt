@@ -14,7 +14,8 @@ use Rattle.pv_opening.specs.Returns.{TellsBy}
 use Rattle.pv_opening.specs.declared.stop.Stop.{Stop}
 use Rattle.pv_opening.proofs.Stages.{stops_as}
 use Rattle.pvlong.specs.Possibility.{TellsChecked}
-use Rattle.pvlong.specs.ToldNumbers.{TellsDocument, TellsFor, TellsNumber, bounds_text, is_between, is_least, is_of_least, is_of_more}
+use Rattle.pvlong.specs.ToldNumbers.{TellsDocument, TellsFor, TellsNumber, bounds_text, is_between}
+use Rattle.pvlong.specs.ToldNumbers.{is_least, is_of_least, is_of_more}
 use Rattle.pvlong.specs.declared.requests.Question.TheVariants.{Check, Need}
 
 module _ (root bytes : List ℕ) (g : PlainDtd) (doc : PlainDoc Mark) where

@@ -22,8 +22,8 @@ use Rattle.pvlong.specs.declared.telling.Told.{Told}
 
 -- Nothing is told: the path is that of the first list that is too wide for a verdict; or none is,
 -- no insertions make the document valid, and the path is that of its first impossible list. Or none
--- is, some insertions do, and all such insert more than 1,000,000 elements, or what is made passes a
--- limit or doesn't pass its check.
+-- is, some insertions do, and all such insert more than 1,000,000 elements, or what is made passes
+-- a limit or doesn't pass its check.
 pub data TellsNothing {M : Type 0} (root : List ℕ) (g : PlainDtd) (doc : PlainDoc M)
     (r : PlainResponse) : Type 0 where
   is_too_wide : (path : List ℕ) → IsFirstTooWide g (lists_of doc) path →

@@ -97,8 +97,8 @@ impl<'a> Ground<'a> {
         u64::saturating_add(rank, u64::saturating_add(u64::from(column), 1))
     }
 
-    // The rank of what is wanted: least is that of an end tag, then come columns over no tokens, and
-    // then derivations.
+    // The rank of what is wanted: least is that of an end tag, then come columns over no tokens,
+    // and then derivations.
     fn rank(&self, wanted: Wanted) -> u64 {
         match wanted {
             Wanted::End(_) => 0,

@@ -23,8 +23,8 @@ pub struct Derivation {
     pub rule: Rule,
 }
 
-/// The derivations of the reaches of a list, by number. None is ever changed, whatever becomes of its
-/// reach. Where only the latest are looked at, the old ones are dropped.
+/// The derivations of the reaches of a list, by number. None is ever changed, whatever becomes of
+/// its reach. Where only the latest are looked at, the old ones are dropped.
 #[derive(Debug, Drop)]
 pub struct Derivations {
     older: Vec<Derivation>,

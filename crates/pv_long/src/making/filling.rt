@@ -84,8 +84,9 @@ impl Budget {
         }
     }
 
-    // Whether there are too many reaches in these rows, with those of the places that are left, or too
-    // much work. Half as many are too many where there are more and more: these share their ends.
+    // Whether there are too many reaches in these rows, with those of the places that are left, or
+    // too much work. Half as many are too many where there are more and more: these share their
+    // ends.
     fn is_passed(&self, rows: &[Row], reaches: usize, left: usize, work: u64) -> bool {
         if reaches > self.reaches || work > self.work {
             return true;
@@ -142,9 +143,9 @@ fn is_round(number: usize) -> bool {
     zeros >= LEAST_ZEROS
 }
 
-// Whether there are more and more reaches from place to place: the last quarter of the rows has more
-// than the one before it by such a part of these. It is looked at only where there are a round number
-// of rows, so that all looks together take as long as a few walks over the rows.
+// Whether there are more and more reaches from place to place: the last quarter of the rows has
+// more than the one before it by such a part of these. It is looked at only where there are a round
+// number of rows, so that all looks together take as long as a few walks over the rows.
 fn is_growing(rows: &[Row]) -> bool {
     if rows.len() < TURN || !is_round(rows.len()) {
         return false;
@@ -214,7 +215,8 @@ fn budget_of(classes: &Classes, word: &[Token]) -> Budget {
     Budget::of(usize::saturating_mul(classes.count(), word.len()))
 }
 
-// Makes the fronts of a word, where fewer ends are told apart as long as there are too many reaches.
+// Makes the fronts of a word, where fewer ends are told apart as long as there are too many
+// reaches.
 fn make_within(
     alloc: Global,
     known: &KnownColumns<'_>,

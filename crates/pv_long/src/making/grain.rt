@@ -83,8 +83,8 @@ impl Grain {
         told.min(self.tokens)
     }
 
-    /// Takes off the last reach of a front, where a reach up to this end comes after it and they and
-    /// the one before them aren't told apart.
+    /// Takes off the last reach of a front, where a reach up to this end comes after it and they
+    /// and the one before them aren't told apart.
     pub fn thin(&self, front: &mut Vec<Reach>, place: u32, end: u32) {
         let Some(number) = usize::checked_sub(front.len(), 2) else {
             return;

@@ -300,8 +300,8 @@ impl Here {
         self.waiting.len()
     }
 
-    /// Settles the next offer at a cost beyond the least: the column reaches so far, which is further
-    /// than the ends of fronts so far. None where no offer waits any more.
+    /// Settles the next offer at a cost beyond the least: the column reaches so far, which is
+    /// further than the ends of fronts so far. None where no offer waits any more.
     pub fn settle(
         &mut self,
         alloc: Global,
@@ -354,8 +354,8 @@ impl Here {
         })
     }
 
-    /// Tells greater costs apart, once no offer waits any more: the least one that is offered, where
-    /// it is greater than this one.
+    /// Tells greater costs apart, once no offer waits any more: the least one that is offered,
+    /// where it is greater than this one.
     pub fn go_dearer(&mut self, alloc: Global, cost: u32) -> Result<Option<u32>, NoMemory>
         ensures { IfOk result (λ least. IfSome least (λ n. cost < n)) }
     {

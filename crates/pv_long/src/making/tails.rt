@@ -1,5 +1,5 @@
-//! Fronts of a long list. Each is made up to a window's end, and goes on from there as a part of what
-//! leads there does: so far on, fronts share their ends.
+//! Fronts of a long list. Each is made up to a window's end, and goes on from there as a part of
+//! what leads there does: so far on, fronts share their ends.
 
 use crate::making::derivations::Derivations;
 use crate::making::here::Here;

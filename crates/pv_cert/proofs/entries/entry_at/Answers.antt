@@ -3,7 +3,8 @@ use Rattle.pv_chars.proofs.Options.{match_none}
 use Rattle.pv_tables.specs.declared.tables.Entry.{Entry}
 use Rattle.pv_cert.specs.Fronts.{Begins, BeginsNone}
 use Rattle.pv_cert.specs.Lines.{entry_line}
-use Rattle.pv_cert.proofs.EntryFronts.{behind-shorter, entry-stands, no-letter, no-number, no-site, no-span, value-past}
+use Rattle.pv_cert.proofs.EntryFronts.{behind-shorter, entry-stands, no-letter, no-number, no-site}
+use Rattle.pv_cert.proofs.EntryFronts.{no-span, value-past}
 use Rattle.pv_cert.proofs.entries.entry_at.Goals as goal
 
 pub returns-in_err-letter-clause-entry : goal.returns-in_err-letter-clause-entry

@@ -1,6 +1,7 @@
 use Rattle.std.proofs.Common.{◌≡◌, ◌∙◌, ap, length, false, refl, arith}
 use Rattle.std.proofs.lemmas.Result.{err_from_is_err_and}
-use Rattle.pv_conversation.proofs.ConversationPieces.{behind_line, goes_failed, goes_first, goes_line, goes_long, goes_quit, line_size}
+use Rattle.pv_conversation.proofs.ConversationPieces.{behind_line, goes_failed, goes_first}
+use Rattle.pv_conversation.proofs.ConversationPieces.{goes_line, goes_long, goes_quit, line_size}
 use Rattle.pv_conversation.proofs.talk.answer_lines.Goals as goal
 
 pub lines-init : goal.lines-init

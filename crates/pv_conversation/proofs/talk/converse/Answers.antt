@@ -6,8 +6,10 @@ use Rattle.pv_opening.specs.ShownCourses.{cut_off, wrote}
 use Rattle.pv_conversation.specs.Script.{MAX_SCRIPT_BYTES}
 use Rattle.pv_conversation.specs.Session.{all_told, limited}
 use Rattle.pv_conversation.proofs.Conversations.{has_course, no_room}
-use Rattle.pv_opening.proofs.AskedInputs.{asked_more, asked_none, asked_once, asked_within, writes_from}
-use Rattle.pv_io.proofs.Streams.{not_at_end, append_none, consumes_kept, consumes_more, consumes_none, piece_kept}
+use Rattle.pv_opening.proofs.AskedInputs.{asked_more, asked_none, asked_once, asked_within}
+use Rattle.pv_opening.proofs.AskedInputs.{writes_from}
+use Rattle.pv_io.proofs.Streams.{not_at_end, append_none, consumes_kept, consumes_more}
+use Rattle.pv_io.proofs.Streams.{consumes_none, piece_kept}
 use Rattle.pv_conversation.proofs.ConversationLines.{begins, fails}
 use Rattle.pv_conversation.proofs.talk.converse.Goals as goal
 use Rattle.pv_conversation.proofs.talk.converse.Goals.{in-Ok-finish, in-Err}

@@ -1,4 +1,5 @@
-use Rattle.std.proofs.Common.{List, Some, arith, length, slice_get, subst, suc, sym, true≢false, ℕ, ◌*◌, ◌∙◌, ◌≡◌, ◌≤◌}
+use Rattle.std.proofs.Common.{List, Some, arith, length, slice_get, subst, suc, sym, true≢false, ℕ}
+use Rattle.std.proofs.Common.{◌*◌, ◌∙◌, ◌≡◌, ◌≤◌}
 use Rattle.pv_rules.specs.declared.sites.Site.{Site}
 use Rattle.pv_productive.specs.PlainForms.{dtd_of}
 use Rattle.pv_denial.specs.Rows.{most_values}

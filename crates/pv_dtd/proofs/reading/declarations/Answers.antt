@@ -3,7 +3,8 @@ use Rattle.std.proofs.lemmas.Grind.{common_steps}
 use Rattle.pv_dtd.specs.ItemReading.{item_at, broken_rule}
 use Rattle.pv_dtd.specs.NamedForms.{named_item}
 use Rattle.pv_dtd.specs.RuleKinds.{kind_of_rule}
-use Rattle.pv_dtd.proofs.ItemsSoFar.{so_far_none, all_read, refers, too_deep, no_item_stands, item_breaks, few_more, one_more}
+use Rattle.pv_dtd.proofs.ItemsSoFar.{so_far_none, all_read, refers, too_deep, no_item_stands}
+use Rattle.pv_dtd.proofs.ItemsSoFar.{item_breaks, few_more, one_more}
 use Rattle.pv_dtd.proofs.ReaderAnswers.{tells_rule}
 use Rattle.pv_dtd.proofs.reading.declarations.Goals as goal
 

@@ -4,7 +4,8 @@ use Rattle.pv_tree.specs.Marks.{blank_mark}
 use Rattle.pv_tree.specs.Plain.{short, tagged}
 use Rattle.pv_read.specs.Left.{just_opened}
 use Rattle.pv_read.specs.PlainItems.{plain_item}
-use Rattle.pv_lists.proofs.FactsAfterItems.{behind_start, behind_end, behind_empty, behind_misc, behind_cdata, behind_text}
+use Rattle.pv_lists.proofs.FactsAfterItems.{behind_start, behind_end, behind_empty, behind_misc}
+use Rattle.pv_lists.proofs.FactsAfterItems.{behind_cdata, behind_text}
 use Rattle.pv_lists.proofs.TypesFound.{type_of_tag}
 use Rattle.pv_lists.proofs.Stack.{opened_room}
 use Rattle.pv_lists.proofs.ending.add.Goals as goal

@@ -4,7 +4,8 @@ use Rattle.pv_dtd.proofs.ProperDtds.{proper}
 use Rattle.pv_productive.specs.PlainForms.{dtd_of}
 use Rattle.pv_tree.specs.PlainDocs.{plain_doc}
 use Rattle.pv_missing.specs.Verdicts.{possible_in}
-use Rattle.pv_long.proofs.ExactAnswers.{is_exact, is_valid, is_within, not_valid, own_exact, says_heavy}
+use Rattle.pv_long.proofs.ExactAnswers.{is_exact, is_valid, is_within, not_valid, own_exact}
+use Rattle.pv_long.proofs.ExactAnswers.{says_heavy}
 use Rattle.pv_long.proofs.telling.missing_by.Goals as goal
 
 pub returns-then-left-eq0-clause-told : goal.returns-then-left-eq0-clause-told

@@ -10,8 +10,11 @@ use Rattle.pv_many.proofs.Inputs.{has_course, no_room}
 use Rattle.pv_opening.proofs.AskedInputs.{writes_from}
 use Rattle.pv_io.proofs.Streams.{consumes_none, not_at_end, piece_kept}
 use Rattle.pv_many.proofs.NamesRead.{names_none}
-use Rattle.pv_many.proofs.Pieces.{cut_at, done_with, ended_all, ended_at_input, ended_at_last, ended_at_piece, ended_by_limit, ended_within, ended_without_memory}
-use Rattle.pv_many.proofs.Pieces.{failed_after, less_left, limited_after, reads_more, short_after, some_taken}
+use Rattle.pv_many.proofs.Pieces.{cut_at, done_with, ended_all, ended_at_input, ended_at_last}
+use Rattle.pv_many.proofs.Pieces.{ended_at_piece, ended_by_limit, ended_within}
+use Rattle.pv_many.proofs.Pieces.{ended_without_memory}
+use Rattle.pv_many.proofs.Pieces.{failed_after, less_left, limited_after, reads_more, short_after}
+use Rattle.pv_many.proofs.Pieces.{some_taken}
 use Rattle.pv_many.proofs.input.answer_input.Goals as goal
 use Rattle.pv_many.proofs.input.answer_input.Goals.{in-Ok-answer_last, in-Err}
 

@@ -1,6 +1,8 @@
 use Rattle.std.proofs.Common.{◌≡◌, ◌∙◌, ◌&&◌, ◌||◌, ◌==◌, not, ap, rules, IsTrue, []}
 use Rattle.std.proofs.lemmas.Result.{IfOk-weaker}
-use Rattle.pv_model.proofs.LayoutSteps.{none_where, AdvancesFrom-passed, AdvancesFrom-one, AdvancesFrom-in_order, AdvancesFrom-either, AdvancesFrom-optional, AdvancesFrom-repeated, ok_by}
+use Rattle.pv_model.proofs.LayoutSteps.{none_where, AdvancesFrom-passed, AdvancesFrom-one}
+use Rattle.pv_model.proofs.LayoutSteps.{AdvancesFrom-in_order, AdvancesFrom-either}
+use Rattle.pv_model.proofs.LayoutSteps.{AdvancesFrom-optional, AdvancesFrom-repeated, ok_by}
 use Rattle.pv_model.proofs.reach.+advance.Goals as goal
 use Rattle.pv_model.proofs.reach.+advance.Goals.{then-not-entered, else-not-entered}
 

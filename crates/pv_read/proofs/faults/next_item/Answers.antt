@@ -6,7 +6,8 @@ use Rattle.pv_read.specs.PlainItems.{plain_item}
 use Rattle.pv_read.specs.PlainPlaces.{plain_place}
 use Rattle.pv_read.proofs.NextItems.{subset_is_first, nothing_begins, may_not_stand, other_reference, other_name, other_doctype, too_deep, takes}
 use Rattle.pv_read.proofs.OneItem.{one_item}
-use Rattle.pv_read.proofs.ItemsAtPlaces.{subset_at, subset_of, stands_at, none_at, mismatch_at, mismatch_of, deep_at, deep_of, not_whole_at}
+use Rattle.pv_read.proofs.ItemsAtPlaces.{subset_at, subset_of, stands_at, none_at, mismatch_at}
+use Rattle.pv_read.proofs.ItemsAtPlaces.{mismatch_of, deep_at, deep_of, not_whole_at}
 use Rattle.pv_read.proofs.faults.next_item.Goals as goal
 
 never : IsTrue false → ⊥

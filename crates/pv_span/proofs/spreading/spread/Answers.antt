@@ -9,7 +9,8 @@ use Rattle.pv_span.specs.declared.charts.Chart.{Chart}
 use Rattle.pv_span.specs.declared.waiting.Waiting.{Waiting}
 use Rattle.pv_span.proofs.WaitingColumns.{held_settled}
 use Rattle.pv_span.proofs.spreading.spread.Goals as goal
-use Rattle.pv_span.proofs.spreading.spread.Goals.{else-loop-test, then-loop-test+in_ok-spread_next+then-not-branch}
+use Rattle.pv_span.proofs.spreading.spread.Goals.{else-loop-test}
+use Rattle.pv_span.proofs.spreading.spread.Goals.{then-loop-test+in_ok-spread_next+then-not-branch}
 
 pub begin-requires-clause-long : goal.begin-requires-clause-long
 begin-requires-clause-long c = c.clear.ensures.long ∙ c.requires.long

@@ -12,8 +12,11 @@ use Rattle.pv_standoff.proofs.Stacks.{close_depth, end_depth}
 use Rattle.pv_standoff.specs.Stacks.{PlainOpen, stack_depth, add, write, tree_of, opened, with_text}
 use Rattle.pv_standoff.specs.PlainForms.{plain_open, plain_outer, seen, IsRootOver}
 use Rattle.pv_standoff.specs.Texts.{SpellsUnits}
-use Rattle.pv_standoff.proofs.BuiltDocuments.{IsAt, at_most, close_at, next_at, end_at, root_holds, inside_mid, drop_next, take_next, split_next, outer_push}
-use Rattle.pv_standoff.proofs.BuiltDocuments.{outer_length, shallow_at, open_shallow, too_deep, rest_spells, rest_within, rest_taken, rest_more}
+use Rattle.pv_standoff.proofs.BuiltDocuments.{IsAt, at_most, close_at, next_at, end_at, root_holds}
+use Rattle.pv_standoff.proofs.BuiltDocuments.{inside_mid, drop_next, take_next, split_next}
+use Rattle.pv_standoff.proofs.BuiltDocuments.{outer_push}
+use Rattle.pv_standoff.proofs.BuiltDocuments.{outer_length, shallow_at, open_shallow, too_deep}
+use Rattle.pv_standoff.proofs.BuiltDocuments.{rest_spells, rest_within, rest_taken, rest_more}
 use Rattle.pv_standoff.proofs.building.fill.Goals as goal
 use Rattle.pv_standoff.proofs.building.fill.Goals.{else-ended-test, then-ended-test+in_default}
 

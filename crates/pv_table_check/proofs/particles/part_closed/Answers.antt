@@ -1,7 +1,8 @@
 use Rattle.std.proofs.Common.{arith, refl, ◌+◌}
 use Rattle.pv_rules.proofs.FlatKinds.{choice_at, name_at, no_part, opt_at, plus_at, seq_at, star_at}
 use Rattle.pv_table_check.specs.Tested.{dtd_in, word_in}
-use Rattle.pv_table_check.proofs.EntriesAtSites.{name_part_closed, part_none, rest_inner, rest_outer, seq_closed}
+use Rattle.pv_table_check.proofs.EntriesAtSites.{name_part_closed, part_none, rest_inner}
+use Rattle.pv_table_check.proofs.EntriesAtSites.{rest_outer, seq_closed}
 use Rattle.pv_table_check.proofs.Sequences.{some_member}
 use Rattle.pv_table_check.proofs.Words.{flat_part, no_flat_part}
 use Rattle.pv_table_check.proofs.particles.part_closed.Goals as goal

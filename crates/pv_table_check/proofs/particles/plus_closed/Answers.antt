@@ -1,6 +1,7 @@
 use Rattle.std.proofs.Common.{arith, true, ◌+◌}
 use Rattle.pv_table_check.specs.Tested.{dtd_in, word_in}
-use Rattle.pv_table_check.proofs.EntriesAtSites.{one_inner, one_outer, plus_from, plus_to, two_inner, two_outer}
+use Rattle.pv_table_check.proofs.EntriesAtSites.{one_inner, one_outer, plus_from, plus_to}
+use Rattle.pv_table_check.proofs.EntriesAtSites.{two_inner, two_outer}
 use Rattle.pv_table_check.proofs.particles.plus_closed.Goals as goal
 
 pub returns-then-not-one_holds : goal.returns-then-not-one_holds

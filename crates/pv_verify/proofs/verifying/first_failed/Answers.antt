@@ -3,7 +3,8 @@ use Rattle.pv_dtd.specs.PlainForms.{plain_dtd}
 use Rattle.pv_tree.specs.Lists.{lists_of}
 use Rattle.pv_tree.specs.PlainDocs.{plain_doc}
 use Rattle.pv_table_check.specs.ClosedTables.{AreClosedTables}
-use Rattle.pv_verify.proofs.EarlierTests.{accepted, at-closure, at-kept, at-totals, at-validity, not-so}
+use Rattle.pv_verify.proofs.EarlierTests.{accepted, at-closure, at-kept, at-totals, at-validity}
+use Rattle.pv_verify.proofs.EarlierTests.{not-so}
 use Rattle.pv_verify.proofs.TestedBodies.{tested-body}
 use Rattle.pv_verify.proofs.verifying.first_failed.Goals as goal
 

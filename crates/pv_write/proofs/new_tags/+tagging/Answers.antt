@@ -7,7 +7,8 @@ use Rattle.pv_tree.proofs.Forests.{forest-drop, forest-end}
 use Rattle.pv_tree.proofs.Levels.{plain-Elem}
 use Rattle.pv_write.specs.PieceForms.{plain_pieces}
 use Rattle.pv_write.specs.WritingForms.{writing_of}
-use Rattle.pv_write.proofs.TaggedNodes.{plain-Cdata, plain-Misc, plain-Text, up_bare, up_end, up_join, up_leaf, up_none, up_tags}
+use Rattle.pv_write.proofs.TaggedNodes.{plain-Cdata, plain-Misc, plain-Text, up_bare, up_end}
+use Rattle.pv_write.proofs.TaggedNodes.{up_join, up_leaf, up_none, up_tags}
 use Rattle.pv_write.proofs.new_tags.+tagging.Goals as goal
 
 pub write_list-loop-kid-init : goal.write_list-loop-kid-init

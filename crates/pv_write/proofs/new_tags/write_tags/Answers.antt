@@ -6,7 +6,8 @@ use Rattle.pv_write.specs.WritingForms.{writing_of}
 use Rattle.pv_write.specs.declared.pieces.Piece.TheVariants as piece
 use Rattle.pv_write.proofs.TaggedNodes.{next_piece, up_finish, up_join, up_none, up_start}
 use Rattle.pv_write.proofs.new_tags.write_tags.Goals as goal
-use Rattle.pv_write.proofs.new_tags.write_tags.Goals.{in-Start+in_ok-start_new-in-Start, in-End+in_ok-end_new-in-End}
+use Rattle.pv_write.proofs.new_tags.write_tags.Goals.{in-Start+in_ok-start_new-in-Start}
+use Rattle.pv_write.proofs.new_tags.write_tags.Goals.{in-End+in_ok-end_new-in-End}
 
 pub loop-place-init : goal.loop-place-init
 loop-place-init c = λ k. up_none (plain_dtd c.args.dtd.now) (plain_pieces (drop c.args.from c.args.pieces.now)) k (writing_of c.args.out.now)

@@ -1,6 +1,7 @@
 use Rattle.pv_bounds.specs.declared.fronts.Reach.{Reach}
 use Rattle.std.proofs.Common.{ap, arith}
-use Rattle.pv_bounds.proofs.SharedEnds.{first_counted, none_counted, shared, shared_at, shared_length}
+use Rattle.pv_bounds.proofs.SharedEnds.{first_counted, none_counted, shared, shared_at}
+use Rattle.pv_bounds.proofs.SharedEnds.{shared_length}
 use Rattle.pv_bounds.proofs.front.Front.least_shared.Goals as goal
 
 pub returns-then-reach-place : goal.returns-then-reach-place

@@ -1,5 +1,6 @@
 use Rattle.std.proofs.Common.{arith}
-use Rattle.pv_dtd.proofs.DtdFacts.{held_named, held_types, held_few, held_names, held_legal, held_known, held_mentioned, held_formed, held_parts, items_held}
+use Rattle.pv_dtd.proofs.DtdFacts.{held_named, held_types, held_few, held_names, held_legal}
+use Rattle.pv_dtd.proofs.DtdFacts.{held_known, held_mentioned, held_formed, held_parts, items_held}
 use Rattle.pv_dtd.proofs.dtd.Dtd.of.Goals as goal
 
 pub invariant_of-result : goal.invariant_of-result

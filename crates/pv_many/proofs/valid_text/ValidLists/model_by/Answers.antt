@@ -1,5 +1,6 @@
 use Rattle.pv_dtd.specs.PlainForms.{plain_dtd}
-use Rattle.pv_valid.proofs.Tokens.{number_below, model_by_number, no_model_of_text, no_model_of_other}
+use Rattle.pv_valid.proofs.Tokens.{number_below, model_by_number, no_model_of_text}
+use Rattle.pv_valid.proofs.Tokens.{no_model_of_other}
 use Rattle.pv_many.proofs.valid_text.ValidLists.model_by.Goals as goal
 
 pub laid_model_of-requires : goal.laid_model_of-requires
