@@ -207,7 +207,8 @@ behind_by stage Goes P course r refuses goes (opened x k rest opens more is) at 
     goes x k rest opens more (sym (ap (λ (c : Course). c.taken) is))
     (sym (ap (λ (c : Course). c.ending) is) ∙ at)
 behind_by stage Goes P course r refuses goes (refused s k denies is) at =
-    subst P (same_response course.ending s r (ap (λ (c : Course). c.ending) is) at) (refuses s k denies)
+    subst P (same_response course.ending s r (ap (λ (c : Course). c.ending) is) at)
+    (refuses s k denies)
 behind_by stage Goes P course r refuses goes (stopped k faults is) at =
     let here = ap (λ (c : Course). c.ending) is in cc
 behind_by stage Goes P course r refuses goes (short_of_memory k lacks is) at =
@@ -224,7 +225,8 @@ session_by line files session course r reads
     (ended_over script f is (finished out place e w replies ends)) at =
     by_status line files course.taken Done r _ (same_response course.ending r _ at ends) refl tt
 session_by line files session course r reads (ended_over script f is (quitted out replies ends))
-    at = by_status line files course.taken Done r _ (same_response course.ending r _ at ends) refl tt
+    at =
+    by_status line files course.taken Done r _ (same_response course.ending r _ at ends) refl tt
 session_by line files session course r reads
     (ended_over script f is (past_line out number after long replies ends)) at =
     by_status line files course.taken Limit r _ (same_response course.ending r _ at ends) refl

@@ -19,7 +19,8 @@ use Rattle.pv_cli.specs.declared.verb.Verb.TheVariants.{Session}
 
 -- the file of this name is the text of this DTD, within the limits, and neither `%` nor `<![`
 -- stands in it
-pub record HoldsSimpleDtd (told : List (List ℕ × List ℕ)) (name : List ℕ) (g : PlainDtd) : Type 0 where
+pub record HoldsSimpleDtd (told : List (List ℕ × List ℕ)) (name : List ℕ) (g : PlainDtd) :
+    Type 0 where
   pub bytes : List ℕ
   pub is_file : file_named name told ≡ Some bytes
   pub simple : HasNothingToExpand bytes
@@ -30,13 +31,16 @@ pub record HoldsSimpleDtd (told : List (List ℕ × List ℕ)) (name : List ℕ)
 -- such a DTD and of a document, no list of the document is too wide, and the script keeps its
 -- limits: `session` writes exactly the replies to the script in the session that the document
 -- begins, or there was no memory before the first, and it wrote nothing.
-abbrev pub GuardsSimpleSession : {S : Type 0} → Option PlainCommandLine → Devices S → Devices S → Status → Type 0
+abbrev pub GuardsSimpleSession : {S : Type 0} → Option PlainCommandLine → Devices S → Devices S →
+    Status → Type 0
 GuardsSimpleSession line before after status = (told : List (List ℕ × List ℕ))
     (dtd root name script : List ℕ) (g : PlainDtd) (doc : PlainDoc Mark) →
     line ≡ Some (on_document Session dtd root name) →
     before.shelf.files ≡ Some told → before.input.left ≡ Some script → NoneRose before after →
-    HoldsSimpleDtd told dtd g → HoldsDocument told name root doc → AreAllNarrow g doc → IsWithin script →
-    HadNoMemory before after status ⊎ AnswersScript (session_on g root (unmarked_doc doc)) script before after status
+    HoldsSimpleDtd told dtd g → HoldsDocument told name root doc → AreAllNarrow g doc →
+    IsWithin script →
+    HadNoMemory before after status ⊎ AnswersScript (session_on g root (unmarked_doc doc)) script
+    before after status
 
 -- what guards a session guards one over such a DTD
 abbrev pub SimpleSessionsAreGuarded : Type 0 → Type 0

@@ -53,9 +53,13 @@ pub keeps_both : (a b c : List Level) → KeepsTold a b → KeepsTold b c → Ke
 keeps_both a b c f g k r t = g k r (f k r t)
 
 -- one place more of a window
-pub window_more : (fronts : Fronts) (c i p n : ℕ) (old new : List Level) → IsWindow fronts c p n old → p ≤ i + 1 → KeepsTold old new → AllTold new i (reaches_at fronts c i) → IsWindow fronts c i n new
+pub window_more : (fronts : Fronts) (c i p n : ℕ) (old new : List Level) →
+    IsWindow fronts c p n old → p ≤ i + 1 → KeepsTold old new →
+    AllTold new i (reaches_at fronts c i) → IsWindow fronts c i n new
 window_more fronts c i p n old new w near keeps told k le lt m d l = by_place (cases_lt i k)
   where
     by_place : (i < k) ⊎ (k ≤ i) → TellsReach new k (get_or (reaches_at fronts c k) m d)
     by_place (inl q) = keeps k (get_or (reaches_at fronts c k) m d) (w k (omega arith) lt m d l)
-    by_place (inr q) = let same : k ≡ i = omega arith in let z : m < length (reaches_at fronts c i) = rw same at l in rw same (told m d z)
+    by_place (inr q) =
+        let same : k ≡ i = omega arith in
+        let z : m < length (reaches_at fronts c i) = rw same at l in rw same (told m d z)

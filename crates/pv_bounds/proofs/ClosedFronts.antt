@@ -110,7 +110,9 @@ module _ (fronts : Fronts) where
   light_case false x y l m = m
 
   value_light : (x : Cell) → front_cost fronts x ≤ heaviest
-  value_light x = light_case (nat_lt x.from x.to) (cost_from fronts x.column x.from x.to) (empty x.column) (least_light x.to (reaches_at fronts x.column x.from)) (omega arith)
+  value_light x =
+      light_case (nat_lt x.from x.to) (cost_from fronts x.column x.from x.to) (empty x.column)
+      (least_light x.to (reaches_at fronts x.column x.from)) (omega arith)
 
   module _ (forms : List PlainForm) (w : List PlainToken) (empties : (c : ℕ) → c < length forms → EmptyHolds empty c (form_at forms c))
       (columns : (c i : ℕ) → c < length forms → i < length w → ColumnHolds w empty (cost_from fronts) c i (form_at forms c) × FormCutsHold w empty (cost_from fronts) c i (form_at forms c)) where

@@ -64,13 +64,18 @@ least_below e [] i d lt le = omega arith
 least_below e (r ∷ rs) zero d lt le = let u = up_to_end e r le in omega arith
 least_below e (r ∷ rs) (suc i) d lt le = let t = least_below e rs i d (omega arith) le in omega arith
 
--- the ones cost no more than the others where they do so up to the end of each of the first of these, and no more than the rest
-pub part_covered : (ones others : List Reach) (extra count : ℕ) → ((m : ℕ) (d : Reach) → m < count → m < length others → least_to (get_or others m d).end ones ≤ extra + (get_or others m d).cost) →
-    (j : ℕ) → least_to j ones ≤ extra + least_to j (drop count others) → least_to j ones ≤ extra + least_to j others
+-- the ones cost no more than the others where they do so up to the end of each of the first of
+-- these, and no more than the rest
+pub part_covered : (ones others : List Reach) (extra count : ℕ) →
+    ((m : ℕ) (d : Reach) → m < count → m < length others →
+    least_to (get_or others m d).end ones ≤ extra + (get_or others m d).cost) →
+    (j : ℕ) → least_to j ones ≤ extra + least_to j (drop count others) →
+    least_to j ones ≤ extra + least_to j others
 part_covered ones others extra zero h j rest = rest
 part_covered ones [] extra (suc n) h j rest = rest
 part_covered ones (r ∷ rs) extra (suc n) h j rest =
-    let t = part_covered ones rs extra n (λ m d lt w. h (suc m) d (omega arith) (omega arith)) j rest in
+    let t = part_covered ones rs extra n (λ m d lt w. h (suc m) d (omega arith) (omega arith)) j
+    rest in
     let u : least_to j ones ≤ extra + cost_up_to j r = by_end (cases_lt r.end j) in omega arith
   where
     by_end : (r.end < j) ⊎ (j ≤ r.end) → least_to j ones ≤ extra + cost_up_to j r
@@ -81,15 +86,21 @@ part_covered ones (r ∷ rs) extra (suc n) h j rest =
         let b = least_rises j r.end ones le in
         let l = least_light j ones in omega arith
 
--- the ones and so much cost no more than the others after a place where they do so up to the end of each of the first of these, and no more than the rest
-pub part_after : (ones others : List Reach) (extra place count : ℕ) → ((m : ℕ) (d : Reach) → m < count → m < length others → place < (get_or others m d).end →
-    min heaviest (extra + least_to (get_or others m d).end ones) ≤ (get_or others m d).cost) → (k : ℕ) → place < k → min heaviest (extra + least_to k ones) ≤ least_to k (drop count others) →
+-- the ones and so much cost no more than the others after a place where they do so up to the end of
+-- each of the first of these, and no more than the rest
+pub part_after : (ones others : List Reach) (extra place count : ℕ) →
+    ((m : ℕ) (d : Reach) → m < count → m < length others → place < (get_or others m d).end →
+    min heaviest (extra + least_to (get_or others m d).end ones) ≤ (get_or others m d).cost) →
+    (k : ℕ) → place < k → min heaviest (extra + least_to k ones)
+    ≤ least_to k (drop count others) →
     min heaviest (extra + least_to k ones) ≤ least_to k others
 part_after ones others extra place zero h k after rest = rest
 part_after ones [] extra place (suc n) h k after rest = rest
 part_after ones (r ∷ rs) extra place (suc n) h k after rest =
-    let t = part_after ones rs extra place n (λ m d lt w. h (suc m) d (omega arith) (omega arith)) k after rest in
-    let u : min heaviest (extra + least_to k ones) ≤ cost_up_to k r = by_end (cases_lt r.end k) in omega arith
+    let t = part_after ones rs extra place n (λ m d lt w. h (suc m) d (omega arith) (omega arith)) k
+    after rest in
+    let u : min heaviest (extra + least_to k ones) ≤ cost_up_to k r = by_end (cases_lt r.end k) in
+    omega arith
   where
     by_end : (r.end < k) ⊎ (k ≤ r.end) → min heaviest (extra + least_to k ones) ≤ cost_up_to k r
     by_end (inl lt) = let e = past_end k r lt in omega arith

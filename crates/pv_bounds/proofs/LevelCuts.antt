@@ -21,11 +21,13 @@ all_levels ones end cost levels h k r le (x, (n, lt, is), c, tells) =
 -- a cut at each place of a window
 pub window_cuts : (fronts : Fronts) (e i p n : ℕ) (levels : List Level) (ones firsts : List Reach) →
     ((m : ℕ) (d : Reach) → m < length firsts → (k : ℕ) (r : Reach) → k ≤ (get_or firsts m d).end → TellsReach levels k r → least_to r.end ones ≤ (get_or firsts m d).cost + r.cost) →
-    IsWindow fronts e p n levels → p ≤ i + 1 → (k j : ℕ) → i < k → k < n → least_to j ones ≤ least_to k firsts + least_to j (reaches_at fronts e k)
+    IsWindow fronts e p n levels → p ≤ i + 1 → (k j : ℕ) → i < k → k < n →
+    least_to j ones ≤ least_to k firsts + least_to j (reaches_at fronts e k)
 window_cuts fronts e i p n levels ones firsts h window near k j a b =
     least_above k (least_to j ones) (least_to j (reaches_at fronts e k)) firsts (least_light j ones)
     (λ m d lt le. all_covered ones (reaches_at fronts e k) (get_or firsts m d).cost
-    (λ q f l. h m d lt k (get_or (reaches_at fronts e k) q f) le (window k (omega arith) b q f l)) j)
+    (λ q f l. h m d lt k (get_or (reaches_at fronts e k) q f) le (window k (omega arith) b q f l))
+    j)
 
 -- what holds of the numbers below one, and of it
 pub below_one_more : (P : ℕ → Type 0) (n : ℕ) → ((k : ℕ) → k < n → P k) → P n → (k : ℕ) → k < n + 1 → P k

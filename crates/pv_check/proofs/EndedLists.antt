@@ -27,7 +27,8 @@ on_ok (Err e) a = tt
 pub word_length : {B : Type 0} {g : PlainDtd} {list : OpenList B} {word : List Token} {kids : List (Tree Mark)} → IsEnded g list word kids → length word ≡ length (word_of g (forest_of kids))
 word_length {word = word} whole = sym (length-map word plain_token) ∙ ap length whole.is_word
 
-module _ (s : Widths) (g : PlainDtd) (root : List ℕ) (xs ys : List (Listed Mark)) (x : Listed Mark) (noted : Noted) (n : HasNoted s g root xs noted) where
+module _ (s : Widths) (g : PlainDtd) (root : List ℕ) (xs ys : List (Listed Mark)) (x : Listed Mark)
+    (noted : Noted) (n : HasNoted s g root xs noted) where
   pub first_so_far : noted.any ≡ false → AllByRecursion (IsNarrowAndLive s g root) xs
   first_so_far is = subst (TellsWhether (IsNarrowAndLive s g root) xs) is n.any
 
@@ -40,13 +41,21 @@ module _ (s : Widths) (g : PlainDtd) (root : List ℕ) (xs ys : List (Listed Mar
     pub behind_wide : noted.wide ≡ true → new.wide ≡ old.wide → HasFound s g root (xs ++ x ∷ ys) new
     behind_wide wide wide_is =
         let before = subst (TellsWhether (IsListWithin s g) xs) wide n.wide in
-        kept_behind s g root xs ys x old new f some (rw wide_is (wide_behind s g root xs ys x old new f before)) first_is possible_is count_is
+        kept_behind s g root xs ys x old new f some
+        (rw wide_is (wide_behind s g root xs ys x old new f before)) first_is possible_is
+        count_is
 
-    pub narrow_behind : IsListWithin s g x → new.wide ≡ old.wide → HasFound s g root (xs ++ x ∷ ys) new
+    pub narrow_behind : IsListWithin s g x → new.wide ≡ old.wide →
+        HasFound s g root (xs ++ x ∷ ys) new
     narrow_behind narrow wide_is =
-        kept_behind s g root xs ys x old new f some (rw wide_is (wide_narrow s g root xs ys x old new f noted.wide n.wide narrow)) first_is possible_is count_is
+        kept_behind s g root xs ys x old new f some
+        (rw wide_is (wide_narrow s g root xs ys x old new f noted.wide n.wide narrow)) first_is
+        possible_is count_is
 
-    pub found_behind : (path : List ℕ) → noted.wide ≡ false → (IsListWithin s g x → ⊥) → new.wide ≡ Some path → path ≡ x.path → HasFound s g root (xs ++ x ∷ ys) new
+    pub found_behind : (path : List ℕ) → noted.wide ≡ false → (IsListWithin s g x → ⊥) →
+        new.wide ≡ Some path → path ≡ x.path → HasFound s g root (xs ++ x ∷ ys) new
     found_behind path none wide wide_is path_is =
         let before = subst (TellsWhether (IsListWithin s g) xs) none n.wide in
-        kept_behind s g root xs ys x old new f some (wide_found s g root xs ys x old new f before wide (wide_is ∙ ap (λ (p : List ℕ). Some p) path_is)) first_is possible_is count_is
+        kept_behind s g root xs ys x old new f some
+        (wide_found s g root xs ys x old new f before wide
+        (wide_is ∙ ap (λ (p : List ℕ). Some p) path_is)) first_is possible_is count_is

@@ -18,16 +18,22 @@ use Rattle.pv_check.specs.declared.widths.Widths.{Widths}
 use Rattle.pv_check.specs.ListJudgements.{IsPlaced, JudgesList, JudgesWord, site_of_token}
 
 -- a list is judged as its word is
-list_judged : (s : Widths) (g : PlainDtd) (root : List ℕ) (list : Listed Mark) (v : Option Verdict) → HoldsOne list.owner list.kids
-    → JudgesWord s g (site_of g root list.owner) (word_of g list.kids) (has_no_trees list.kids) v → JudgesList s g root list v
+list_judged : (s : Widths) (g : PlainDtd) (root : List ℕ) (list : Listed Mark)
+    (v : Option Verdict) → HoldsOne list.owner list.kids
+    → JudgesWord s g (site_of g root list.owner) (word_of g list.kids) (has_no_trees list.kids) v →
+    JudgesList s g root list v
 list_judged s g root list None one wide = wide
 list_judged s g root list (Some v) one is = (is.0, (verdict_by_word Mark g root list v one).1 is.1)
 
-pub judged_as : (s : Widths) (g : PlainDtd) (root : List ℕ) (list : Listed Mark) (v : Option Verdict) (site : Option PlainSite) (w : List PlainToken) (bare : Bool) → HoldsOne list.owner list.kids
-    → site ≡ site_of g root list.owner → w ≡ word_of g list.kids → bare ≡ has_no_trees list.kids → JudgesWord s g site w bare v → JudgesList s g root list v
+pub judged_as : (s : Widths) (g : PlainDtd) (root : List ℕ) (list : Listed Mark)
+    (v : Option Verdict) (site : Option PlainSite) (w : List PlainToken) (bare : Bool) →
+    HoldsOne list.owner list.kids
+    → site ≡ site_of g root list.owner → w ≡ word_of g list.kids → bare ≡ has_no_trees list.kids →
+    JudgesWord s g site w bare v → JudgesList s g root list v
 judged_as s g root list v site w bare one site_is word_is bare_is h =
     list_judged s g root list v one
-    (subst (λ (b : Bool). JudgesWord s g (site_of g root list.owner) (word_of g list.kids) b v) bare_is
+    (subst (λ (b : Bool). JudgesWord s g (site_of g root list.owner) (word_of g list.kids) b v)
+    bare_is
     (subst (λ (u : List PlainToken). JudgesWord s g (site_of g root list.owner) u bare v) word_is
     (subst (λ (o : Option PlainSite). JudgesWord s g o w bare v) site_is h)))
 

@@ -236,65 +236,109 @@ whole_lists doc =
     ap (λ x. top ∷ x) (sym (append-nil (lists_at (0 ∷ []) doc.root)) ∙ sym (append-nil (lists_at (0 ∷ []) doc.root ++ [])))
 
 -- the root that is written by the pieces of all lists
-filled_root : (g : PlainDtd) (root : List ℕ) (doc : PlainDoc Mark) (lists : List (List PlainPiece)) (marks body : List ℕ) (n : ℕ) → IsProperDtd g → HasNames g → IsTrue (is_element doc.root) →
-    AreWritable (tree doc.root no_trees) → HavePieces g root (lists_of doc) lists n → (w : IsTaggedText g doc lists marks body) → IsCompletedRoot g root doc.root w.events n
+filled_root : (g : PlainDtd) (root : List ℕ) (doc : PlainDoc Mark) (lists : List (List PlainPiece))
+    (marks body : List ℕ) (n : ℕ) → IsProperDtd g → HasNames g → IsTrue (is_element doc.root) →
+    AreWritable (tree doc.root no_trees) → HavePieces g root (lists_of doc) lists n →
+    (w : IsTaggedText g doc lists marks body) → IsCompletedRoot g root doc.root w.events n
 filled_root g root doc lists marks body n proper names rooted writable have w = rw same completed
   where
-    all : HavePieces g root (record { path = []; owner = the_document; kids = tree doc.root no_trees } ∷ (lists_from [] 0 (tree doc.root no_trees) ++ [])) lists n
+    all : HavePieces g root (record {
+      path = [];
+      owner = the_document;
+      kids = tree doc.root no_trees;
+    } ∷ (lists_from [] 0 (tree doc.root no_trees) ++ [])) lists n
     all = subst (λ xs. HavePieces g root xs lists n) (whole_lists doc) have
 
     next : (w.pieces ≡ all.0) × (w.below ≡ all.1)
     next = takes_first lists w.below all.1 w.pieces all.0 w.takes all.4
 
-    p : ArePiecesOf g root (record { path = []; owner = the_document; kids = tree doc.root no_trees }) w.pieces all.2
+    p : ArePiecesOf g root (record {
+      path = [];
+      owner = the_document;
+      kids = tree doc.root no_trees;
+    }) w.pieces all.2
     p = rw next.0 all.6
 
     live : IsLiveRoot g root (tree doc.root no_trees)
     live = p.live
 
     r : AreMerged g proper names root (tree doc.root no_trees) [] p.all w.left w.events all.3
-    r = are_merged g proper names root w.pieces (tree doc.root no_trees) w.below w.left w.events w.fills p.all [] 0 [] all.3 p.stand
-        (suits_at g p.site all.2 (word_of g (tree doc.root no_trees)) p.all p.writes) (rw next.1 all.7)
+    r = are_merged g proper names root w.pieces (tree doc.root no_trees) w.below w.left w.events
+        w.fills p.all [] 0 [] all.3 p.stand
+        (suits_at g p.site all.2 (word_of g (tree doc.root no_trees)) p.all p.writes)
+        (rw next.1 all.7)
 
     at_root : p.site ≡ name_site live.number
     at_root = let i = live.is_owner in let j = p.is_site in let k = rw i at j in cc
 
     writes : Writes g all.2 (named live.number ∷ []) (word_of g (tree doc.root no_trees)) p.all
-    writes = let c = p.writes in subst (λ t. WritesAt g t all.2 (word_of g (tree doc.root no_trees)) p.all) at_root c
+    writes =
+        let c = p.writes in
+        subst (λ t. WritesAt g t all.2 (word_of g (tree doc.root no_trees)) p.all) at_root c
 
     completed : IsCompletedRoot g root doc.root w.events (all.2 + r.within)
     completed =
-        let c = merged_completed Mark doc.mark g all.2 r.within (named live.number ∷ []) p.all (tree doc.root no_trees) w.events proper names writes r.merges in
-        root_of_list g root live.number doc.root doc.before doc.after doc.mark c.0 w.events all.2 r.within live.is_owner rooted writable c.1
+        let c = merged_completed Mark doc.mark g all.2 r.within (named live.number ∷ []) p.all
+        (tree doc.root no_trees) w.events proper names writes r.merges in
+        root_of_list g root live.number doc.root doc.before doc.after doc.mark c.0 w.events all.2
+        r.within live.is_owner rooted writable c.1
 
     same : n ≡ all.2 + r.within
     same = let s = r.sum in let none : r.others ≡ 0 = r.left in omega (arith, all.5, s, none)
 
 -- what is written by the pieces of all lists
-whole : (g : PlainDtd) (root : List ℕ) (doc : PlainDoc Mark) (vs : List Verdict) (lists : List (List PlainPiece)) (count : ℕ) (marks body : List ℕ) → IsProperDtd g → HasNames g → WritesEveryView →
-    TagsExtend → PossibleWeightsAddUp Mark → IsProperDoc doc → AreWritable (tree doc.root no_trees) → IsProlog root doc.before → IsEpilog doc.after → Needs g root doc count →
-    AreVerdicts g root (lists_of doc) vs → ArePieces g root (lists_of doc) vs lists → IsTaggedText g doc lists marks body →
-    IsLeastCompletion g root doc count marks body × (HasShortNames g → IsTrue (is_formed doc.root) → IsBounded doc count body)
-whole g root doc vs lists count marks body proper names written tags_extend adds_up proper_doc writable prolog epilog needs are p w =
-    completed_whole g root doc w.events p.sum count marks body written tags_extend prolog epilog needs
+whole : (g : PlainDtd) (root : List ℕ) (doc : PlainDoc Mark) (vs : List Verdict)
+    (lists : List (List PlainPiece)) (count : ℕ) (marks body : List ℕ) → IsProperDtd g →
+    HasNames g → WritesEveryView →
+    TagsExtend → PossibleWeightsAddUp Mark → IsProperDoc doc →
+    AreWritable (tree doc.root no_trees) → IsProlog root doc.before → IsEpilog doc.after →
+    Needs g root doc count →
+    AreVerdicts g root (lists_of doc) vs → ArePieces g root (lists_of doc) vs lists →
+    IsTaggedText g doc lists marks body →
+    IsLeastCompletion g root doc count marks body ×
+    (HasShortNames g → IsTrue (is_formed doc.root) → IsBounded doc count body)
+whole g root doc vs lists count marks body proper names written tags_extend adds_up proper_doc
+    writable prolog epilog needs are p w =
+    completed_whole g root doc w.events p.sum count marks body written tags_extend prolog epilog
+    needs
     (adds_up g root doc vs p.sum proper proper_doc are needs.can.possible p.weigh)
-    (filled_root g root doc lists marks body p.sum proper names proper_doc.rooted writable p.have w) w.are_marks w.is_body
+    (filled_root g root doc lists marks body p.sum proper names proper_doc.rooted writable p.have w)
+    w.are_marks w.is_body
 
-pub least_completion : (g : PlainDtd) (root : List ℕ) (doc : PlainDoc Mark) (vs : List Verdict) (lists : List (List PlainPiece)) (count : ℕ) (marks body : List ℕ) → IsProperDtd g → HasNames g →
-    WritesEveryView → TagsExtend → PossibleWeightsAddUp Mark → IsProperDoc doc → AreWritable (tree doc.root no_trees) → IsProlog root doc.before → IsEpilog doc.after → Needs g root doc count →
-    AreVerdicts g root (lists_of doc) vs → ArePieces g root (lists_of doc) vs lists → IsTaggedText g doc lists marks body → IsLeastCompletion g root doc count marks body
-least_completion g root doc vs lists count marks body proper names written tags_extend adds_up proper_doc writable prolog epilog needs are p w =
-    (whole g root doc vs lists count marks body proper names written tags_extend adds_up proper_doc writable prolog epilog needs are p w).0
+pub least_completion : (g : PlainDtd) (root : List ℕ) (doc : PlainDoc Mark) (vs : List Verdict)
+    (lists : List (List PlainPiece)) (count : ℕ) (marks body : List ℕ) → IsProperDtd g →
+    HasNames g →
+    WritesEveryView → TagsExtend → PossibleWeightsAddUp Mark → IsProperDoc doc →
+    AreWritable (tree doc.root no_trees) → IsProlog root doc.before → IsEpilog doc.after →
+    Needs g root doc count →
+    AreVerdicts g root (lists_of doc) vs → ArePieces g root (lists_of doc) vs lists →
+    IsTaggedText g doc lists marks body → IsLeastCompletion g root doc count marks body
+least_completion g root doc vs lists count marks body proper names written tags_extend adds_up
+    proper_doc writable prolog epilog needs are p w =
+    (whole g root doc vs lists count marks body proper names written tags_extend adds_up proper_doc
+    writable prolog epilog needs are p w).0
 
-pub bounded_text : (g : PlainDtd) (root : List ℕ) (doc : PlainDoc Mark) (vs : List Verdict) (lists : List (List PlainPiece)) (count : ℕ) (marks body : List ℕ) → IsProperDtd g → HasNames g →
-    WritesEveryView → TagsExtend → PossibleWeightsAddUp Mark → IsProperDoc doc → AreWritable (tree doc.root no_trees) → IsProlog root doc.before → IsEpilog doc.after → Needs g root doc count →
-    AreVerdicts g root (lists_of doc) vs → ArePieces g root (lists_of doc) vs lists → IsTaggedText g doc lists marks body → HasShortNames g → IsTrue (is_formed doc.root) → IsBounded doc count body
-bounded_text g root doc vs lists count marks body proper names written tags_extend adds_up proper_doc writable prolog epilog needs are p w =
-    (whole g root doc vs lists count marks body proper names written tags_extend adds_up proper_doc writable prolog epilog needs are p w).1
+pub bounded_text : (g : PlainDtd) (root : List ℕ) (doc : PlainDoc Mark) (vs : List Verdict)
+    (lists : List (List PlainPiece)) (count : ℕ) (marks body : List ℕ) → IsProperDtd g →
+    HasNames g →
+    WritesEveryView → TagsExtend → PossibleWeightsAddUp Mark → IsProperDoc doc →
+    AreWritable (tree doc.root no_trees) → IsProlog root doc.before → IsEpilog doc.after →
+    Needs g root doc count →
+    AreVerdicts g root (lists_of doc) vs → ArePieces g root (lists_of doc) vs lists →
+    IsTaggedText g doc lists marks body → HasShortNames g → IsTrue (is_formed doc.root) →
+    IsBounded doc count body
+bounded_text g root doc vs lists count marks body proper names written tags_extend adds_up
+    proper_doc writable prolog epilog needs are p w =
+    (whole g root doc vs lists count marks body proper names written tags_extend adds_up proper_doc
+    writable prolog epilog needs are p w).1
 
 -- its text is that of the document with new elements
-pub grown_text : (g : PlainDtd) (root : List ℕ) (doc : PlainDoc Mark) (vs : List Verdict) (lists : List (List PlainPiece)) (marks body : List ℕ) → IsProperDtd g → HasNames g → IsProperDoc doc →
-    AreWritable (tree doc.root no_trees) → ArePieces g root (lists_of doc) vs lists → IsTaggedText g doc lists marks body → IsGrownText doc body
+pub grown_text : (g : PlainDtd) (root : List ℕ) (doc : PlainDoc Mark) (vs : List Verdict)
+    (lists : List (List PlainPiece)) (marks body : List ℕ) → IsProperDtd g → HasNames g →
+    IsProperDoc doc →
+    AreWritable (tree doc.root no_trees) → ArePieces g root (lists_of doc) vs lists →
+    IsTaggedText g doc lists marks body → IsGrownText doc body
 grown_text g root doc vs lists marks body proper names proper_doc writable p w =
-    let c = filled_root g root doc lists marks body p.sum proper names proper_doc.rooted writable p.have w in
+    let c = filled_root g root doc lists marks body p.sum proper names proper_doc.rooted writable
+    p.have w in
     record { root = c.new; grows = c.grows; text = let t = c.text in let b = w.is_body in b ∙ ap (λ x. doc.before ++ x ++ doc.after) (sym t) }

@@ -1,4 +1,5 @@
--- The Possible lists of a document that misses at most 1,000,000 elements are light, and so is the list that comes next.
+-- The Possible lists of a document that misses at most 1,000,000 elements are light, and so is the
+-- list that comes next.
 use Rattle.std.specs.Option.{option_map}
 use Rattle.std.proofs.Common.{List, None, Option, Some, [], arith, drop, refl, subst, sym, true}
 use Rattle.std.proofs.Common.{length, ℕ, ◌<◌, ◌∙◌, ◌∷◌, ◌≡◌, ◌≢◌}

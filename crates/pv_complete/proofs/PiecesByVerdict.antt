@@ -102,7 +102,9 @@ module _ (g : PlainDtd) (root : List ℕ) (list : Listed Mark) (more : List (Lis
   pub possible_pieces : (s : PlainSite) (n : ℕ) (live : List PlainToken) (ps : List PlainPiece) →
       UsesVerdict vs old new true → site_of g root list.owner ≡ Some s →
       IsLiveWord g (word_of g list.kids) live →
-      IsWeight (Rule g live) (whole s live) n → WritesAt g s n live ps → AreVerdicts g root (list ∷ more) (drop old vs) → AreNextPieces g root list more vs old new ps
+      IsWeight (Rule g live) (whole s live) n → WritesAt g s n live ps →
+      AreVerdicts g root (list ∷ more) (drop old vs) →
+      AreNextPieces g root list more vs old new ps
   possible_pieces s n live ps next site is weighs writes (u, rest, e, j, others) =
       let head : u ≡ verdict.Possible = cc (e, next) in
       let tail : rest ≡ drop new vs = cc (e, next) in
@@ -115,14 +117,16 @@ module _ (g : PlainDtd) (root : List ℕ) (list : Listed Mark) (more : List (Lis
           live = judged.0;
           all = ps;
           stand = inl refl;
-          writes = let w = live_is_word g root list.owner list.kids live judged.0 is in rw w at writes;
+          writes =
+              let w = live_is_word g root list.owner list.kids live judged.0 is in rw w at writes;
         };
         left = rw tail at others;
         weigh = λ b w. rw next (n, b, refl, (s, live, site, is, weighs), w);
       }
 
   -- a Valid one
-  pub kept_pieces : (s : PlainSite) (ps : List PlainPiece) → UsesVerdict vs old new false → AreNotImpossible vs → site_of g root list.owner ≡ Some s → ps ≡ [] →
+  pub kept_pieces : (s : PlainSite) (ps : List PlainPiece) → UsesVerdict vs old new false →
+      AreNotImpossible vs → site_of g root list.owner ≡ Some s → ps ≡ [] →
       AreVerdicts g root (list ∷ more) (drop old vs) → AreNextPieces g root list more vs old new ps
   kept_pieces s ps (inl none) all site nothing (u, rest, e, j, others) = absurd cc
   kept_pieces s ps (inr (v, next, not)) all site nothing (u, rest, e, j, others) =
@@ -150,7 +154,8 @@ module _ (g : PlainDtd) (root : List ℕ) (list : Listed Mark) (more : List (Lis
       is_valid verdict.Impossible n m = absurd (m refl)
 
 -- ---- one list after the other
-lists_more : (xs : List (Vec Piece Global)) (x : Vec Piece Global) → plain_lists (xs ++ x ∷ []) ≡ plain_lists xs ++ plain_pieces x.items ∷ []
+lists_more : (xs : List (Vec Piece Global)) (x : Vec Piece Global) →
+    plain_lists (xs ++ x ∷ []) ≡ plain_lists xs ++ plain_pieces x.items ∷ []
 lists_more [] x = refl
 lists_more (y ∷ xs) x = ap (λ qs. plain_pieces y.items ∷ qs) (lists_more xs x)
 
@@ -158,19 +163,30 @@ module _ (g : PlainDtd) (root : List ℕ) (all : List (Listed Mark)) (vs : List 
   pub found_none : AreVerdicts g root all vs → HaveFound g root all all vs 0 []
   found_none are = record { verdicts = are; goes_on = λ qs f. f }
 
-  pub found_more : (list : Listed Mark) (rest : List (Listed Mark)) (old new : ℕ) (xs ys : List (Vec Piece Global)) (x : Vec Piece Global) → ys ≡ xs ++ x ∷ [] →
+  pub found_more : (list : Listed Mark) (rest : List (Listed Mark)) (old new : ℕ)
+      (xs ys : List (Vec Piece Global)) (x : Vec Piece Global) → ys ≡ xs ++ x ∷ [] →
       HaveFound g root all (list ∷ rest) vs old (plain_lists xs) →
-      (AreVerdicts g root (list ∷ rest) (drop old vs) → AreNextPieces g root list rest vs old new (plain_pieces x.items)) → HaveFound g root all rest vs new (plain_lists ys)
+      (AreVerdicts g root (list ∷ rest) (drop old vs) →
+      AreNextPieces g root list rest vs old new (plain_pieces x.items)) →
+      HaveFound g root all rest vs new (plain_lists ys)
   found_more list rest old new xs ys x is h f =
       let next = f h.verdicts in
       record {
         verdicts = next.left;
-        goes_on = λ qs a. rw (is, lists_more xs x, append_assoc (plain_lists xs) (plain_pieces x.items ∷ []) qs) (h.goes_on (plain_pieces x.items ∷ qs) (record {
-          sum = next.count + a.sum;
-          have = (plain_pieces x.items, qs, next.count, a.sum, refl, refl, next.are, a.have);
-          weigh = next.weigh a.sum a.weigh;
-        }));
+        goes_on =
+            λ qs a. rw (
+              is,
+              lists_more xs x,
+              append_assoc (plain_lists xs)
+                  (plain_pieces x.items ∷ []) qs,
+            ) (h.goes_on (plain_pieces x.items ∷ qs) (record {
+              sum = next.count + a.sum;
+              have = (plain_pieces x.items, qs, next.count, a.sum, refl, refl, next.are, a.have);
+              weigh = next.weigh a.sum a.weigh;
+            }));
       }
 
-  pub found_all : (used : ℕ) (qs : List (List PlainPiece)) → HaveFound g root all [] vs used qs → ArePieces g root all vs qs
-  found_all used qs h = rw append-nil at (h.goes_on [] (record { sum = 0; have = refl; weigh = refl }))
+  pub found_all : (used : ℕ) (qs : List (List PlainPiece)) → HaveFound g root all [] vs used qs →
+      ArePieces g root all vs qs
+  found_all used qs h =
+      rw append-nil at (h.goes_on [] (record { sum = 0; have = refl; weigh = refl }))

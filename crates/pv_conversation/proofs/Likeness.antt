@@ -22,7 +22,8 @@ alike_behind out also more (begins_alike told other rest others alike below e f)
 pub one_response_alike : (r also : PlainResponse) → r ≡ also → ResponsesAlike r also
 one_response_alike r also e = record { status = ap (λ (p : PlainResponse). p.status) e; output = ends_alike (ap (λ (p : PlainResponse). p.output) e) }
 
-pub same_response : (ending : RunEnding) (r s : PlainResponse) → ending ≡ responds r → ending ≡ responds s → r ≡ s
+pub same_response : (ending : RunEnding) (r s : PlainResponse) → ending ≡ responds r →
+    ending ≡ responds s → r ≡ s
 same_response ending r s at is = cc
 
 -- two endings with one status and outputs that are alike

@@ -97,7 +97,8 @@ replies_more silent number first current lines line out text after below replies
       silent = silent;
       below = all_below_next number silent below;
       replies = joins_replies silent 1 number first.session current.session lines (line ∷ []) out text (at_line (suc number) after.session) replies
-          (answered (not_among number silent below) by (no_lines refl refl) (is ∙ sym (append-nil (reply_bytes told))));
+          (answered (not_among number silent below) by (no_lines refl refl)
+          (is ∙ sym (append-nil (reply_bytes told))));
       counts = counts_then silent 1 number lines line first.checked current.checked after.checked next counts (replied_goes current.session after.session line told (is_among number silent) by) one;
     }
 replies_more silent number first current lines line out text after below replies counts (told_nothing stays is one) =
@@ -107,7 +108,9 @@ replies_more silent number first current lines line out text after below replies
       below = (omega arith, all_below_next number silent below);
       replies = joins_replies (number ∷ silent) 1 number first.session current.session lines (line ∷ []) out text (at_line (suc number) after.session)
           (later_silent number silent 1 number first.session current.session lines out (at_line number current.session) (omega arith) refl replies)
-          (without_memory (among_first number silent) (no_lines refl (ap (at_line (suc number)) stays)) (is ∙ sym (append-nil (reply_bytes NoMemory))));
+          (without_memory (among_first number silent)
+          (no_lines refl (ap (at_line (suc number)) stays))
+          (is ∙ sym (append-nil (reply_bytes NoMemory))));
       counts = counts_then (number ∷ silent) 1 number lines line first.checked current.checked after.checked next
           (counts_silent number silent 1 lines first.checked current.checked counts) (was_silent (among_first number silent)) one;
     }

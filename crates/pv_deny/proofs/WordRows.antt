@@ -48,7 +48,8 @@ module _ (spans : SpansWithin) (g : PlainDtd) (plain : PlainDtd) (is_plain : pla
           subst P (sym n) (subst Q (sym size) many);
     }
 
-    pub has_rows : (rows : List Row) → AreToldRows r (length word) sites rows → length sites * suc (length word) ≤ most_values → HasRows g w rows
+    pub has_rows : (rows : List Row) → AreToldRows r (length word) sites rows →
+        length sites * suc (length word) ≤ most_values → HasRows g w rows
     has_rows rows of few =
         let P : ℕ → Type 0 = λ v. AreToldRows r v sites rows in
         let Q : ℕ → Type 0 = λ v. length sites * suc v ≤ most_values in
@@ -56,8 +57,11 @@ module _ (spans : SpansWithin) (g : PlainDtd) (plain : PlainDtd) (is_plain : pla
         record {
           live = map plain_token word;
           is_live = live;
-          furthest = furthest_rows spans g (map plain_token word) r good names are sites all rows of_word;
-          few = few_values spans g (map plain_token word) r good names are sites all rows of_word (subst Q (sym size) few);
+          furthest =
+              furthest_rows spans g (map plain_token word) r good names are sites all rows of_word;
+          few =
+              few_values spans g (map plain_token word) r good names are sites all rows of_word
+              (subst Q (sym size) few);
         }
 
 pub past : (a b : ℕ) → ((a ≤ b) → ⊥) → b < a

@@ -116,15 +116,19 @@ module _ {M : Type 0} (g : PlainDtd) (root : List ℕ) (doc : PlainDoc M) where
   says_heavy error.Unproved h = tt
   says_heavy error.NoMemory h = tt
 
-  tells_none : (vs : PlainVerdicts) (e : LongError) → HasPossibility root g doc vs → SaysHeavy g root doc e → TellsNone g root doc e
+  tells_none : (vs : PlainVerdicts) (e : LongError) → HasPossibility root g doc vs →
+      SaysHeavy g root doc e → TellsNone g root doc e
   tells_none vs (error.Impossible path) has h = absurd h
   tells_none vs (error.TooWide path) has h = absurd h
-  tells_none vs error.TooHeavy has h = record { may = record { narrow = has.narrow; possible = has.possible }; heavy = h }
+  tells_none vs error.TooHeavy has h =
+      record { may = record { narrow = has.narrow; possible = has.possible }; heavy = h }
   tells_none vs error.TooMany has h = record { narrow = has.narrow; possible = has.possible }
   tells_none vs error.Unproved has h = record { narrow = has.narrow; possible = has.possible }
   tells_none vs error.NoMemory has h = tt
 
-  pub refused : (vs : PlainVerdicts) (told : Result Missing LongError) → HasPossibility root g doc vs → IfErr told (SaysHeavy g root doc) → IfErr told (TellsNone g root doc)
+  pub refused : (vs : PlainVerdicts) (told : Result Missing LongError) →
+      HasPossibility root g doc vs → IfErr told (SaysHeavy g root doc) →
+      IfErr told (TellsNone g root doc)
   refused vs (Ok m) has h = tt
   refused vs (Err e) has h = tells_none vs e has h
 

@@ -17,10 +17,13 @@ some_work (suc rank) = let r = some_work rank in omega (arith, next_work rank, r
 -- a goal of a lower rank is at most a third of the work
 pub lower_work : (low high : ℕ) → low < high → 3 * work_of low ≤ work_of high
 lower_work low zero l = absurd (omega arith)
-lower_work zero (suc high) l = let s = some_work high in omega (arith, first_work, next_work high, s)
-lower_work (suc low) (suc high) l = let r = lower_work low high (omega arith) in omega (arith, next_work low, next_work high, r)
+lower_work zero (suc high) l =
+    let s = some_work high in omega (arith, first_work, next_work high, s)
+lower_work (suc low) (suc high) l =
+    let r = lower_work low high (omega arith) in omega (arith, next_work low, next_work high, r)
 
 -- one more goal
-pub more_work : (goals : List Goal) (goal : Goal) → work_in (goals ++ goal ∷ []) ≡ work_in goals + work_of goal.rank
+pub more_work : (goals : List Goal) (goal : Goal) →
+    work_in (goals ++ goal ∷ []) ≡ work_in goals + work_of goal.rank
 more_work [] goal = omega arith
 more_work (g ∷ goals) goal = let r = more_work goals goal in omega arith

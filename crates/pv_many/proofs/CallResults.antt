@@ -15,6 +15,7 @@ on_err_as (Ok x) f p = tt
 on_err_as (Err e) f p = f p
 
 -- what tells one kind of response tells another
-pub tells_as : (P Q : PlainResponse → Type 0) (result : Result Response Stop) → ((r : PlainResponse) → P r → Q r) → TellsBy P result → TellsBy Q result
+pub tells_as : (P Q : PlainResponse → Type 0) (result : Result Response Stop) →
+    ((r : PlainResponse) → P r → Q r) → TellsBy P result → TellsBy Q result
 tells_as P Q (Ok r) f tells = f _ tells
 tells_as P Q (Err stop) f tells = stops_as P Q stop f tells

@@ -141,7 +141,8 @@ limited_after answers = responds (record { status = Limit; output = answers_text
 
 -- of the bytes that may still be taken a piece is taken
 pub less_left : (left count : ℕ) (script piece : List ℕ) → left + length script ≡ max_names_bytes →
-    count ≤ left → length piece ≡ count → (left - count) + length (script ++ piece) ≡ max_names_bytes
+    count ≤ left → length piece ≡ count → (left - count) + length (script ++ piece) ≡
+    max_names_bytes
 less_left left count script piece all within long =
     omega (arith, all, within, long, length-append script piece)
 
@@ -177,7 +178,8 @@ module _ (question : Question) (root : List ℕ) (g : PlainDtd) (before between 
         Ended question root g before between (script ++ piece) false limited_after (Adds old mid)
     ended_by_limit many = record {
       answers = answers;
-      ends = too_many (in_order script (names_answered answers) held are_names piece) many refl refl;
+      ends =
+          too_many (in_order script (names_answered answers) held are_names piece) many refl refl;
       so_far = so_far;
     }
 
@@ -223,7 +225,8 @@ module _ (question : Question) (root : List ℕ) (g : PlainDtd) (before between 
     }
 
 -- some bytes of a buffer are more than none
-pub some_taken : (count : ℕ) (buf : List ℕ) → count ≡ length (take count buf) → count ≢ 0 → 0 < length (take count buf)
+pub some_taken : (count : ℕ) (buf : List ℕ) → count ≡ length (take count buf) → count ≢ 0 →
+    0 < length (take count buf)
 some_taken count buf long some = omega (arith, long, some)
 
 -- a run that ended within the piece of the input that was read last
@@ -232,17 +235,21 @@ pub ended_at_piece : {S : Type 0} (question : Question) (root : List ℕ) (g : P
     (old new : OutputNow) (mid left : Option (List ℕ)) (calls : Asked) (room count : ℕ)
     (piece : List ℕ) (Ends : List NamedAnswer → RunEnding) (Shows : List ℕ → Type 0)
     (status : Status)
-    (reads : Reads question root g archive between held old.written mid input.left left input.calls calls room)
+    (reads : Reads question root g archive between held old.written mid input.left left input.calls
+    calls room)
     (ended : Ended question root g archive archive_now (reads.script ++ piece) false Ends Shows) →
-    Consumes left input_now.left piece → WasAsked 1 (empty_in {E = Failed} (Ok count)) calls input_now.calls →
+    Consumes left input_now.left piece → WasAsked 1 (empty_in {E = Failed} (Ok count)) calls
+    input_now.calls →
     count ≢ 0 → 0 < length piece → ((n : ℕ) → CountsShelf (Ends ended.answers) n n) →
     CountsInput (Ends ended.answers) input.faults input_now.faults →
     WritesEnding (Ends ended.answers) old.written new.written old.faults new.faults status →
     AnswersOver question root g archive archive_now input input_now old new status
 ended_at_piece question root g archive between archive_now held input input_now old new mid left
-    calls room count piece Ends Shows status reads ended consumes asked none some stays counts writes =
+    calls room count piece Ends Shows status reads ended consumes asked none some stays counts
+    writes =
     has_course question root g (reads.script ++ piece) ended.answers false (Ends ended.answers)
-    archive archive_now input input_now old new status ended.ends ended.so_far.answered ended.so_far.shelf
+    archive archive_now input input_now old new status ended.ends ended.so_far.answered
+    ended.so_far.shelf
     (consumes_more input.left left input_now.left reads.script piece reads.taken consumes)
     (asked_within _ _ _ (asked_more reads.script piece count _ _ _ reads.asked asked none some))
     (not_at_end _) stays counts writes

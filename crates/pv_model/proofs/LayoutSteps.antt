@@ -93,6 +93,7 @@ none_where [] b e h = refl
 none_where (k ∷ ks) b e h = absurd (omega (arith, eqb-true (length (k ∷ ks)) 0 (sym e ∙ h)))
 
 -- what two clauses say of a result
-pub ok_by : {A B : Type 0} (r : Result A B) (P R : A → Type 0) (Q : Type 0) → IfOk r P → OnOk r Q → ((x : A) → P x → Q → R x) → IfOk r R
+pub ok_by : {A B : Type 0} (r : Result A B) (P R : A → Type 0) (Q : Type 0) → IfOk r P → OnOk r Q →
+    ((x : A) → P x → Q → R x) → IfOk r R
 ok_by (Ok x) P R Q h q f = f x h q
 ok_by (Err e) P R Q h q f = tt

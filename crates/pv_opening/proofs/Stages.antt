@@ -30,9 +30,11 @@ refusal_stops IsOpened IsRefused ShelfFault stops = stops
 refusal_stops IsOpened IsRefused NoMemory stops = refl
 
 -- a stop with a kind of response that such a stage refuses with
-pub refused_as : {X : Type 0} (IsOpened : X → Type 0) (P IsRefused : PlainResponse → Type 0) (stop : Stop) → ((r : PlainResponse) → P r → IsRefused r) → RefusesWith P stop →
+pub refused_as : {X : Type 0} (IsOpened : X → Type 0) (P IsRefused : PlainResponse → Type 0)
+    (stop : Stop) → ((r : PlainResponse) → P r → IsRefused r) → RefusesWith P stop →
     StopsBy (without_fetch IsOpened IsRefused) 0 stop
-refused_as IsOpened P IsRefused stop refuses told = refusal_stops IsOpened IsRefused stop (stops_as P IsRefused stop refuses told)
+refused_as IsOpened P IsRefused stop refuses told =
+    refusal_stops IsOpened IsRefused stop (stops_as P IsRefused stop refuses told)
 
 -- where the first of two stages stops, both do
 pub stopped_first : {X Y : Type 0} (first : Stage X) (second : X → Stage Y) (n : ℕ) (stop : Stop) → StopsBy first n stop → StopsBy (followed_by first second) n stop

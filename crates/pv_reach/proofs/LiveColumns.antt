@@ -35,7 +35,8 @@ module _ (g : PlainDtd) (formed : IsFormedDtd g) (rules : List ColumnRule) (m : 
   pub merging_is : IsMerging rules m
   merging_is = let R : ℕ → Type 0 = λ v. InRange v rules in is_merging rules m bare heads n same alike.0 narrow few below are_bare alike.1 (subst R (sym width) (rules_in_range g formed rules are))
 
-  pub replacement : AreMerged rules m merged → ((i : ℕ) → i < length rules → Contains order i) → ((i : ℕ) → Contains order i → i < length rules → HasMerged rules m merged i) →
+  pub replacement : AreMerged rules m merged → ((i : ℕ) → i < length rules → Contains order i) →
+      ((i : ℕ) → Contains order i → i < length rules → HasMerged rules m merged i) →
       led ≡ length m.led.items → IsReplacement g rules m merged (n + led)
   replacement only all has count =
       let long : length m.heads.items ≡ width_of g = ap length same.1 ∙ alike.0 ∙ width in

@@ -102,7 +102,8 @@ view_written root doc d =
       same_depth = depth_of-merged doc.root;
     }
 
--- a printed document spells a view also where its bytes are only known to be legal: whether they are is decided
+-- a printed document spells a view also where its bytes are only known to be legal: whether they
+-- are is decided
 pub view_kept : {M : Type 0} (root : List ℕ) (doc : PlainDoc M) → IsTrue (is_element doc.root) → IsTrue (has_names doc.root) → IsTrue (is_formed doc.root) → HasUnits doc.root → ∥ IsLegal doc.root ∥₁
     → IsTrue (has_no_close_mark doc.root) → IsProlog root doc.before → ∥ IsEpilog doc.after ∥₁ → SpellsView root (doc_text doc) doc
 view_kept root doc rooted named formed units legal_there no_close_mark prolog epilog_there =

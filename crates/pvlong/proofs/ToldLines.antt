@@ -40,13 +40,19 @@ module _ (root bytes : List ℕ) (g : PlainDtd) (doc : PlainDoc Mark) where
   between_line least c (Err e) told is = tt
 
   -- a verdict or a number is told, and no document
-  pub checked_for : (result : Result Response Stop) → TellsBy (TellsChecked root g doc) result → TellsBy (TellsFor Check root g doc bytes false) result
+  pub checked_for : (result : Result Response Stop) → TellsBy (TellsChecked root g doc) result →
+      TellsBy (TellsFor Check root g doc bytes false) result
   checked_for (Ok r) tells = (tells, refl)
-  checked_for (Err stop) tells = stops_as (TellsChecked root g doc) (TellsFor Check root g doc bytes false) stop (λ r told. (told, refl)) tells
+  checked_for (Err stop) tells =
+      stops_as (TellsChecked root g doc) (TellsFor Check root g doc bytes false) stop
+      (λ r told. (told, refl)) tells
 
-  pub number_for : (result : Result Response Stop) → TellsBy (TellsNumber root g doc) result → TellsBy (TellsFor Need root g doc bytes false) result
+  pub number_for : (result : Result Response Stop) → TellsBy (TellsNumber root g doc) result →
+      TellsBy (TellsFor Need root g doc bytes false) result
   number_for (Ok r) tells = (tells, refl)
-  number_for (Err stop) tells = stops_as (TellsNumber root g doc) (TellsFor Need root g doc bytes false) stop (λ r told. (told, refl)) tells
+  number_for (Err stop) tells =
+      stops_as (TellsNumber root g doc) (TellsFor Need root g doc bytes false) stop
+      (λ r told. (told, refl)) tells
 
   pub exact_document : (c : Completion) (not_least : Bool) (r : PlainResponse) → IsExact g root doc bytes c → not_least ≡ false → r ≡ record { status = Done; output = c.body.items } →
       TellsDocument root g doc bytes not_least r

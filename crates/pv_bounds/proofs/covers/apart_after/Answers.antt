@@ -10,7 +10,8 @@ returns-then-ones-others-clause-rest c =
 
 pub returns-then-from-one-clause-rest : goal.returns-then-from-one-clause-rest
 returns-then-from-one-clause-rest c =
-    none_more (front_list c.args.ones.now) (front_list c.args.others.now) c.args.extra c.len-then-from-one.result
+    none_more (front_list c.args.ones.now) (front_list c.args.others.now) c.args.extra
+    c.len-then-from-one.result
     c.len-then-from-one.ensures
 
 pub returns-clause-within : goal.returns-clause-within
@@ -30,5 +31,6 @@ returns-clause-rest c = λ j.
     let d = c.from-3.ensures in
     let e = c.from-4.ensures in
     let f = c.from-5.ensures in
-    fronts_more ones others from.result c.args.extra c.requires c.if-ones-others.false from.ensures.ones
+    fronts_more ones others from.result c.args.extra c.requires c.if-ones-others.false
+    from.ensures.ones
     from.ensures.others (omega arith) j

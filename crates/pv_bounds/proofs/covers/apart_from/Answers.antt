@@ -10,7 +10,8 @@ returns-then-ones-others-clause-rest c =
 
 pub returns-then-one-from-clause-rest : goal.returns-then-one-from-clause-rest
 returns-then-one-from-clause-rest c =
-    none_less (front_list c.args.ones.now) (front_list c.args.others.now) c.args.extra c.len-then-one-from.result
+    none_less (front_list c.args.ones.now) (front_list c.args.others.now) c.args.extra
+    c.len-then-one-from.result
     c.len-then-one-from.ensures
 
 pub returns-clause-within : goal.returns-clause-within
@@ -30,5 +31,6 @@ returns-clause-rest c = λ j.
     let d = c.from-3.ensures in
     let e = c.from-4.ensures in
     let f = c.from-5.ensures in
-    fronts_less ones others from.result c.args.extra c.requires c.if-ones-others.false from.ensures.ones
+    fronts_less ones others from.result c.args.extra c.requires c.if-ones-others.false
+    from.ensures.ones
     from.ensures.others (omega arith) j

@@ -16,4 +16,5 @@ returns-clause-tells g c = λ doc means.
     (c.in_ok-found.ensures.finds doc means))
 
 pub returns-clause-counts : goal.returns-clause-counts
-returns-clause-counts g c = λ doc means. c.count.ensures (lists_of doc) (c.in_ok-found.ensures.finds doc means).count
+returns-clause-counts g c =
+    λ doc means. c.count.ensures (lists_of doc) (c.in_ok-found.ensures.finds doc means).count

@@ -31,4 +31,6 @@ returns c = λ t r.
       kids = tree t no_trees;
     }) c.in_ok-judged.judged _ _ _ (t, refl) (sym site) (sym r.has_root.is_word) refl
     c.in_ok-judged.ensures in
-    c.in_ok-add.ensures s d root [] (lists_at (0 ∷ []) t) (record { path = []; owner = the_document; kids = tree t no_trees }) r.has_root.finds tt judges (placed_there c.in_ok-judged.judged [])
+    c.in_ok-add.ensures s d root [] (lists_at (0 ∷ []) t)
+    (record { path = []; owner = the_document; kids = tree t no_trees }) r.has_root.finds tt
+    judges (placed_there c.in_ok-judged.judged [])

@@ -21,7 +21,8 @@ returns-in-Err-Syntax c =
 pub returns-in-Err-Limit : goal.returns-in-Err-Limit
 returns-in-Err-Limit c =
     let bytes = c.args.bytes.now in
-    refused_as (λ told. DenialMeans bytes (is_denial told)) (λ r. r ≡ with_line Limit (codes "limit table"))
+    refused_as (λ told. DenialMeans bytes (is_denial told))
+    (λ r. r ≡ with_line Limit (codes "limit table"))
     (RefusesDenial bytes) _
     (λ r is. too_large (rw c.in-Err-Limit.field-0-is at c.in-Err-Limit.ensures.refused) is)
     c.refuse.ensures

@@ -21,7 +21,8 @@ returns-in-Err-Syntax c =
 pub returns-in-Err-Limit : goal.returns-in-Err-Limit
 returns-in-Err-Limit c =
     let bytes = c.args.bytes.items in
-    refused_as (λ told. PackMeans bytes (is_pack told)) (λ r. r ≡ with_line Limit (codes "limit pack"))
+    refused_as (λ told. PackMeans bytes (is_pack told))
+    (λ r. r ≡ with_line Limit (codes "limit pack"))
     (RefusesPack bytes) _
     (λ r is. too_large (rw c.in-Err-Limit.field-0-is at c.in-Err-Limit.ensures.refused) is)
     c.refuse.ensures

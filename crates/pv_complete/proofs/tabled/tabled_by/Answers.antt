@@ -2,7 +2,8 @@ use Rattle.pv_productive.specs.PlainForms.{dtd_of}
 use Rattle.pv_complete.proofs.tabled.tabled_by.Goals as goal
 
 pub tabled_under-requires-clause-known : goal.tabled_under-requires-clause-known
-tabled_under-requires-clause-known c = c.with_tables-known.ensures (dtd_of c.in_ok-layout.layout.grammar.now)
+tabled_under-requires-clause-known c =
+    c.with_tables-known.ensures (dtd_of c.in_ok-layout.layout.grammar.now)
 
 pub tabled_under-requires-clause-verdicts : goal.tabled_under-requires-clause-verdicts
 tabled_under-requires-clause-verdicts c = rw c.in_ok-layout.ensures c.requires.verdicts

@@ -10,4 +10,5 @@ pub returns-in_ok-complete-in-Complete-clause-followed : goal.returns-in_ok-comp
 returns-in_ok-complete-in-Complete-clause-followed g c = rw c.in-Complete.is c.in_ok-complete-in-Complete.ensures
 
 pub returns-in_ok-offer-in-Offer-clause-followed : goal.returns-in_ok-offer-in-Offer-clause-followed
-returns-in_ok-offer-in-Offer-clause-followed g c = rw c.in-Offer.is c.in_ok-offer-in-Offer.ensures.replied
+returns-in_ok-offer-in-Offer-clause-followed g c =
+    rw c.in-Offer.is c.in_ok-offer-in-Offer.ensures.replied

@@ -13,4 +13,5 @@ returns c =
     let g = dtd_of c.args.grammar.now in
     let w = word_of g (forest c.args.kids.now) in
     let L : List Token → Type 0 = λ v. IsLiveWord g w (map plain_token v) in
-    IfOk-weaker c.rows_by.result _ _ (λ found all. all w (subst L (sym c.as_slice-word.ensures) c.in_ok-live.ensures)) c.rows_by.ensures
+    IfOk-weaker c.rows_by.result _ _ (λ found all. all w
+    (subst L (sym c.as_slice-word.ensures) c.in_ok-live.ensures)) c.rows_by.ensures

@@ -8,5 +8,7 @@ use Rattle.pv_layout.proofs.layout.laid_sites.Goals as goal
 
 pub lay_sites-requires : goal.lay_sites-requires
 lay_sites-requires c =
-    none_laid (dtd_of c.args.grammar.now) (plain_sites c.in_ok-sites.sites) c.args.making.now.names c.parts.result (plain_all c.args.making.now.forms.items) c.requires
-    (c.parts.ensures ∙ ap (λ (d : PlainDtd). parts_in_models d.models) c.dtd.ensures) c.in_ok-sites.ensures
+    none_laid (dtd_of c.args.grammar.now) (plain_sites c.in_ok-sites.sites) c.args.making.now.names
+    c.parts.result (plain_all c.args.making.now.forms.items) c.requires
+    (c.parts.ensures ∙ ap (λ (d : PlainDtd). parts_in_models d.models) c.dtd.ensures)
+    c.in_ok-sites.ensures

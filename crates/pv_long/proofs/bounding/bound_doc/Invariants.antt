@@ -9,7 +9,9 @@ use Rattle.pv_long.proofs.bounding.bound_doc.Given as goal
 
 -- what is added for the lists that are left goes on with what was added so far
 abbrev pub invariant-loop-lists : goal.invariant-loop-lists
-invariant-loop-lists l = (last : ℕ) → AreBounded (dtd_of l.known.layout.now.grammar.now) l.root (left_by l.lists) l.found.least last →
+invariant-loop-lists l =
+    (last : ℕ) → AreBounded (dtd_of l.known.layout.now.grammar.now) l.root (left_by l.lists)
+    l.found.least last →
     AreBounded (dtd_of l.known.layout.now.grammar.now) l.root (lists_of (plain_doc l.doc)) 0 last
 
 abbrev pub decreases-loop-lists : goal.decreases-loop-lists

@@ -8,7 +8,11 @@ loop-list-init c = λ named. named
 
 pub loop-list-preserved : goal.loop-list-preserved
 loop-list-preserved c = λ named. c.loop-list.invariant
-    (lists_before (plain_dtd c.args.dtd.now) c.args.lists.now c.loop-list.list-index c.list-item.result (omega arith) c.list-item.is (rw c.as_slice.ensures.value at c.in_ok-all.ensures) named)
+    (lists_before (plain_dtd c.args.dtd.now) c.args.lists.now c.loop-list.list-index
+    c.list-item.result (omega arith) c.list-item.is
+    (rw c.as_slice.ensures.value at c.in_ok-all.ensures) named)
 
 pub returns : goal.returns
-returns c = c.loop-list.invariant (lists_end (plain_dtd c.args.dtd.now) c.args.lists.now c.loop-list.list-index (omega arith))
+returns c =
+    c.loop-list.invariant (lists_end (plain_dtd c.args.dtd.now) c.args.lists.now
+    c.loop-list.list-index (omega arith))

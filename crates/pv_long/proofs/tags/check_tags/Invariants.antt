@@ -7,4 +7,6 @@ use Rattle.pv_long.proofs.tags.check_tags.Given as goal
 
 -- if the DTD has the names of the tags of the lists that are left, it has all
 abbrev pub invariant-loop-list : goal.invariant-loop-list
-invariant-loop-list l = AllByRecursion (HasNamesOf (plain_dtd l.dtd)) (plain_lists (drop l.list-index l.lists)) → AllByRecursion (HasNamesOf (plain_dtd l.dtd)) (plain_lists l.lists)
+invariant-loop-list l =
+    AllByRecursion (HasNamesOf (plain_dtd l.dtd)) (plain_lists (drop l.list-index l.lists)) →
+    AllByRecursion (HasNamesOf (plain_dtd l.dtd)) (plain_lists l.lists)

@@ -9,7 +9,10 @@ loop-piece-init c = λ named. named
 
 pub loop-piece-preserved : goal.loop-piece-preserved
 loop-piece-preserved c = λ named. c.loop-piece.invariant
-    (named_before (plain_dtd c.args.dtd.now) c.args.pieces.now c.loop-piece.piece-index piece.Kept (omega arith) c.in_ok-piece_bytes.ensures named)
+    (named_before (plain_dtd c.args.dtd.now) c.args.pieces.now c.loop-piece.piece-index piece.Kept
+    (omega arith) c.in_ok-piece_bytes.ensures named)
 
 pub returns : goal.returns
-returns c = c.loop-piece.invariant (named_end (plain_dtd c.args.dtd.now) c.args.pieces.now c.loop-piece.piece-index (omega arith))
+returns c =
+    c.loop-piece.invariant (named_end (plain_dtd c.args.dtd.now) c.args.pieces.now
+    c.loop-piece.piece-index (omega arith))

@@ -7,7 +7,9 @@ use Rattle.pv_long.proofs.telling.bound_lists.Goals as goal
 
 pub returns-clause-least : goal.returns-clause-least
 returns-clause-least c =
-    are_missing (dtd_of c.args.grammar.now) c.args.root.now (plain_doc c.args.doc.now) c.bounds_add_up_law.ensures c.possible_missing_law.ensures c.in_ok-found.found.least c.in_ok-least.least
+    are_missing (dtd_of c.args.grammar.now) c.args.root.now (plain_doc c.args.doc.now)
+    c.bounds_add_up_law.ensures c.possible_missing_law.ensures c.in_ok-found.found.least
+    c.in_ok-least.least
     c.args.verdicts.now.verdicts (proper c.args.grammar.now.layout.dtd) c.proper_doc_law.ensures
     (rw (c.in_ok-known.ensures, c.in_ok-layout.ensures) at c.in_ok-found.ensures)
     c.requires.verdicts.are_verdicts c.in_ok-least.ensures

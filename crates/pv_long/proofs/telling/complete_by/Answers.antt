@@ -8,6 +8,7 @@ pub returns : goal.returns
 returns c =
     let g = plain_dtd c.args.dtd.now in
     let doc = plain_doc c.args.doc.now in
-    let written = written_with_tags g doc (plain_lists c.args.pieces.now) c.in_ok-text.text.marks.items c.in_ok-text.text.body.items c.in_ok-text.ensures
+    let written = written_with_tags g doc (plain_lists c.args.pieces.now)
+    c.in_ok-text.text.marks.items c.in_ok-text.text.body.items c.in_ok-text.ensures
     c.in_ok-check_tags.ensures c.args.doc.now.formed in
     c.in_ok-completion.ensures doc c.requires written

@@ -36,4 +36,5 @@ returns-else-least-completion-clause-told c =
 pub returns-in_err-own_text-clause-refused : goal.returns-in_err-own_text-clause-refused
 returns-in_err-own_text-clause-refused c =
     let p = err_from_is_err_and c.from_residual.result c.from_residual.ensures.1 in
-    rw p.1 (says_heavy (dtd_of c.args.grammar.now) c.args.root.now (plain_doc c.args.doc.now) p.0 p.2)
+    rw p.1 (says_heavy (dtd_of c.args.grammar.now) c.args.root.now (plain_doc c.args.doc.now) p.0
+    p.2)

@@ -62,7 +62,8 @@ returns-then-count-eq0 g c =
     elim c.match-answer_last.branch [
       | in-Ok-answer_last w ↦
           let last = rw (inv.same_question, inv.same_dtd, c.deref.ensures.value) at w.in-Ok-answer_last.ensures.ok in
-          let ended = ended_all _ _ _ _ _ _ _ _ reads.script reads.answers reads.are_names reads.so_far _ _ within last in
+          let ended = ended_all _ _ _ _ _ _ _ _ reads.script reads.answers reads.are_names
+          reads.so_far _ _ within last in
           rw w.result-is (has_course _ _ _ reads.script ended.answers _ (done_with ended.answers) _
           _ _ _ _ _ _ ended.ends ended.so_far.answered ended.so_far.shelf
           taken (asked_once _ _ _ _ _ reads.asked c.fill.ensures.calls) (λ e. bytes.1 c.if-count-eq0.true room) (λ n. refl)
@@ -80,7 +81,8 @@ returns-then-count-left g c =
     let inv = c.pieces.invariant in
     let reads = inv.reads in
     let piece = take c.in-Ok-fill.count c.fill.new.buf in
-    let some = some_taken c.in-Ok-fill.count c.fill.new.buf c.in-Ok-fill.ensures.bound.1 c.if-count-eq0.false in
+    let some = some_taken c.in-Ok-fill.count c.fill.new.buf c.in-Ok-fill.ensures.bound.1
+    c.if-count-eq0.false in
     let many : max_names_bytes < length (reads.script ++ piece) =
     omega (
       arith,
@@ -90,25 +92,34 @@ returns-then-count-left g c =
       c.in-Ok-fill.ensures.bound.1,
       c.if-count-left.true,
     ) in
-    let ended = ended_by_limit _ _ _ _ _ _ _ _ reads.script reads.answers reads.are_names reads.so_far piece many in
-    ended_at_piece _ _ _ _ _ _ _ _ _ _ _ _ _ _ _ c.in-Ok-fill.count piece limited_after _ _ reads ended c.in-Ok-fill.ensures.bytes.0 c.in-Ok-fill.ensures.calls c.if-count-eq0.false some (λ n. refl)
+    let ended = ended_by_limit _ _ _ _ _ _ _ _ reads.script reads.answers reads.are_names
+    reads.so_far piece many in
+    ended_at_piece _ _ _ _ _ _ _ _ _ _ _ _ _ _ _ c.in-Ok-fill.count piece limited_after _ _ reads
+    ended c.in-Ok-fill.ensures.bytes.0 c.in-Ok-fill.ensures.calls c.if-count-eq0.false some
+    (λ n. refl)
     (c.in-Ok-fill.ensures.cause ∙ inv.input_stays) (writes_from _ _ _ _ _ _ _ inv.stays (c.announce_limit.ensures _ _ ended.so_far.shown))
 
 pub pieces-preserved : goal.pieces-preserved
 pieces-preserved g c =
     let inv = c.pieces.invariant in
     let reads = inv.reads in
-    let kept = piece_kept c.fill.new.buf c.pieces.piece.items c.pieces.piece.len (omega (arith, c.deref_mut.ensures.len, c.fill.auto.buf)) in
-    let some = some_taken c.in-Ok-fill.count c.fill.new.buf c.in-Ok-fill.ensures.bound.1 c.if-count-eq0.false in
+    let kept = piece_kept c.fill.new.buf c.pieces.piece.items c.pieces.piece.len
+    (omega (arith, c.deref_mut.ensures.len, c.fill.auto.buf)) in
+    let some = some_taken c.in-Ok-fill.count c.fill.new.buf c.in-Ok-fill.ensures.bound.1
+    c.if-count-eq0.false in
     let within : c.in-Ok-fill.count ≤ c.pieces.left = omega (arith, c.if-count-left.false) in
     let long : length (take c.in-Ok-fill.count c.fill.new.buf) ≡ c.in-Ok-fill.count =
     omega (arith, length-take c.in-Ok-fill.count c.fill.new.buf, c.in-Ok-fill.ensures.bound.1) in
     let goes = rw (inv.same_question, inv.same_dtd, c.deref-in-pieces.ensures.value, kept) at c.in-Ok-answer_piece.ensures.ok in
     record {
-      reads = reads_more _ _ _ _ _ _ _ _ reads.script reads.answers reads.are_names reads.so_far (take c.in-Ok-fill.count c.fill.new.buf) _ _ _ _ _ _ _ _ goes
+      reads =
+          reads_more _ _ _ _ _ _ _ _ reads.script reads.answers reads.are_names reads.so_far
+          (take c.in-Ok-fill.count c.fill.new.buf) _ _ _ _ _ _ _ _ goes
           (consumes_more _ _ _ _ _ reads.taken c.in-Ok-fill.ensures.bytes.0)
-          (asked_more reads.script _ _ _ _ _ reads.asked c.in-Ok-fill.ensures.calls c.if-count-eq0.false some)
-          (less_left c.pieces.left c.in-Ok-fill.count reads.script (take c.in-Ok-fill.count c.fill.new.buf) reads.few within long);
+          (asked_more reads.script _ _ _ _ _ reads.asked c.in-Ok-fill.ensures.calls
+          c.if-count-eq0.false some)
+          (less_left c.pieces.left c.in-Ok-fill.count reads.script
+          (take c.in-Ok-fill.count c.fill.new.buf) reads.few within long);
       input_stays = c.in-Ok-fill.ensures.cause ∙ inv.input_stays;
       stays = c.in-Ok-answer_piece.ensures.stays ∙ inv.stays;
       roomy = inv.roomy;
@@ -122,13 +133,17 @@ returns-in-Err-OutOfMemory g c =
     let inv = c.pieces.invariant in
     let halt = c.in-Err-OutOfMemory in
     let piece = take c.in-Ok-fill.count c.fill.new.buf in
-    let kept = piece_kept c.fill.new.buf c.pieces.piece.items c.pieces.piece.len (omega (arith, c.deref_mut.ensures.len, c.fill.auto.buf)) in
+    let kept = piece_kept c.fill.new.buf c.pieces.piece.items c.pieces.piece.len
+    (omega (arith, c.deref_mut.ensures.len, c.fill.auto.buf)) in
     let halts = rw halt.field-0-is at halt.ensures.err in
     let stops = rw (inv.same_question, inv.same_dtd, c.deref-in-pieces.ensures.value, kept) at halts in
     let stays = rw halt.field-0-is at halt.ensures.cause in
-    let ended = ended_without_memory _ _ _ _ _ _ _ _ inv.reads.script inv.reads.answers inv.reads.are_names inv.reads.so_far piece _ _ stops in
-    ended_at_piece _ _ _ _ _ _ _ _ _ _ _ _ _ _ _ c.in-Ok-fill.count piece short_after _ _ inv.reads ended c.in-Ok-fill.ensures.bytes.0 c.in-Ok-fill.ensures.calls c.if-count-eq0.false
-    (some_taken c.in-Ok-fill.count c.fill.new.buf c.in-Ok-fill.ensures.bound.1 c.if-count-eq0.false) (λ n. refl)
+    let ended = ended_without_memory _ _ _ _ _ _ _ _ inv.reads.script inv.reads.answers
+    inv.reads.are_names inv.reads.so_far piece _ _ stops in
+    ended_at_piece _ _ _ _ _ _ _ _ _ _ _ _ _ _ _ c.in-Ok-fill.count piece short_after _ _ inv.reads
+    ended c.in-Ok-fill.ensures.bytes.0 c.in-Ok-fill.ensures.calls c.if-count-eq0.false
+    (some_taken c.in-Ok-fill.count c.fill.new.buf c.in-Ok-fill.ensures.bound.1 c.if-count-eq0.false)
+    (λ n. refl)
     (c.in-Ok-fill.ensures.cause ∙ inv.input_stays) (wrote refl refl ended.so_far.shown (stays ∙ inv.stays))
 
 pub returns-in-Err-OutputFault : goal.returns-in-Err-OutputFault
@@ -138,10 +153,13 @@ returns-in-Err-OutputFault g c =
     let halt = c.in-Err-OutputFault in
     let fill = c.in-Ok-fill.ensures in
     let piece = take c.in-Ok-fill.count c.fill.new.buf in
-    let kept = piece_kept c.fill.new.buf c.pieces.piece.items c.pieces.piece.len (omega (arith, c.deref_mut.ensures.len, c.fill.auto.buf)) in
-    let stops = rw (inv.same_question, inv.same_dtd, c.deref-in-pieces.ensures.value, kept) at (rw halt.field-0-is at halt.ensures.err) in
+    let kept = piece_kept c.fill.new.buf c.pieces.piece.items c.pieces.piece.len
+    (omega (arith, c.deref_mut.ensures.len, c.fill.auto.buf)) in
+    let stops = rw (inv.same_question, inv.same_dtd, c.deref-in-pieces.ensures.value, kept) at
+    (rw halt.field-0-is at halt.ensures.err) in
     let rose = rw halt.field-0-is at halt.ensures.cause in
     let some = some_taken c.in-Ok-fill.count c.fill.new.buf fill.bound.1 c.if-count-eq0.false in
     let ended = ended_within _ _ _ _ _ _ _ _ reads.script reads.answers reads.are_names reads.so_far piece _ _ stops in
-    ended_at_piece _ _ _ _ _ _ _ _ _ _ _ _ _ _ _ c.in-Ok-fill.count piece cut_at _ _ reads ended fill.bytes.0 fill.calls c.if-count-eq0.false some (λ n. refl)
+    ended_at_piece _ _ _ _ _ _ _ _ _ _ _ _ _ _ _ c.in-Ok-fill.count piece cut_at _ _ reads ended
+    fill.bytes.0 fill.calls c.if-count-eq0.false some (λ n. refl)
     (fill.cause ∙ inv.input_stays) (cut_off _ refl refl ended.so_far.shown (rw inv.stays at rose))

@@ -8,7 +8,8 @@ invariant-pieces g l = record {
   reads : Reads (g.I.Inquiry.question l.initial.inquiry) l.root (g.I.Inquiry.dtd l.initial.inquiry)
       (g.F.Archive.moment l.initial.archive) (g.F.Archive.moment l.archive) l.held.items
       (g.K.Sink.written l.initial.out) (g.K.Sink.written l.out) (g.S.Source.left l.initial.input)
-      (g.S.Source.left l.input) (g.S.Source.calls l.initial.input) (g.S.Source.calls l.input) l.left;
+      (g.S.Source.left l.input) (g.S.Source.calls l.initial.input) (g.S.Source.calls l.input)
+      l.left;
   input_stays : CountStays (g.S.Source.faults l.initial.input) (g.S.Source.faults l.input);
   stays : CountStays (g.K.Sink.faults l.initial.out) (g.K.Sink.faults l.out);
   roomy : vec_len l.piece ≡ 65536;

@@ -44,6 +44,7 @@ returns-clause-takes g c = λ opened is are.
     let root = c.args.root.now in
     let has = c.in_ok-verdicts.ensures.has in
     counts_as root d opened.dtd doc opened.doc c.need_line.result is are
-    (found_behind (width_stage d doc) (λ _. Responds (TellsMissing root d doc)) tt c.need_line.result
+    (found_behind (width_stage d doc) (λ _. Responds (TellsMissing root d doc)) tt
+    c.need_line.result
     (has.narrow, refl)
     (tells_found (TellsMissing root d doc) c.need_line.result (c.need_line.ensures.tells has)))

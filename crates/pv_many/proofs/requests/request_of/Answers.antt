@@ -6,5 +6,6 @@ use Rattle.pv_many.proofs.requests.request_of.Goals as goal
 
 pub returns-else-words-eq3-clause-request : goal.returns-else-words-eq3-clause-request
 returns-else-words-eq3-clause-request c =
-    let three : length (byte_lists c.args.words.now) ≡ 3 → ⊥ = λ e. grind (arith, length-byte_lists c.args.words.now) in
+    let three : length (byte_lists c.args.words.now) ≡ 3 →
+    ⊥ = λ e. grind (arith, length-byte_lists c.args.words.now) in
     sym (of_no_request _ three)

@@ -18,7 +18,11 @@ returns-in-Ok-clause-valid c = λ yes.
       doc = doc;
       is_text = (spelled_where_meant blank_mark root c.args.bytes.now doc means).0;
       lists = (
-        ((subst (λ (name : List ℕ). IsRootElement name doc.root) is.0 has.is_named, refl), subst (FitsVerdict g) (sym (ap length has.is_word)) is.1),
+        (
+          (subst (λ (name : List ℕ). IsRootElement name doc.root) is.0 has.is_named, refl),
+          subst
+              (FitsVerdict g) (sym (ap length has.is_word)) is.1,
+        ),
         has.finds,
       );
     }

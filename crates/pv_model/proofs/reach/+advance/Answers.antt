@@ -19,7 +19,8 @@ returns-after-entered t c =
     let is : c.if-entered.is_end ≡ (c.args.entered && c.in-Name.own == c.args.name) = search rules in
     let end = c.end_at.ensures in
     rw c.in-Name.is (
-    ok_by _ _ _ _ end.ends end.next (λ e ends next. AdvancesFrom-one _ _ _ _ _ _ _ _ _ _ _ (ends.0 ∙ ap not c.is_empty-in-Name.ensures) ends.1 is next)
+    ok_by _ _ _ _ end.ends end.next (λ e ends next. AdvancesFrom-one _ _ _ _ _ _ _ _ _ _ _
+    (ends.0 ∙ ap not c.is_empty-in-Name.ensures) ends.1 is next)
     )
 
 pub returns-in_ok-back-in-InOrder : goal.returns-in_ok-back-in-InOrder

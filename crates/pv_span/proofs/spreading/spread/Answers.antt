@@ -40,13 +40,15 @@ loop-preserved c =
       held = rw (i.same.0, i.same.1) at c.in_ok-spread_next.ensures.held;
     }
 
-held_moved : (f : List PlainForm) (w : List PlainToken) (i j : ℕ) (v u : Waiting) (t s : Chart) → v ≡ u → t ≡ s →
+held_moved : (f : List PlainForm) (w : List PlainToken) (i j : ℕ) (v u : Waiting) (t s : Chart) →
+    v ≡ u → t ≡ s →
     AreHeld f w i j (Waits u) (plain_chart s) → AreHeld f w i j (Waits v) (plain_chart t)
 held_moved f w i j v u t s e h held = rw (e, h) held
 
 pub returns-clause-settled : goal.returns-clause-settled
 returns-clause-settled c =
-    λ e. held_settled f word t.from t.to (Waits c.loop-test.waiting) (plain_chart c.loop-test.chart) (length c.args.forms.now)
+    λ e. held_settled f word t.from t.to (Waits c.loop-test.waiting) (plain_chart c.loop-test.chart)
+    (length c.args.forms.now)
     (c.is_empty-2.ensures e) held
   where
     f : List PlainForm
@@ -60,7 +62,9 @@ returns-clause-settled c =
 
     held : AreHeld f word t.from t.to (Waits c.loop-test.waiting) (plain_chart c.loop-test.chart)
     held = elim c.loop-test.branch [
-      | else-loop-test w ↦ held_moved f word t.from t.to _ _ _ _ w.waiting-is w.chart-is c.loop.invariant.held
+      | else-loop-test w ↦
+          held_moved f word t.from t.to _ _ _ _ w.waiting-is w.chart-is c.loop.invariant.held
       | then-loop-test+in_ok-spread_next+then-not-branch w ↦ (let i = c.loop.invariant in
-          held_moved f word t.from t.to _ _ _ _ w.waiting-is w.chart-is (rw (i.same.0, i.same.1) at w.in_ok-spread_next.ensures.held))
+          held_moved f word t.from t.to _ _ _ _ w.waiting-is w.chart-is
+          (rw (i.same.0, i.same.1) at w.in_ok-spread_next.ensures.held))
     ]

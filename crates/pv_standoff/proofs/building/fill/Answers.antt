@@ -48,19 +48,24 @@ ended-preserved c =
     let fs = plain_outer c.pop.new.self.items in
     let done = take c.each.range-index (seen c.args.sorted.now) in
     let o = ap plain_outer c.in-Some.ensures.items ∙ outer_push c.pop.new.self.items c.in-Some.next in
-    let a = subst (λ z. IsAt c.args.top.now.name c.args.text.now done (plain_open c.ended.top) z c.ended.at) o c.ended.invariant.0 in
+    let a = subst (λ z. IsAt c.args.top.now.name c.args.text.now done (plain_open c.ended.top) z
+    c.ended.at) o c.ended.invariant.0 in
     let s = spells c.args.text.now c.bytes-rest.ensures.legal c.requires.no_close_mark in
-    let m = at_most c.args.top.now.name c.args.text.now done (plain_open c.ended.top) (plain_open c.in-Some.next ∷ fs) c.ended.at a in
-    let k = c.in_ok-more.ensures.kids ∙ ap (λ z. add (plain_open c.in-Some.next) (tree_of (write (plain_open c.ended.top) z)))
+    let m = at_most c.args.top.now.name c.args.text.now done (plain_open c.ended.top)
+    (plain_open c.in-Some.next ∷ fs) c.ended.at a in
+    let k = c.in_ok-more.ensures.kids ∙ ap (λ z. add (plain_open c.in-Some.next)
+    (tree_of (write (plain_open c.ended.top) z)))
     (rest_taken c.args.text.now s c.ended.at c.ended.top.to c.ended.rest.now c.ended.invariant.3) in (
       subst (λ z. IsAt c.args.top.now.name c.args.text.now done z fs c.ended.top.to) (sym k)
-          (close_at c.args.top.now.name c.args.text.now done (plain_open c.ended.top) (plain_open c.in-Some.next) fs c.ended.at a),
+          (close_at c.args.top.now.name c.args.text.now done (plain_open c.ended.top)
+          (plain_open c.in-Some.next) fs c.ended.at a),
       c.ended-test.true,
       subst (λ z. z ≤ MAX_DEPTH)
           (sym (ap (λ z. stack_depth (z ∷ fs)) k ∙ close_depth (plain_open c.ended.top) (plain_open c.in-Some.next) fs (take (c.ended.top.to - c.ended.at) (drop c.ended.at c.args.text.now))
           ∙ ap (λ z. stack_depth (plain_open c.ended.top ∷ z)) (sym o)))
           c.ended.invariant.2,
-      rest_more c.args.text.now s c.ended.at c.ended.top.to c.ended.rest.now c.in_ok-more.more.now m.0 c.ended.invariant.3 c.in_ok-more.ensures.left,
+      rest_more c.args.text.now s c.ended.at c.ended.top.to c.ended.rest.now c.in_ok-more.more.now
+          m.0 c.ended.invariant.3 c.in_ok-more.ensures.left,
     )
 
 pub write-requires-clause-units : goal.write-requires-clause-units
@@ -115,8 +120,12 @@ each-preserved c = record {
     ended = elim c.ended-test.branch [
       | else-ended-test w ↦ (w.ended-test.false, ap (λ v. v.items) w.outer-is)
       | then-ended-test+in_default w ↦ (let z = nil_from_length c.ended.outer.items (let n = w.in_default.ensures.cases in let k = c.ended.outer.ok in omega (arith, n.0, k)) in
-          let a = subst (λ x. IsAt c.args.top.now.name c.args.text.now (take c.each.range-index (seen c.args.sorted.now)) (plain_open c.ended.top) (plain_outer x) c.ended.at) z c.ended.invariant.0 in
-          let h = root_holds c.args.top.now.name c.args.text.now (take c.each.range-index (seen c.args.sorted.now)) (plain_open c.ended.top) c.ended.at c.range-item.result.now a
+          let a = subst (λ x. IsAt c.args.top.now.name c.args.text.now
+          (take c.each.range-index (seen c.args.sorted.now)) (plain_open c.ended.top)
+          (plain_outer x) c.ended.at) z c.ended.invariant.0 in
+          let h = root_holds c.args.top.now.name c.args.text.now
+          (take c.each.range-index (seen c.args.sorted.now)) (plain_open c.ended.top)
+          c.ended.at c.range-item.result.now a
           (inside_mid (length c.args.text.now) _ _ c.range-item.result.now (subst (λ z. AllByRecursion (IsInsideText (length c.args.text.now)) z) split c.requires.inside)) in
           absurd (omega (arith, h, w.ended-test.true)))
     ]
@@ -131,13 +140,16 @@ each-preserved c = record {
     new_top : plain_open c.replace.new.dest ≡ opened c.range-item.result.now
     new_top = ap plain_open c.replace.ensures.after ∙ c.in_ok-opened.ensures
 
-    step : IsAt c.args.top.now.name c.args.text.now (take c.each.range-index (seen c.args.sorted.now)
+    step : IsAt c.args.top.now.name c.args.text.now
+        (take c.each.range-index (seen c.args.sorted.now)
         ++ c.range-item.result.now ∷ []) (opened c.range-item.result.now)
         (write (plain_open c.ended.top) (take (c.range-item.result.now.from - c.ended.at)
         (drop c.ended.at c.args.text.now)) ∷ plain_outer c.ended.outer.items)
         c.range-item.result.now.from × AllByRecursion (λ x. c.range-item.result.now.from ≤ x.from)
         (drop (c.each.range-index + 1) (seen c.args.sorted.now))
-    step = next_at c.args.top.now.name c.args.text.now (take c.each.range-index (seen c.args.sorted.now))
+    step =
+        next_at c.args.top.now.name c.args.text.now
+        (take c.each.range-index (seen c.args.sorted.now))
         (drop (c.each.range-index + 1) (seen c.args.sorted.now)) (plain_open c.ended.top)
         (plain_outer c.ended.outer.items) c.ended.at c.range-item.result.now c.ended.invariant.0
         c.ended.invariant.1 ended.0
@@ -157,18 +169,23 @@ left-preserved c =
     let fs = plain_outer c.pop-in-left.new.self.items in
     let done = seen c.args.sorted.now in
     let o = ap plain_outer c.in-Some-pop.ensures.items ∙ outer_push c.pop-in-left.new.self.items c.in-Some-pop.next in
-    let a = subst (λ z. IsAt c.args.top.now.name c.args.text.now done (plain_open c.left.top) z c.left.at) o c.left.invariant.0 in
+    let a = subst (λ z. IsAt c.args.top.now.name c.args.text.now done (plain_open c.left.top) z
+    c.left.at) o c.left.invariant.0 in
     let s = spells c.args.text.now c.bytes-rest.ensures.legal c.requires.no_close_mark in
-    let m = at_most c.args.top.now.name c.args.text.now done (plain_open c.left.top) (plain_open c.in-Some-pop.next ∷ fs) c.left.at a in
-    let k = c.in_ok-more-2.ensures.kids ∙ ap (λ z. add (plain_open c.in-Some-pop.next) (tree_of (write (plain_open c.left.top) z)))
+    let m = at_most c.args.top.now.name c.args.text.now done (plain_open c.left.top)
+    (plain_open c.in-Some-pop.next ∷ fs) c.left.at a in
+    let k = c.in_ok-more-2.ensures.kids ∙ ap (λ z. add (plain_open c.in-Some-pop.next)
+    (tree_of (write (plain_open c.left.top) z)))
     (rest_taken c.args.text.now s c.left.at c.left.top.to c.left.rest.now c.left.invariant.2) in (
       subst (λ z. IsAt c.args.top.now.name c.args.text.now done z fs c.left.top.to) (sym k)
-          (close_at c.args.top.now.name c.args.text.now done (plain_open c.left.top) (plain_open c.in-Some-pop.next) fs c.left.at a),
+          (close_at c.args.top.now.name c.args.text.now done (plain_open c.left.top)
+          (plain_open c.in-Some-pop.next) fs c.left.at a),
       subst (λ z. z ≤ MAX_DEPTH)
           (sym (ap (λ z. stack_depth (z ∷ fs)) k ∙ close_depth (plain_open c.left.top) (plain_open c.in-Some-pop.next) fs (take (c.left.top.to - c.left.at) (drop c.left.at c.args.text.now))
           ∙ ap (λ z. stack_depth (plain_open c.left.top ∷ z)) (sym o)))
           c.left.invariant.1,
-      rest_more c.args.text.now s c.left.at c.left.top.to c.left.rest.now c.in_ok-more-2.more.now m.0 c.left.invariant.2 c.in_ok-more-2.ensures.left,
+      rest_more c.args.text.now s c.left.at c.left.top.to c.left.rest.now c.in_ok-more-2.more.now
+          m.0 c.left.invariant.2 c.in_ok-more-2.ensures.left,
     )
 
 pub left-init : goal.left-init
@@ -179,7 +196,8 @@ left-init c =
     let k = c.each.outer.ok in
     let m = length-map c.args.sorted.now (λ r. r.now) in
     let t = take_all c.each.range-index (seen c.args.sorted.now) (let f = c.each-test.false in omega (arith, m, f)) in (
-      subst (λ z. IsAt c.args.top.now.name c.args.text.now z (plain_open c.each.top) (plain_outer c.each.outer.items) c.each.at) t c.each.invariant.is_at,
+      subst (λ z. IsAt c.args.top.now.name c.args.text.now z (plain_open c.each.top)
+          (plain_outer c.each.outer.items) c.each.at) t c.each.invariant.is_at,
       shallow_at (stack_depth (plain_open c.each.top ∷ plain_outer c.each.outer.items)) (length (plain_outer c.each.outer.items)) c.each.invariant.shallow (omega (arith, l, b, e, k)),
       c.each.invariant.left,
     )
@@ -190,14 +208,16 @@ returns-then-len-ge-DEEPEST-clause-refused c =
     let b = c.if-len-ge-DEEPEST.true in
     let e = c.len.ensures in
     let k = c.each.outer.ok in
-    too_deep c.args.top.now.name c.args.text.now (seen c.args.sorted.now) c.each.range-index (plain_open c.each.top) (plain_outer c.each.outer.items) c.each.at
+    too_deep c.args.top.now.name c.args.text.now (seen c.args.sorted.now) c.each.range-index
+    (plain_open c.each.top) (plain_outer c.each.outer.items) c.each.at
     c.each.invariant.is_at c.each.invariant.later c.requires.inside c.requires.in_order c.requires.none_cross (omega (arith, l, b, e, k))
 
 pub returns-then-len-ge-DEEPEST-2-clause-refused : goal.returns-then-len-ge-DEEPEST-2-clause-refused
 returns-then-len-ge-DEEPEST-2-clause-refused c =
     let l = outer_length c.each.outer.items in
     let k = c.each.outer.ok in
-    too_deep c.args.top.now.name c.args.text.now (seen c.args.sorted.now) c.each.range-index (plain_open c.each.top) (plain_outer c.each.outer.items) c.each.at
+    too_deep c.args.top.now.name c.args.text.now (seen c.args.sorted.now) c.each.range-index
+    (plain_open c.each.top) (plain_outer c.each.outer.items) c.each.at
     c.each.invariant.is_at c.each.invariant.later c.requires.inside c.requires.in_order
     c.requires.none_cross
     (let b = c.if-len-ge-DEEPEST-2.true in let e = c.len-2.ensures in omega (arith, l, b, e, k))
@@ -211,38 +231,56 @@ write-requires-2-clause-within c = rest_within c.args.text.now (spells c.args.te
 
 pub returns-clause-shallow : goal.returns-clause-shallow
 returns-clause-shallow c =
-    subst (λ x. x ≤ MAX_DEPTH) (sym (ap (λ z. depth_of (tree_of z)) written ∙ end_depth (plain_open c.left.top) (take (length c.args.text.now - c.left.at) (drop c.left.at c.args.text.now))))
-    (subst (λ x. stack_depth (plain_open c.left.top ∷ plain_outer x) ≤ MAX_DEPTH) none c.left.invariant.1)
+    subst (λ x. x ≤ MAX_DEPTH) (sym (ap (λ z. depth_of (tree_of z)) written
+    ∙ end_depth (plain_open c.left.top) (take (length c.args.text.now - c.left.at)
+    (drop c.left.at c.args.text.now))))
+    (subst (λ x. stack_depth (plain_open c.left.top ∷ plain_outer x) ≤ MAX_DEPTH) none
+    c.left.invariant.1)
   where
     none : c.left.outer.items ≡ []
     none = nil_from_length c.left.outer.items (let n = c.in_default-pop.ensures.cases in let k = c.left.outer.ok in omega (arith, n.0, k))
 
-    written : plain_open c.write-2.new.self ≡ write (plain_open c.left.top) (take (length c.args.text.now - c.left.at) (drop c.left.at c.args.text.now))
-    written = c.in_ok-write.ensures.kids ∙ ap (λ z. write (plain_open c.left.top) (take (z - c.left.at) (units_in c.left.rest.now))) c.len-3.ensures.value
+    written : plain_open c.write-2.new.self ≡ write (plain_open c.left.top)
+        (take (length c.args.text.now - c.left.at) (drop c.left.at c.args.text.now))
+    written =
+        c.in_ok-write.ensures.kids ∙ ap (λ z. write (plain_open c.left.top)
+        (take (z - c.left.at) (units_in c.left.rest.now))) c.len-3.ensures.value
         ∙ ap (write (plain_open c.left.top)) (rest_taken c.args.text.now
         (spells c.args.text.now c.bytes-rest.ensures.legal c.requires.no_close_mark) c.left.at
         (length c.args.text.now) c.left.rest.now c.left.invariant.2)
 
 -- the root alone is left open, and has got the rest of the text
-last : (root : List ℕ) (text : List (List ℕ)) (sorted : List Range) (f g : PlainOpen) (at : ℕ) → IsAt root text sorted f [] at →
+last : (root : List ℕ) (text : List (List ℕ)) (sorted : List Range) (f g : PlainOpen) (at : ℕ) →
+    IsAt root text sorted f [] at →
     g ≡ write f (take (length text - at) (drop at text)) → IsRootOver root text sorted (tree_of g)
 last root text sorted f g at alone written = record {
   kids = forest_of (with_text f.kids (take (length text - at) (drop at text)));
-  is_root = ap tree_of written ∙ ap (λ z. element z [] (tagged []) (forest_of (with_text f.kids (take (length text - at) (drop at text)))) blank_mark) ((alone.built).base).1;
+  is_root =
+      ap tree_of written ∙ ap (λ z. element z [] (tagged [])
+      (forest_of (with_text f.kids (take (length text - at) (drop at text)))) blank_mark)
+      ((alone.built).base).1;
   whole = end_at root text sorted f at alone;
 }
 
 pub returns-clause-built : goal.returns-clause-built
-returns-clause-built c = last c.args.top.now.name c.args.text.now (seen c.args.sorted.now) (plain_open c.left.top) (plain_open c.write-2.new.self) c.left.at alone written
+returns-clause-built c =
+    last c.args.top.now.name c.args.text.now (seen c.args.sorted.now) (plain_open c.left.top)
+    (plain_open c.write-2.new.self) c.left.at alone written
   where
     none : c.left.outer.items ≡ []
     none = nil_from_length c.left.outer.items (let n = c.in_default-pop.ensures.cases in let k = c.left.outer.ok in omega (arith, n.0, k))
 
-    alone : IsAt c.args.top.now.name c.args.text.now (seen c.args.sorted.now) (plain_open c.left.top) [] c.left.at
-    alone = subst (λ x. IsAt c.args.top.now.name c.args.text.now (seen c.args.sorted.now) (plain_open c.left.top) (plain_outer x) c.left.at) none c.left.invariant.0
+    alone : IsAt c.args.top.now.name c.args.text.now (seen c.args.sorted.now)
+        (plain_open c.left.top) [] c.left.at
+    alone =
+        subst (λ x. IsAt c.args.top.now.name c.args.text.now (seen c.args.sorted.now)
+        (plain_open c.left.top) (plain_outer x) c.left.at) none c.left.invariant.0
 
-    written : plain_open c.write-2.new.self ≡ write (plain_open c.left.top) (take (length c.args.text.now - c.left.at) (drop c.left.at c.args.text.now))
-    written = c.in_ok-write.ensures.kids ∙ ap (λ z. write (plain_open c.left.top) (take (z - c.left.at) (units_in c.left.rest.now))) c.len-3.ensures.value
+    written : plain_open c.write-2.new.self ≡ write (plain_open c.left.top)
+        (take (length c.args.text.now - c.left.at) (drop c.left.at c.args.text.now))
+    written =
+        c.in_ok-write.ensures.kids ∙ ap (λ z. write (plain_open c.left.top)
+        (take (z - c.left.at) (units_in c.left.rest.now))) c.len-3.ensures.value
         ∙ ap (write (plain_open c.left.top)) (rest_taken c.args.text.now
         (spells c.args.text.now c.bytes-rest.ensures.legal c.requires.no_close_mark) c.left.at
         (length c.args.text.now) c.left.rest.now c.left.invariant.2)

@@ -16,17 +16,22 @@ pub record HasOpened (root : List ℕ) (text : List (List ℕ)) (all : List Rang
   pub shallow : stack_depth (f ∷ fs) ≤ max MAX_DEPTH (suc (length fs))
 
 abbrev pub invariant-each : goal.invariant-each
-invariant-each l = HasOpened l.fn.top.name l.text (seen l.sorted) l.range-index (plain_open l.top) (plain_outer l.outer.items) l.at l.rest
+invariant-each l =
+    HasOpened l.fn.top.name l.text (seen l.sorted) l.range-index (plain_open l.top)
+    (plain_outer l.outer.items) l.at l.rest
 
 abbrev pub invariant-ended : goal.invariant-ended
-invariant-ended l = IsAt l.fn.top.name l.text (take l.range-index (seen l.sorted)) (plain_open l.top) (plain_outer l.outer.items) l.at × (l.at ≤ l.from) ×
+invariant-ended l =
+    IsAt l.fn.top.name l.text (take l.range-index (seen l.sorted)) (plain_open l.top)
+    (plain_outer l.outer.items) l.at × (l.at ≤ l.from) ×
     (stack_depth (plain_open l.top ∷ plain_outer l.outer.items) ≤ MAX_DEPTH) × (l.rest ≡ joined (drop l.at l.text))
 
 abbrev pub decreases-ended : goal.decreases-ended
 decreases-ended l = length l.outer.items
 
 abbrev pub invariant-left : goal.invariant-left
-invariant-left l = IsAt l.fn.top.name l.text (seen l.sorted) (plain_open l.top) (plain_outer l.outer.items) l.at ×
+invariant-left l =
+    IsAt l.fn.top.name l.text (seen l.sorted) (plain_open l.top) (plain_outer l.outer.items) l.at ×
     (stack_depth (plain_open l.top ∷ plain_outer l.outer.items) ≤ MAX_DEPTH) × (l.rest ≡ joined (drop l.at l.text))
 
 abbrev pub decreases-left : goal.decreases-left

@@ -10,5 +10,7 @@ use Rattle.pv_write.proofs.new_tags.+tagging.Given as goal
 abbrev pub invariant-write_list-loop-kid : goal.invariant-write_list-loop-kid
 invariant-write_list-loop-kid l = record {
   within : l.next ≤ length l.pieces;
-  written : WritesUpTo (plain_dtd l.dtd) (plain_pieces l.pieces) (forest l.kids) (plain_pieces (drop l.next l.pieces)) (forest (drop l.kid-index l.kids)) (writing_of l.fn.out) (writing_of l.out);
+  written : WritesUpTo (plain_dtd l.dtd) (plain_pieces l.pieces) (forest l.kids)
+      (plain_pieces (drop l.next l.pieces)) (forest (drop l.kid-index l.kids)) (writing_of l.fn.out)
+      (writing_of l.out);
 }

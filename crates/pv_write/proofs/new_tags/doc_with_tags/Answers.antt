@@ -9,11 +9,15 @@ returns c =
     let all = rw c.from_ref.ensures.value at c.in_ok-write_list.ensures in
     let before = rw c.as_slice.ensures at c.in_ok-bytes.ensures.written in
     let after = rw c.as_slice-2.ensures at c.in_ok-bytes-2.ensures.written in
-    let first = appends_after (writing_of c.new-out.result) (writing_of c.take_pieces-pieces.new.self) (writing_of c.bytes.new.self) _ (rw c.take_pieces-pieces.ensures.body refl)
+    let first = appends_after (writing_of c.new-out.result)
+    (writing_of c.take_pieces-pieces.new.self) (writing_of c.bytes.new.self) _
+    (rw c.take_pieces-pieces.ensures.body refl)
     (rw c.take_pieces-pieces.ensures.marks refl) c.take_pieces-pieces.ensures.begun before in
-    let text = whole_text (writing_of c.new-out.result) (writing_of c.bytes.new.self) (writing_of c.write_list.new.out) (writing_of c.bytes-2.new.self)
+    let text = whole_text (writing_of c.new-out.result) (writing_of c.bytes.new.self)
+    (writing_of c.write_list.new.out) (writing_of c.bytes-2.new.self)
     c.args.doc.now.before c.args.doc.now.after all.events
-    c.new-out.ensures.body c.new-out.ensures.marks c.new-out.ensures.begun first all.appends after in
+    c.new-out.ensures.body c.new-out.ensures.marks c.new-out.ensures.begun first all.appends after
+    in
     record {
       pieces = plain_pieces c.take_pieces-pieces.result.now;
       below = plain_lists c.take_pieces-pieces.new.self.lists.now;

@@ -9,4 +9,6 @@ use Rattle.pv_write.proofs.new_tags.write_tags.Given as goal
 
 -- the tags so far are written
 abbrev pub invariant-loop-place : goal.invariant-loop-place
-invariant-loop-place l = (k : Forest Mark) → WritesUpTo (plain_dtd l.dtd) (plain_pieces (drop l.from l.pieces)) k (plain_pieces (drop l.place l.pieces)) k (writing_of l.fn.out) (writing_of l.out)
+invariant-loop-place l =
+    (k : Forest Mark) → WritesUpTo (plain_dtd l.dtd) (plain_pieces (drop l.from l.pieces)) k
+    (plain_pieces (drop l.place l.pieces)) k (writing_of l.fn.out) (writing_of l.out)

@@ -14,7 +14,8 @@ returns-in-Check c =
     let doc = plain_doc c.args.doc.now in
     rw (c.in-Check.is, c.told_of.ensures.least, c.told_of.ensures.response)
     (checked_for root c.args.bytes.now (plain_dtd c.args.dtd) doc c.check.result
-    (subst (λ (g : PlainDtd). TellsBy (TellsChecked root g doc) c.check.result) c.in_ok-grammar.ensures (c.check.ensures doc c.requires)))
+    (subst (λ (g : PlainDtd). TellsBy (TellsChecked root g doc) c.check.result)
+    c.in_ok-grammar.ensures (c.check.ensures doc c.requires)))
 
 pub returns-in-Need : goal.returns-in-Need
 returns-in-Need c =
@@ -22,7 +23,8 @@ returns-in-Need c =
     let doc = plain_doc c.args.doc.now in
     rw (c.in-Need.is, c.told_of-in-Need.ensures.least, c.told_of-in-Need.ensures.response)
     (number_for root c.args.bytes.now (plain_dtd c.args.dtd) doc c.tell_number.result
-    (subst (λ (g : PlainDtd). TellsBy (TellsNumber root g doc) c.tell_number.result) c.in_ok-grammar.ensures c.tell_number.ensures))
+    (subst (λ (g : PlainDtd). TellsBy (TellsNumber root g doc) c.tell_number.result)
+    c.in_ok-grammar.ensures c.tell_number.ensures))
 
 pub returns : goal.returns
 returns c =
@@ -30,4 +32,5 @@ returns c =
     let doc = plain_doc c.args.doc.now in
     let told = c.tell_document.result in
     rw c.in-Complete.is
-    (subst (λ (g : PlainDtd). TellsBy (TellsDocument root g doc c.args.bytes.now (not_least_in told)) (response_in told)) c.in_ok-grammar.ensures c.tell_document.ensures)
+    (subst (λ (g : PlainDtd). TellsBy (TellsDocument root g doc c.args.bytes.now
+    (not_least_in told)) (response_in told)) c.in_ok-grammar.ensures c.tell_document.ensures)

@@ -16,7 +16,9 @@ pub returns-in-Impossible : goal.returns-in-Impossible
 returns-in-Impossible c = λ root g doc tells.
     let h = rw c.in-Impossible.is at tells in
     let path = c.in-Impossible.path in
-    let told : RefusesWith (λ r. r ≡ with_line Negative (codes "impossible " ++ path_text path)) c.refuse_path.result =
+    let told : RefusesWith (λ r. r ≡ with_line Negative (codes "impossible " ++ path_text path))
+    c.refuse_path.result =
     rw c.places-places.ensures at c.refuse_path.ensures in
-    stops_as (λ r. r ≡ with_line Negative (codes "impossible " ++ path_text path)) (TellsChecked root g doc)
+    stops_as (λ r. r ≡ with_line Negative (codes "impossible " ++ path_text path))
+    (TellsChecked root g doc)
     c.refuse_path.result (λ r is. is_impossible path h.impossible h.first is) told

@@ -6,5 +6,6 @@ use Rattle.pvlong.proofs.requests.request_of.Goals as goal
 
 pub returns-else-words-eq4-clause-request : goal.returns-else-words-eq4-clause-request
 returns-else-words-eq4-clause-request c =
-    let four : length (byte_lists c.args.words.now) ≡ 4 → ⊥ = λ e. grind (arith, length-byte_lists c.args.words.now) in
+    let four : length (byte_lists c.args.words.now) ≡ 4 →
+    ⊥ = λ e. grind (arith, length-byte_lists c.args.words.now) in
     sym (of_no_request _ four)

@@ -26,4 +26,5 @@ returns-else-index-near c = λ d.
     let p = c.if-index-near.false in
     let n = c.args.index - length f.near.now in
     let s : c.args.index ≡ length f.near.now + n = omega arith in
-    ap (λ k. get_or (front_list f) k d) s ∙ far_at f f.within n d (omega arith) ∙ sym c.shared.ensures
+    ap (λ k. get_or (front_list f) k d) s ∙ far_at f f.within n d (omega arith)
+    ∙ sym c.shared.ensures

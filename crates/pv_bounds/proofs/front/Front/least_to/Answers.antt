@@ -4,13 +4,16 @@ use Rattle.pv_bounds.proofs.SharedEnds.{front_least, near_least}
 use Rattle.pv_bounds.proofs.front.Front.least_to.Goals as goal
 
 pub least_shared-requires : goal.least_shared-requires
-least_shared-requires c = let l = least_light c.args.place c.args.self.now.near.now in let e = c.least_to-least.ensures in omega arith
+least_shared-requires c =
+    let l = least_light c.args.place c.args.self.now.near.now in let e = c.least_to-least.ensures in
+    omega arith
 
 pub returns-then-least-self : goal.returns-then-least-self
 returns-then-least-self c =
     let e = c.least_to-least.ensures in
     let q = c.if-least-self.true in
-    let n = near_least c.args.self.now c.args.self.now.within c.args.place (omega arith) in omega arith
+    let n = near_least c.args.self.now c.args.self.now.within c.args.place (omega arith) in
+    omega arith
 
 pub returns-else-least-self : goal.returns-else-least-self
 returns-else-least-self c =

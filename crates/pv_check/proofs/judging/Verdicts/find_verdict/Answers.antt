@@ -12,5 +12,6 @@ returns c = on_ok c.spend.result (λ root before after kids finds notes whole.
     let ended = ended_list list c.args.outer.now kids in
     c.spend.ensures s g root (before ++ ended_list list c.args.outer.now kids ∷ after)
     (c.in_ok-add.ensures s g root before after (ended_list list c.args.outer.now kids) finds
-    (first_so_far s g root before after (ended_list list c.args.outer.now kids) list.before notes c.requires.first)
+    (first_so_far s g root before after (ended_list list c.args.outer.now kids) list.before notes
+    c.requires.first)
     (c.in_ok-judged.ensures kids whole root (path_in c.args.outer.now)) (rw c.deref.ensures.value c.in_ok-places.ensures)))

@@ -18,7 +18,8 @@ returns-then-is_narrow c = λ root before after kids finds notes whole.
     narrow_behind c.args.self.now.widths (dtd_of c.args.self.now.judge.now) root before after
     (ended_list c.args.list.now c.args.outer.now kids) c.args.list.now.before notes
     c.args.found.now _ finds c.requires.behind refl refl refl
-    (subst (FitsWithin c.args.self.now.widths g) (word_length whole) (c.is_narrow.ensures.0 c.if-is_narrow.true)) refl
+    (subst (FitsWithin c.args.self.now.widths g) (word_length whole)
+    (c.is_narrow.ensures.0 c.if-is_narrow.true)) refl
 
 pub returns : goal.returns
 returns c = λ root before after kids finds notes whole.
@@ -26,5 +27,7 @@ returns c = λ root before after kids finds notes whole.
     found_behind c.args.self.now.widths (dtd_of c.args.self.now.judge.now) root before after
     (ended_list c.args.list.now c.args.outer.now kids) c.args.list.now.before notes
     c.args.found.now _ finds c.requires.behind refl refl refl _ c.if-list.false
-    (λ narrow. not_both c.is_narrow.result c.if-is_narrow.false (c.is_narrow.ensures.1 (subst (FitsWithin c.args.self.now.widths g) (sym (word_length whole)) narrow))) refl
+    (λ narrow. not_both c.is_narrow.result c.if-is_narrow.false
+    (c.is_narrow.ensures.1 (subst (FitsWithin c.args.self.now.widths g)
+    (sym (word_length whole)) narrow))) refl
     (c.in_ok-new.ensures ∙ c.deref.ensures.value ∙ c.in_ok-places.ensures)

@@ -12,21 +12,27 @@ use Rattle.pv_complete.proofs.writing.by_verdict.pieces_of_lists.Goals as goal
 
 pub loop-lists-init : goal.loop-lists-init
 loop-lists-init c = record {
-  found = λ are. rw (c.of-lists.ensures.lists, c.new-pieces.ensures.items) (found_none (dtd_of c.args.layout.now.grammar.now) c.args.root.now (lists_of (plain_doc c.args.doc.now))
+  found =
+      λ are. rw (c.of-lists.ensures.lists, c.new-pieces.ensures.items)
+      (found_none (dtd_of c.args.layout.now.grammar.now) c.args.root.now
+      (lists_of (plain_doc c.args.doc.now))
       c.args.verdicts.now.verdicts are);
   light = λ l. rw c.of-lists.ensures.lists l;
 }
 
 pub next_pieces-requires-clause-next : goal.next_pieces-requires-clause-next
 next_pieces-requires-clause-next c =
-    let left = come_to c.loop-lists.lists c.next.new.self _ c.in-Some.list c.in-Some.is c.in_ok-list.ensures.given in
+    let left = come_to c.loop-lists.lists c.next.new.self _ c.in-Some.list c.in-Some.is
+    c.in_ok-list.ensures.given in
     ∥∥₁_map c.requires.light (λ h.
     record {
       root = c.args.root.now;
       list = list_given (path_come_to c.next.new.self) c.in-Some.list;
       more = left_by c.next.new.self;
       is_kids = refl;
-      is_owner = c.owner_under-owner.ensures (list_given (path_come_to c.next.new.self) c.in-Some.list) refl;
+      is_owner =
+          c.owner_under-owner.ensures (list_given (path_come_to c.next.new.self) c.in-Some.list)
+          refl;
       verdicts = rw left at (c.loop-lists.invariant.found h.verdicts).verdicts;
       light = (rw left at (c.loop-lists.invariant.light h.light)).0;
     })
@@ -38,15 +44,23 @@ loop-lists-preserved c =
     let vs = c.args.verdicts.now.verdicts in
     let list = list_given (path_come_to c.next.new.self) c.in-Some.list in
     let rest = left_by c.next.new.self in
-    let left = come_to c.loop-lists.lists c.next.new.self _ c.in-Some.list c.in-Some.is c.in_ok-list.ensures.given in
+    let left = come_to c.loop-lists.lists c.next.new.self _ c.in-Some.list c.in-Some.is
+    c.in_ok-list.ensures.given in
     record {
-      found = λ are. found_more d root (lists_of (plain_doc c.args.doc.now)) vs list rest c.loop-lists.used c.next_pieces.new.used c.loop-lists.pieces.items c.push.new.self.items c.in_ok-next.next
-          c.in_ok-push.ensures.items (rw left at (c.loop-lists.invariant.found are)) (c.in_ok-next.ensures root list rest refl (c.owner_under-owner.ensures list refl));
+      found =
+          λ are. found_more d root (lists_of (plain_doc c.args.doc.now)) vs list rest
+          c.loop-lists.used c.next_pieces.new.used c.loop-lists.pieces.items c.push.new.self.items
+          c.in_ok-next.next
+          c.in_ok-push.ensures.items (rw left at (c.loop-lists.invariant.found are))
+          (c.in_ok-next.ensures root list rest refl (c.owner_under-owner.ensures list refl));
       light = λ l. (rw left at (c.loop-lists.invariant.light l)).1;
     }
 
 pub returns : goal.returns
 returns c = λ are.
-    let none = come_to_none c.loop-lists.lists c.next.new.self _ c.in_default.is c.in_ok-list.ensures.given in
-    found_all (dtd_of c.args.layout.now.grammar.now) c.args.root.now (lists_of (plain_doc c.args.doc.now)) c.args.verdicts.now.verdicts c.loop-lists.used (plain_lists c.loop-lists.pieces.items)
+    let none = come_to_none c.loop-lists.lists c.next.new.self _ c.in_default.is
+    c.in_ok-list.ensures.given in
+    found_all (dtd_of c.args.layout.now.grammar.now) c.args.root.now
+    (lists_of (plain_doc c.args.doc.now)) c.args.verdicts.now.verdicts c.loop-lists.used
+    (plain_lists c.loop-lists.pieces.items)
     (rw none at (c.loop-lists.invariant.found are))

@@ -2,7 +2,8 @@ use Rattle.pv_productive.specs.PlainForms.{dtd_of}
 use Rattle.pv_complete.proofs.writing.completion.complete_by.Goals as goal
 
 pub complete_under-requires-clause-known : goal.complete_under-requires-clause-known
-complete_under-requires-clause-known c = c.with_pieces-known.ensures (dtd_of c.in_ok-layout.layout.grammar.now)
+complete_under-requires-clause-known c =
+    c.with_pieces-known.ensures (dtd_of c.in_ok-layout.layout.grammar.now)
 
 pub complete_under-requires-clause-verdicts : goal.complete_under-requires-clause-verdicts
 complete_under-requires-clause-verdicts c = rw c.in_ok-layout.ensures c.requires.verdicts

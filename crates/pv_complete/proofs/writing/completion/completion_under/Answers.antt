@@ -37,9 +37,11 @@ numbers_of-requires c =
     rw c.as_slice.ensures.value
     (λ k d lt. ∥∥₁_elim c.requires.verdicts le_prop (λ live.
     few_marks (dtd_of c.args.layout.now.grammar.now) c.args.root.now doc c.args.count marks body c.args.doc.now.small
-    (least_completion (dtd_of c.args.layout.now.grammar.now) c.args.root.now doc c.args.verdicts.now.verdicts (plain_lists c.in_ok-lists.lists.items) c.args.count marks body
+    (least_completion (dtd_of c.args.layout.now.grammar.now) c.args.root.now doc
+    c.args.verdicts.now.verdicts (plain_lists c.in_ok-lists.lists.items) c.args.count marks body
     (proper dtd) (dtd_names dtd) c.every_view_is_written_law.ensures c.tags_extend_law.ensures c.possible_weights_law.ensures c.proper_doc_law.ensures (doc_writable c.args.doc.now)
-    c.requires.names (doc_epilog c.args.doc.now) (c.requires.needs live) live.verdicts (c.in_ok-lists.ensures live.verdicts) (rw (c.dtd-2.ensures, c.deref.ensures.value)
+    c.requires.names (doc_epilog c.args.doc.now) (c.requires.needs live) live.verdicts
+    (c.in_ok-lists.ensures live.verdicts) (rw (c.dtd-2.ensures, c.deref.ensures.value)
     at c.in_ok-text.ensures)) k d lt))
 
 pub returns-clause-completed : goal.returns-clause-completed
@@ -47,25 +49,33 @@ returns-clause-completed c = λ live.
     let dtd = c.args.layout.now.grammar.now.layout.dtd in
     rw (c.of.ensures, c.in_ok-marks.ensures, c.as_slice.ensures.value, c.of-2.ensures)
     (least_completion (dtd_of c.args.layout.now.grammar.now) c.args.root.now
-    (plain_doc c.args.doc.now) c.args.verdicts.now.verdicts (plain_lists c.in_ok-lists.lists.items) c.args.count
+    (plain_doc c.args.doc.now) c.args.verdicts.now.verdicts (plain_lists c.in_ok-lists.lists.items)
+    c.args.count
     c.in_ok-text.text.marks.items c.in_ok-text.text.body.items
     (proper dtd) (dtd_names dtd) c.every_view_is_written_law.ensures c.tags_extend_law.ensures c.possible_weights_law.ensures c.proper_doc_law.ensures (doc_writable c.args.doc.now)
-    c.requires.names (doc_epilog c.args.doc.now) (c.requires.needs live) live.verdicts (c.in_ok-lists.ensures live.verdicts) (rw (c.dtd-2.ensures, c.deref.ensures.value) at c.in_ok-text.ensures))
+    c.requires.names (doc_epilog c.args.doc.now) (c.requires.needs live) live.verdicts
+    (c.in_ok-lists.ensures live.verdicts) (rw (c.dtd-2.ensures, c.deref.ensures.value) at
+    c.in_ok-text.ensures))
 
 pub returns-clause-written : goal.returns-clause-written
 returns-clause-written c = λ live.
     let dtd = c.args.layout.now.grammar.now.layout.dtd in
     rw c.of-2.ensures
-    (grown_text (dtd_of c.args.layout.now.grammar.now) c.args.root.now (plain_doc c.args.doc.now) c.args.verdicts.now.verdicts (plain_lists c.in_ok-lists.lists.items)
+    (grown_text (dtd_of c.args.layout.now.grammar.now) c.args.root.now (plain_doc c.args.doc.now)
+    c.args.verdicts.now.verdicts (plain_lists c.in_ok-lists.lists.items)
     c.in_ok-text.text.marks.items c.in_ok-text.text.body.items
-    (proper dtd) (dtd_names dtd) c.proper_doc_law.ensures (doc_writable c.args.doc.now) (c.in_ok-lists.ensures live.verdicts) (rw (c.dtd-2.ensures, c.deref.ensures.value) at c.in_ok-text.ensures))
+    (proper dtd) (dtd_names dtd) c.proper_doc_law.ensures (doc_writable c.args.doc.now)
+    (c.in_ok-lists.ensures live.verdicts) (rw (c.dtd-2.ensures, c.deref.ensures.value) at
+    c.in_ok-text.ensures))
 
 pub returns-clause-bounded : goal.returns-clause-bounded
 returns-clause-bounded c = λ live.
     let dtd = c.args.layout.now.grammar.now.layout.dtd in
     rw c.of-2.ensures
-    (bounded_text (dtd_of c.args.layout.now.grammar.now) c.args.root.now (plain_doc c.args.doc.now) c.args.verdicts.now.verdicts (plain_lists c.in_ok-lists.lists.items)
+    (bounded_text (dtd_of c.args.layout.now.grammar.now) c.args.root.now (plain_doc c.args.doc.now)
+    c.args.verdicts.now.verdicts (plain_lists c.in_ok-lists.lists.items)
     c.args.count c.in_ok-text.text.marks.items c.in_ok-text.text.body.items
     (proper dtd) (dtd_names dtd) c.every_view_is_written_law.ensures c.tags_extend_law.ensures c.possible_weights_law.ensures c.proper_doc_law.ensures (doc_writable c.args.doc.now)
-    c.requires.names (doc_epilog c.args.doc.now) (c.requires.needs live) live.verdicts (c.in_ok-lists.ensures live.verdicts) (rw (c.dtd-2.ensures, c.deref.ensures.value)
+    c.requires.names (doc_epilog c.args.doc.now) (c.requires.needs live) live.verdicts
+    (c.in_ok-lists.ensures live.verdicts) (rw (c.dtd-2.ensures, c.deref.ensures.value)
     at c.in_ok-text.ensures) (short_names dtd) c.args.doc.now.formed)

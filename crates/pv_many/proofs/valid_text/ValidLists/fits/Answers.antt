@@ -8,4 +8,5 @@ use Rattle.pv_many.proofs.valid_text.ValidLists.fits.Goals as goal
 pub returns-in-Empty : goal.returns-in-Empty
 returns-in-Empty c = λ owner kids is has word.
     fits_empty (plain_dtd c.args.self.now.dtd.now) owner kids c.args.has_kids
-    (sym is ∙ ap (λ m. option_map plain_model (option_copied m)) c.in-Some.is ∙ ap (λ m. Some (plain_model m)) (sym c.model.ensures ∙ c.in-Empty.is)) has
+    (sym is ∙ ap (λ m. option_map plain_model (option_copied m)) c.in-Some.is
+    ∙ ap (λ m. Some (plain_model m)) (sym c.model.ensures ∙ c.in-Empty.is)) has

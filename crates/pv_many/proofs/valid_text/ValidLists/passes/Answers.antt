@@ -17,9 +17,14 @@ pub returns : goal.returns
 returns c = λ kids whole.
     let g = plain_dtd c.args.self.now.dtd.now in
     let list = c.args.list.now in
-    let long : length c.args.word.now ≡ length (word_of g (forest_of kids)) = sym (length-map c.args.word.now _) ∙ ap length whole.is_word in
+    let long : length c.args.word.now ≡ length (word_of g (forest_of kids)) = sym
+    (length-map c.args.word.now _) ∙ ap length whole.is_word in
     IfOk-weaker c.fits.result _ _
-    (λ fits is yes. (is.0 yes, subst (FitsVerdict g) long (c.is_narrow.ensures.0 c.if-not-is_narrow.false)))
+    (λ fits is yes. (
+      is.0 yes,
+      subst (FitsVerdict g) long
+          (c.is_narrow.ensures.0 c.if-not-is_narrow.false),
+    ))
     (c.fits.ensures (number_of g list.name.now) (forest_of kids)
     (c.model_by.ensures list.name.now whole.is_token)
     (some_kids kids list.kids _ whole.is_count (Decides-ltb 0 list.kids)) whole.is_word)

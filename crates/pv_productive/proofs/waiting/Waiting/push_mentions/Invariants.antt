@@ -5,7 +5,8 @@ use Rattle.pv_productive.proofs.waiting.Waiting.push_mentions.Given as goal
 -- each mention stands before the last one
 abbrev pub invariant-loop-mention : goal.invariant-loop-mention
 invariant-loop-mention l = record {
-  few : vec_len l.self.ready + option_map_or suc l.mention 0 ≤ vec_len l.initial.self.ready + 4294967296;
+  few : vec_len l.self.ready + option_map_or suc l.mention 0
+      ≤ vec_len l.initial.self.ready + 4294967296;
   kept : heap_len l.self.choices ≡ heap_len l.initial.self.choices;
 }
 

@@ -9,7 +9,9 @@ returns c =
     let visit : Visit = record { column = c.args.column; next = c.first.result } in
     let joined = on_trail_more chains old.trail.items visit in
     let most = numbers_most chains c.first.result in
-    let within : c.args.column < length old.entered.items = omega (arith, c.if-column-len.false, c.len.ensures, old.entered.ok) in
-    let free : get_or old.entered.items c.args.column false ≡ false = sym (rw c.if-index.false at c.index.ensures) in
+    let within : c.args.column < length old.entered.items = omega
+    (arith, c.if-column-len.false, c.len.ensures, old.entered.ok) in
+    let free : get_or old.entered.items c.args.column false ≡
+    false = sym (rw c.if-index.false at c.index.ensures) in
     let entered = entered_more chains old.entered.items c.args.column within free in
     rw c.in_ok-push.ensures.items (omega arith)
