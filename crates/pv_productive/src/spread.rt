@@ -60,6 +60,24 @@ fn climb(
     Ok(())
 }
 
+/// Lowers the sizes of the parts that wait, each once, and those of what comes to wait with them.
+fn climb_all(
+    layout: &Layout,
+    links: &Links,
+    sizes: &mut Sizes,
+    waiting: &mut Waiting,
+) -> Result<(), NoMemory>
+    requires { IsAttained (plain_dtd layout.now.dtd) (table_of sizes.old) }
+    ensures { IsAttained (plain_dtd layout.now.dtd) (table_of sizes.new) }
+{
+    while let Some(number) = waiting.pop() {
+        if sizes.of_part(number) == NO_SIZE {
+            climb(layout, links, number, sizes, waiting)?;
+        }
+    }
+    Ok(())
+}
+
 /// Lowers all sizes to the least, each once. What needs no element, or only itself, is found in one
 /// pass over all sites.
 pub fn spread(alloc: Global, layout: &Layout, sizes: &mut Sizes) -> Result<(), NoMemory>
@@ -68,11 +86,8 @@ pub fn spread(alloc: Global, layout: &Layout, sizes: &mut Sizes) -> Result<(), N
 {
     lower_all(layout, sizes);
     let links = Links::of(alloc, layout)?;
-    let mut waiting = Waiting::of(alloc, layout, &links, sizes)?;
-    while let Some(number) = waiting.pop() {
-        if sizes.of_part(number) == NO_SIZE {
-            climb(layout, &links, number, sizes, &mut waiting)?;
-        }
+    match Waiting::of(alloc, layout, &links, sizes) {
+        Ok(mut waiting) => climb_all(layout, &links, sizes, &mut waiting),
+        Err(error) => Err(error),
     }
-    Ok(())
 }
