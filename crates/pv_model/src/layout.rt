@@ -118,18 +118,31 @@ fn lay_out_in_order(
         [only] => lay_out(alloc, only, places),
         _ => {
             let (front, back) = parts.split_at(parts.len() / 2);
-            let first = lay_out_in_order(alloc, front, places)?;
+            let first = box_in_order(alloc, front, places)?;
             let middle = places.count();
-            let second = lay_out_in_order(alloc, back, places)?;
+            let second = box_in_order(alloc, back, places)?;
             Ok(ModelLayout::InOrder {
                 middle,
                 first_may_be_empty: first.may_be_empty(),
                 second_may_be_empty: second.may_be_empty(),
-                first: Box::new(alloc, first)?,
-                second: Box::new(alloc, second)?,
+                first,
+                second,
             })
         }
     }
+}
+
+#[cycle(lay_out)]
+fn box_in_order(
+    alloc: Global,
+    parts: &[Part],
+    places: &mut Places,
+) -> Result<Box<ModelLayout>, NoMemory>
+    ensures { IfOk result (λ l.
+        IsLaidOut (seq (plain_parts parts.now)) (plain_layout l.value) places.old places.new) }
+{
+    let layout = lay_out_in_order(alloc, parts, places)?;
+    Ok(Box::new(alloc, layout)?)
 }
 
 #[cycle(lay_out)]
@@ -146,14 +159,27 @@ fn lay_out_choice(
         [only] => lay_out(alloc, only, places),
         _ => {
             let (front, back) = parts.split_at(parts.len() / 2);
-            let first = lay_out_choice(alloc, front, places)?;
+            let first = box_choice(alloc, front, places)?;
             let middle = places.count();
-            let second = lay_out_choice(alloc, back, places)?;
+            let second = box_choice(alloc, back, places)?;
             Ok(ModelLayout::Either {
                 middle,
-                first: Box::new(alloc, first)?,
-                second: Box::new(alloc, second)?,
+                first,
+                second,
             })
         }
     }
+}
+
+#[cycle(lay_out)]
+fn box_choice(
+    alloc: Global,
+    parts: &[Part],
+    places: &mut Places,
+) -> Result<Box<ModelLayout>, NoMemory>
+    ensures { IfOk result (λ l.
+        IsLaidOut (choice (plain_parts parts.now)) (plain_layout l.value) places.old places.new) }
+{
+    let layout = lay_out_choice(alloc, parts, places)?;
+    Ok(Box::new(alloc, layout)?)
 }

@@ -12,5 +12,11 @@ decreases-lay_out_rounds l = 2 * weight (plain_part l.inner.now) + 1
 abbrev pub decreases-lay_out_in_order : goal.decreases-lay_out_in_order
 decreases-lay_out_in_order l = 2 * weights (plain_parts l.parts.now) + 1
 
+abbrev pub decreases-box_in_order : goal.decreases-box_in_order
+decreases-box_in_order l = 2 * weights (plain_parts l.parts.now) + 2
+
+abbrev pub decreases-box_choice : goal.decreases-box_choice
+decreases-box_choice l = 2 * weights (plain_parts l.parts.now) + 2
+
 abbrev pub decreases-lay_out_choice : goal.decreases-lay_out_choice
 decreases-lay_out_choice l = 2 * weights (plain_parts l.parts.now) + 1
