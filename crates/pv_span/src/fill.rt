@@ -3,7 +3,8 @@
 ghost use Rattle.std.specs.Prelude.{◌≡◌, ◌<◌, ◌^◌, ℕ, IfOk, OnOk, length, map};
 ghost use Rattle.pv_model.specs.PlainForms.{plain_token};
 ghost use Rattle.pv_productive.specs.Tables.{no_size, size_at};
-ghost use Rattle.pv_span.specs.Charts.{AreSettled, IsFilled};
+ghost use Rattle.pv_span.specs.Charts.{AreSettled, HasDone, IsFilled};
+ghost use Rattle.pv_span.specs.DoneSpans.{rows_done};
 ghost use Rattle.pv_layout.specs.FormForms.{plain_all};
 ghost use Rattle.pv_layout.specs.Mentions.{AreTold};
 ghost use Rattle.pv_span.specs.PlainForms.{DiffersInRow, IsAttainedSoFar, plain_chart};
@@ -49,8 +50,36 @@ fn fill_next(
     fill_span(forms, mentions, names, word, waiting, chart)
 }
 
-/// The values of all columns over all spans of a word: those over each span are found in the order
-/// of their size, and settled then. So many columns, the first ones, are of names.
+/// Finds the values over the spans that aren't done: those over each span are found in the order of
+/// their size, and settled then. So many columns, the first ones, are of names.
+fn fill_spans(
+    alloc: Global,
+    forms: &[Form],
+    mentions: &Mentions,
+    names: u32,
+    word: &[Token],
+    chart: &mut Chart,
+) -> Result<(), NoMemory>
+    requires short { length word.now < 2 ^ 13 }
+    requires few { length forms.now < 2 ^ 32 }
+    requires told { ∥ AreTold (plain_all forms.now) mentions.now ∥₁ }
+    requires begun { HasDone (plain_all forms.now) (map plain_token word.now)
+        (length (rows_done chart.old.done)) (plain_chart chart.old) }
+    ensures { OnOk result (IsFilled (plain_all forms.now) (map plain_token word.now)
+        (plain_chart chart.new)) }
+{
+    let mut waiting = Waiting::new(alloc, forms.len())?;
+    let mut repeats = Repeats::new(alloc, word.len() as u32)?;
+    'spans: while !chart.is_full() {
+        repeats.go_to(word, chart.from);
+        fill_next(forms, mentions, names, word, &repeats, &mut waiting, chart)?;
+        chart.next();
+    }
+    Ok(())
+}
+
+/// The values of all columns over all spans of a word. So many columns, the first ones, are of
+/// names.
 fn fill(
     alloc: Global,
     forms: &[Form],
@@ -67,21 +96,7 @@ fn fill(
     let tokens = word.len() as u32;
     let lines = lines_of(alloc, forms, tokens)?;
     let mut chart = Chart::new(alloc, tokens, forms.len() as u32, lines)?;
-    let mut waiting = Waiting::new(alloc, forms.len())?;
-    let mut repeats = Repeats::new(alloc, tokens)?;
-    'spans: while !chart.is_full() {
-        repeats.go_to(word, chart.from);
-        fill_next(
-            forms,
-            mentions,
-            names,
-            word,
-            &repeats,
-            &mut waiting,
-            &mut chart,
-        )?;
-        chart.next();
-    }
+    fill_spans(alloc, forms, mentions, names, word, &mut chart)?;
     Ok(chart)
 }
 

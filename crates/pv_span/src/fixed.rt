@@ -18,9 +18,8 @@ ghost use Rattle.pv_span.specs.declared.errors.SpanError.TheVariants.{TooWide as
 
 use crate::errors::SpanError;
 use crate::fill::chart_of;
-use crate::membership::derives;
-use crate::owners::{ListOwner, is_known_owner};
-use crate::verdict::judge;
+use crate::owners::is_known_owner;
+use crate::verdict::{is_possible, judge};
 use crate::weighing::{Spans, is_narrow};
 use pv_layout::{SiteColumns, lay_out};
 use pv_missing::{Of, live_word};
@@ -83,13 +82,7 @@ pub fn member<L: Ledger>(
     if !is_known_owner(grammar, of) {
         return Ok(false);
     }
-    let layout = lay_out(alloc, grammar)?;
-    let owner = ListOwner {
-        layout: &layout,
-        of,
-    };
-    let derives = derives(alloc, &owner, word)?;
-    Ok(derives)
+    Ok(is_possible(alloc, grammar, of, word)?)
 }
 
 /// The verdict of a list: `owner` is `None` where the DTD doesn't have the name of the element that

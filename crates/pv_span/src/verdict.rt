@@ -110,7 +110,12 @@ fn is_valid(
 }
 
 /// Whether an owner that the grammar has may hold a list of this live word.
-fn is_possible(alloc: Global, grammar: &Grammar, of: Of, live: &[Token]) -> Result<bool, NoMemory>
+pub(crate) fn is_possible(
+    alloc: Global,
+    grammar: &Grammar,
+    of: Of,
+    live: &[Token],
+) -> Result<bool, NoMemory>
     requires known { HasSite (dtd_of grammar.now) (plain_of of) }
     requires productive { AreProductiveTokens (dtd_of grammar.now) (map plain_token live.now) }
     requires fits { FitsWeights (dtd_of grammar.now) (length live.now) }

@@ -8,7 +8,7 @@ use Rattle.pv_layout.specs.FormForms.{plain_all}
 use Rattle.pv_span.specs.PlainForms.{plain_chart}
 use Rattle.pv_span.proofs.RowsAcrossColumns.{rows_count}
 use Rattle.pv_span.proofs.FinishedSpans.{filled, put_next, ready_begun, room_left}
-use Rattle.pv_span.proofs.fill.fill.Goals as goal
+use Rattle.pv_span.proofs.fill.fill_spans.Goals as goal
 
 pub fill_next-requires-clause-attained : goal.fill_next-requires-clause-attained
 fill_next-requires-clause-attained c =

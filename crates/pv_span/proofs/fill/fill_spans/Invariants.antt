@@ -5,7 +5,7 @@ use Rattle.pv_span.specs.DoneSpans.{rows_done}
 use Rattle.pv_layout.specs.FormForms.{plain_all}
 use Rattle.pv_span.specs.PlainForms.{plain_chart}
 use Rattle.pv_span.specs.Repeats.{AreSameTokens}
-use Rattle.pv_span.proofs.fill.fill.Given as goal
+use Rattle.pv_span.proofs.fill.fill_spans.Given as goal
 
 abbrev pub invariant-spans : goal.invariant-spans
 invariant-spans l = record {
