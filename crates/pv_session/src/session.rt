@@ -173,12 +173,12 @@ impl Session {
     {
         leads_back_law::<()>();
         other_marks_law::<u64, ()>();
-        let Ok(made) = edit.copy(self.alloc) else {
-            return Err(EditAnswer::NoMemory);
-        };
         if make_room(&mut self.past, &mut self.ways_back).is_err() {
             return Err(EditAnswer::NoMemory);
         }
+        let Ok(made) = edit.copy(self.alloc) else {
+            return Err(EditAnswer::NoMemory);
+        };
         let moves = next_move(self.moves);
         let (done, way_back) = self.marked.edit(edit, moves, steps)?;
         self.marked.holdable_law();
