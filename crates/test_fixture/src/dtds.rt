@@ -1,4 +1,4 @@
-//! The DTDs of the rows, and a document, under plain names.
+//! The DTDs of the rows, a document and a pack, under plain names.
 
 /// An article of sections with paragraphs and lists.
 pub const ARTICLE: &str = "<!ELEMENT doc (head, sec+)>
@@ -24,22 +24,6 @@ Cafés opened early. See <![CDATA[<menu>]]> below.
 </sec>
 <?page 2?>
 </doc>
-";
-
-/// What `show` replies on it.
-pub const REALISTIC_SHOWN: &str = "show 252
-<?xml version=\"1.0\" encoding=\"UTF-8\"?>
-<!DOCTYPE doc SYSTEM \"a.dtd\">
-<!-- draft -->
-<doc id=\"d1\">
-<head>On caf&#233;s</head>
-<sec class='intro'>
-Cafés opened early. See <![CDATA[<menu>]]> below.
-<em>Tea</em> came later.<br />
-</sec>
-<?page 2?>
-</doc>
-
 ";
 
 /// One element of text.
@@ -94,3 +78,20 @@ pub const DOUBLING: &str =
      <!ELEMENT t12 (t13,t13)><!ELEMENT t13 (t14,t14)><!ELEMENT t14 (t15,t15)>\
      <!ELEMENT t15 (t16,t16)><!ELEMENT t16 (t17,t17)><!ELEMENT t17 (t18,t18)>\
      <!ELEMENT t18 (t19,t19)><!ELEMENT t19 (t20,t20)><!ELEMENT t20 EMPTY>";
+
+/// The pack of an element `a` that needs another one, `b`.
+pub const ONE_MISSING: &str = "pvpack 1
+total 1
+mark 1
+body 14
+<a><b></b></a>
+list 0
+c 0 0 0 1
+c 1 0 0 0
+n 0 0 0 2
+n 1 0 0 1
+p 0 0 0 1
+p 1 0 0 1
+s 1 0 0 1
+end
+";

@@ -14,3 +14,5 @@ mod rematch;
 mod script;
 #[cfg(test)]
 mod standoff;
+#[cfg(test)]
+mod tokens;

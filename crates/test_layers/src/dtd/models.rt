@@ -1,6 +1,7 @@
 //! Content models, and the words that they allow.
 
 use crate::dtd::expectations::expect;
+use crate::tokens::push_tokens;
 use pv_dtd::{Dtd, read_dtd};
 use pv_model::{NameId, Names, NoMemory, Token, matches};
 use std::alloc::Global;
@@ -24,24 +25,10 @@ fn agrees(alloc: Global, dtd: &Dtd, word: &[Token], allowed: bool) -> Result<boo
     }
 }
 
-/// A letter is an element, `#` data, and `?` an element of a name that the DTD doesn't have. The
-/// names `a`, `b` and `c` are declared, and `d` isn't.
-fn token_of(byte: u8) -> Token {
-    match byte {
-        b'a' => Token::Name(NameId(1)),
-        b'b' => Token::Name(NameId(2)),
-        b'c' => Token::Name(NameId(3)),
-        b'd' => Token::Name(NameId(4)),
-        b'#' => Token::Text,
-        _ => Token::Other,
-    }
-}
-
-fn tokens(alloc: Global, text: &str) -> Result<Vec<Token>, NoMemory> {
+/// The word that a text is. Of the names `a`, `b` and `c` are declared, and `d` isn't.
+fn tokens(alloc: Global, text: &str) -> Result<Vec<Token>, Fail> {
     let mut word = Vec::new(alloc);
-    for byte in text.bytes() {
-        word.push(token_of(byte))?;
-    }
+    push_tokens(&mut word, text)?;
     Ok(word)
 }
 
@@ -86,7 +73,7 @@ fn check_words(
     dtd: &Dtd,
     words: &[&'static str],
     allowed: bool,
-) -> Result<(), NoMemory> {
+) -> Result<(), Fail> {
     for text in words {
         let word = tokens(alloc, *text)?;
         let agrees = agrees(alloc, dtd, &word, allowed)?;

@@ -1,7 +1,8 @@
 //! Changes of a word, at random.
 
-use crate::rematch::models::{Board, push_tokens};
+use crate::rematch::models::Board;
 use crate::rematch::random::Random;
+use crate::tokens::push_tokens;
 use pv_model::Token;
 use std::alloc::Global;
 use std::test::Fail;

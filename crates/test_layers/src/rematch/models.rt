@@ -1,7 +1,7 @@
-//! Content models, and tokens of their words.
+//! Content models, with words that they go on with.
 
 use pv_dtd::{Dtd, read_dtd};
-use pv_model::{LaidModel, NameId, Token};
+use pv_model::{LaidModel, NameId};
 use std::alloc::Global;
 use std::test::Fail;
 
@@ -89,24 +89,4 @@ pub fn model_of(dtd: &Dtd) -> Result<&LaidModel, Fail> {
         dtd.laid_model_of(NameId(0))
             .ok_or("a name without a model")?,
     )
-}
-
-// A letter is an element, `#` data, and `?` an element of a name that the DTD doesn't have.
-fn token_of(byte: u8) -> Token {
-    match byte {
-        b'a' => Token::Name(NameId(1)),
-        b'b' => Token::Name(NameId(2)),
-        b'c' => Token::Name(NameId(3)),
-        b'd' => Token::Name(NameId(4)),
-        b'#' => Token::Text,
-        _ => Token::Other,
-    }
-}
-
-/// Puts the tokens of a text after a word.
-pub fn push_tokens(word: &mut Vec<Token>, text: &str) -> Result<(), Fail> {
-    for byte in text.bytes() {
-        word.push(token_of(byte))?;
-    }
-    Ok(())
 }

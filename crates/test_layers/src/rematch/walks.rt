@@ -1,8 +1,9 @@
 //! Matches of words that change, each against the match of the whole word.
 
 use crate::rematch::changes::{Change, changed, random_change};
-use crate::rematch::models::{BOARDS, Board, model_of, push_tokens, with_model};
+use crate::rematch::models::{BOARDS, Board, model_of, with_model};
 use crate::rematch::random::Random;
+use crate::tokens::push_tokens;
 use pv_model::{LaidModel, Token};
 use pv_rematch::{Turn, WordChange, WordMatch};
 use std::alloc::Global;

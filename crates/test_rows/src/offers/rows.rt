@@ -1,20 +1,11 @@
 //! Rows of `offer` in a session.
 
-use crate::runs::rows::check_run;
-use crate::runs::runs::{Given, Piece};
-use pv_cli::Status;
+use crate::runs::rows::{Script, check_scripts};
 use std::test::Fail;
-use std::thread::Threads;
-use test_fixture::dtds::ARTICLE;
-
-// A document, a script, and the replies of a session on it.
-type Row = (&'static str, &'static str, &'static str);
-
-const WORDS: &[&str] = &["session", "a.dtd", "doc", "d.xml"];
 
 const HELLO: &str = "<doc>Hello</doc>";
 
-static OFFERS: [Row; 9] = [
+static OFFERS: [Script; 9] = [
     (
         HELLO,
         "offer 0 0 1\n",
@@ -71,21 +62,7 @@ static OFFERS: [Row; 9] = [
     ),
 ];
 
-// A session on each row's document gives its replies.
-fn check<R: AllocGlobal + Threads + Sync>(rt: &R, rows: &[Row]) -> Result<(), Fail> {
-    for (doc, script, replies) in rows {
-        let files: [(&'static str, &'static str); 2] = [("a.dtd", ARTICLE), ("d.xml", *doc)];
-        let given = Given {
-            input: script.as_bytes(),
-            piece: Piece { size: 65_536 },
-            ..Given::plain(WORDS, &files)
-        };
-        check_run(rt, *script, &given, Status::Done, replies.as_bytes())?;
-    }
-    Ok(())
-}
-
 #[test]
 fn offers(rt: HostRuntime) -> Result<(), Fail> {
-    check(&rt, &OFFERS)
+    check_scripts(&rt, &OFFERS, 65_536)
 }

@@ -31,70 +31,41 @@ const MAX_NODES: u64 = 33_554_432;
 // A DTD, a root and a document.
 type Texts = (&'static str, &'static str, &'static str);
 
-// What is asked of a document, the line of an edit but for its name, and how many names are
-// offered.
+// A document, an edit without its name and the place of it, and how many names are offered there.
 type Row = (Texts, &'static str, &'static str, usize);
 
 const SWAPPED: Texts = (ARTICLE, "doc", "<doc><sec/><head/></doc>");
 
 const HELLO: Texts = (ARTICLE, "doc", "<doc>Hello</doc>");
 
+const PARAGRAPH: Texts = (ARTICLE, "doc", "<doc><p>a</p></doc>");
+
 const MARKED: Texts = (ARTICLE, "doc", REALISTIC);
 
 static ROWS: [Row; 16] = [
-    (HELLO, "offer 0 0 1", "wrap 0 0 1", 7),
-    ((ARTICLE, "doc", "<p>a</p>"), "offer . 0 1", "wrap . 0 1", 4),
-    (
-        (ARTICLE, "doc", "<doc><p>a</p></doc>"),
-        "offer 0.0",
-        "rename 0.0",
-        7,
-    ),
-    (
-        (ARTICLE, "doc", "<doc><p>a</p></doc>"),
-        "offer 0",
-        "rename 0",
-        4,
-    ),
+    (HELLO, "wrap", "0 0 1", 7),
+    ((ARTICLE, "doc", "<p>a</p>"), "wrap", ". 0 1", 4),
+    (PARAGRAPH, "rename", "0.0", 7),
+    (PARAGRAPH, "rename", "0", 4),
     // An impossible document.
-    (SWAPPED, "offer 0 0 1", "wrap 0 0 1", 1),
-    (SWAPPED, "offer 0 0 2", "wrap 0 0 2", 8),
-    (SWAPPED, "offer 0.0", "rename 0.0", 9),
+    (SWAPPED, "wrap", "0 0 1", 1),
+    (SWAPPED, "wrap", "0 0 2", 8),
+    (SWAPPED, "rename", "0.0", 9),
     (
         (ARTICLE, "doc", "<doc><br>x</br></doc>"),
-        "offer 0.0",
-        "rename 0.0",
+        "rename",
+        "0.0",
         9,
     ),
-    (
-        (ARTICLE, "doc", "<u><v/></u>"),
-        "offer 0.0",
-        "rename 0.0",
-        9,
-    ),
+    ((ARTICLE, "doc", "<u><v/></u>"), "rename", "0.0", 9),
     // Names that are only mentioned aren't offered.
-    (
-        (ANY_OR_ENDLESS, "a", "<a><a/>x</a>"),
-        "offer 0 0 2",
-        "wrap 0 0 2",
-        1,
-    ),
-    (
-        (ANY_OR_ENDLESS, "a", "<a><b/>x</a>"),
-        "offer 0.0",
-        "rename 0.0",
-        2,
-    ),
-    ((MIXED, "a", "<a>x<b/></a>"), "offer 0.1", "rename 0.1", 1),
-    (
-        (NESTED, "x", "<x><y/><y/><y/></x>"),
-        "offer 0 1 2",
-        "wrap 0 1 2",
-        0,
-    ),
-    (MARKED, "offer 0.3 0 3", "wrap 0.3 0 3", 5),
-    (MARKED, "offer 0.3.3", "rename 0.3.3", 4),
-    (MARKED, "offer 0.3 0 0", "wrap 0.3 0 0", 6),
+    ((ANY_OR_ENDLESS, "a", "<a><a/>x</a>"), "wrap", "0 0 2", 1),
+    ((ANY_OR_ENDLESS, "a", "<a><b/>x</a>"), "rename", "0.0", 2),
+    ((MIXED, "a", "<a>x<b/></a>"), "rename", "0.1", 1),
+    ((NESTED, "x", "<x><y/><y/><y/></x>"), "wrap", "0 1 2", 0),
+    (MARKED, "wrap", "0.3 0 3", 5),
+    (MARKED, "rename", "0.3.3", 4),
+    (MARKED, "wrap", "0.3 0 0", 6),
 ];
 
 // A session on a document.
@@ -124,8 +95,9 @@ fn begin<L: Ledger>(alloc: Global, texts: Texts, steps: &mut Steps<L>) -> Result
     begin_on(alloc, grammar, root.as_bytes(), doc, steps)
 }
 
-// What a line asks for.
-fn ask_of(alloc: Global, line: &str) -> Result<Ask, Fail> {
+// The question what is offered at a place.
+fn ask_of(alloc: Global, place: &str) -> Result<Ask, Fail> {
+    let line = format!(in alloc; "offer {place}")?;
     match read_command(alloc, line.as_bytes())? {
         Command::Offer(ask) => Ok(ask),
         _ => Err(Fail::new("no question")),
@@ -206,13 +178,15 @@ fn check_offered<R: AllocGlobal + Threads + Sync, L: Ledger>(
     steps: &mut Steps<L>,
 ) -> Result<(), Fail> {
     let alloc = rt.alloc();
-    let ask = ask_of(alloc, row.1)?;
+    let (_, verb, place, count) = row;
+    let line = format!(in alloc; "{verb} {place}")?;
+    let ask = ask_of(alloc, place)?;
     let offered = offer(rt, alloc, session.marked(), &ask)?;
     let names = offered.as_slice();
-    if names.len() != row.3 {
-        return Err(Fail::new(format_args!("{}: another number of names", row.1)));
+    if names.len() != *count {
+        return Err(Fail::new(format_args!("{line}: another number of names")));
     }
-    try_each(alloc, session, row.2, names, steps)
+    try_each(alloc, session, &line, names, steps)
 }
 
 // What a session on the row's document offers, against each name.

@@ -2,13 +2,12 @@
 
 ghost use Rattle.std.specs.Prelude.{◌≡◌, ◌≤◌, ◌%◌};
 
-use crate::runs::rows::check_run;
-use crate::runs::runs::{Given, Piece};
+use crate::runs::rows::{check_run, check_session};
+use crate::runs::runs::Given;
 use pv_cli::Status;
 use pv_drill::{drill_doc, drill_dtd, drill_line};
 use std::alloc::Global;
 use std::test::Fail;
-use std::thread::Threads;
 
 // How many sections the document has.
 const SECTIONS: u32 = 20_000;
@@ -56,25 +55,6 @@ fn replies(alloc: Global) -> Result<String, Fail> {
     Ok(replies)
 }
 
-// A session on these files has these replies, 65,536 bytes coming and going at once.
-fn check_session<'a, R: AllocGlobal + Threads + Sync>(
-    rt: &R,
-    dtd: &'a str,
-    doc: &'a str,
-    script: &[u8],
-    replies: &[u8],
-) -> Result<(), Fail> {
-    let words: [&'a str; 4] = ["session", "a.dtd", "doc", "d.xml"];
-    let files: [(&'a str, &'a str); 2] = [("a.dtd", dtd), ("d.xml", doc)];
-    let given = Given {
-        input: script,
-        piece: Piece { size: 65_536 },
-        room: 1_048_576,
-        ..Given::plain(&words, &files)
-    };
-    check_run(rt, "the largest session", &given, Status::Done, replies)
-}
-
 #[test]
 fn the_largest_session(rt: HostRuntime) -> Result<(), Fail> {
     let alloc = rt.alloc();
@@ -83,7 +63,15 @@ fn the_largest_session(rt: HostRuntime) -> Result<(), Fail> {
     let doc = str::from_utf8(&text).ok().ok_or("the document")?;
     let script = script(alloc)?;
     let replies = replies(alloc)?;
-    check_session(&rt, dtd, doc, &script, replies.as_bytes())
+    let texts = (dtd, "doc", doc);
+    check_session(
+        &rt,
+        "the largest session",
+        texts,
+        &script,
+        replies.as_bytes(),
+        65_536,
+    )
 }
 
 #[test]

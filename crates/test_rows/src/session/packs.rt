@@ -4,26 +4,9 @@ use crate::runs::rows::{Row, check_rows};
 use pv_cli::Status;
 use std::test::Fail;
 use test_fixture::documents::nested;
-use test_fixture::dtds::{ARTICLE, DOUBLING};
+use test_fixture::dtds::{ARTICLE, DOUBLING, ONE_MISSING};
 
 const PAIR: &str = "<!ELEMENT a (b)> <!ELEMENT b EMPTY>";
-
-// The pack of an element that needs another one.
-const ONE_MISSING: &str = "pvpack 1
-total 1
-mark 1
-body 14
-<a><b></b></a>
-list 0
-c 0 0 0 1
-c 1 0 0 0
-n 0 0 0 2
-n 1 0 0 1
-p 0 0 0 1
-p 1 0 0 1
-s 1 0 0 1
-end
-";
 
 static PACKS: [Row<'static>; 8] = [
     (PAIR, "a", "<a/>", Status::Done, ONE_MISSING),

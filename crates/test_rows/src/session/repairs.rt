@@ -1,11 +1,11 @@
 //! Rows of sessions on impossible documents, which they repair.
 
-use crate::session::scripts::{Row, check};
+use crate::runs::rows::{Script, check_scripts};
 use std::test::Fail;
 
 const SWAPPED: &str = "<doc><sec/><head/></doc>";
 
-static REPAIRS: [Row; 8] = [
+static REPAIRS: [Script; 8] = [
     (
         SWAPPED,
         "need\nwrap 0 0 1 br\nunwrap 0.1\nneed\nundo\nverdicts\n",
@@ -45,5 +45,5 @@ static REPAIRS: [Row; 8] = [
 
 #[test]
 fn repairs(rt: HostRuntime) -> Result<(), Fail> {
-    check(&rt, &REPAIRS, 65_536)
+    check_scripts(&rt, &REPAIRS, 65_536)
 }

@@ -2,13 +2,13 @@
 
 ghost use Rattle.std.specs.Prelude.{◌<◌};
 
-use crate::runs::rows::check_run;
+use crate::runs::rows::{Script, check_run, check_scripts, check_session};
 use crate::runs::runs::{Given, Piece};
 use pv_cli::Status;
 use std::alloc::{AllocError, Global};
 use std::test::Fail;
 use std::thread::Threads;
-use test_fixture::dtds::{ARTICLE, REALISTIC, REALISTIC_SHOWN};
+use test_fixture::dtds::{ARTICLE, REALISTIC};
 
 const WORDS: &[&str] = &["session", "a.dtd", "doc", "d.xml"];
 
@@ -63,10 +63,7 @@ Cafés opened early. See <![CDATA[<menu>]]> below.
 
 ";
 
-/// A document and a script, and the output of a session on them.
-pub type Row = (&'static str, &'static str, &'static str);
-
-static SCRIPTS: [Row; 15] = [
+static SCRIPTS: [Script; 14] = [
     (
         VALID,
         "show\n",
@@ -79,7 +76,6 @@ static SCRIPTS: [Row; 15] = [
     (HELLO, "show\r\r\n", "show 16\n<doc>Hello</doc>\n"),
     (HELLO, "show \nundo\n", "no command\nno history\n"),
     (" <doc\n/> ", "show\nquit\nshow", "show 9\n <doc\n/> \n"),
-    (REALISTIC, "show\n", REALISTIC_SHOWN),
     (
         HELLO,
         "wrap 0 0 1 br\nshow\n",
@@ -112,30 +108,17 @@ static SCRIPTS: [Row; 15] = [
     (REALISTIC, MARKUP, MARKED),
 ];
 
-/// A session on each row's document gives its replies, where so many bytes come and go at once.
-pub fn check<R: AllocGlobal + Threads + Sync>(
-    rt: &R,
-    rows: &[Row],
-    piece: usize,
-) -> Result<(), Fail>
-    requires { 0 < piece }
-{
-    for (doc, script, replies) in rows {
-        let files: [(&'static str, &'static str); 2] = [("a.dtd", ARTICLE), ("d.xml", *doc)];
-        let given = Given {
-            input: script.as_bytes(),
-            piece: Piece { size: piece },
-            ..Given::plain(WORDS, &files)
-        };
-        check_run(rt, *script, &given, Status::Done, replies.as_bytes())?;
-    }
-    Ok(())
+#[test]
+fn scripts(rt: HostRuntime) -> Result<(), Fail> {
+    check_scripts(&rt, &SCRIPTS, 1)?;
+    check_scripts(&rt, &SCRIPTS, 65_536)
 }
 
 #[test]
-fn scripts(rt: HostRuntime) -> Result<(), Fail> {
-    check(&rt, &SCRIPTS, 1)?;
-    check(&rt, &SCRIPTS, 65_536)
+fn a_document_is_shown(rt: HostRuntime) -> Result<(), Fail> {
+    let texts = (ARTICLE, "doc", REALISTIC);
+    let shown = format!(in rt.alloc(); "show {}\n{}\n", REALISTIC.len(), REALISTIC)?;
+    check_session(&rt, "show", texts, b"show\n", shown.as_bytes(), 1)
 }
 
 const FILES: &[(&str, &str)] = &[("a.dtd", ARTICLE), ("d.xml", HELLO)];

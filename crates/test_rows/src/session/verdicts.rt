@@ -1,10 +1,11 @@
 //! Rows of `verdicts` after each kind of move: the verdict of each list, and the number of the move
 //! that changed it last.
 
-use crate::session::scripts::{HELLO, Row, check};
+use crate::runs::rows::{Script, check_scripts};
+use crate::session::scripts::HELLO;
 use std::test::Fail;
 
-static MOVES: [Row; 10] = [
+static MOVES: [Script; 10] = [
     (
         HELLO,
         "wrap 0 0 1 head\nverdicts\n\
@@ -130,5 +131,5 @@ static MOVES: [Row; 10] = [
 
 #[test]
 fn moves(rt: HostRuntime) -> Result<(), Fail> {
-    check(&rt, &MOVES, 65_536)
+    check_scripts(&rt, &MOVES, 65_536)
 }

@@ -1,8 +1,7 @@
 //! Lists at the limits of width and one past them: for verdicts, under a DTD of 4,000 names, and
 //! for weights.
 
-use crate::runs::rows::{check_rows, check_run};
-use crate::runs::runs::Given;
+use crate::runs::rows::{check_rows, check_session};
 use pv_cli::Status;
 use std::alloc::{AllocError, Global};
 use std::test::Fail;
@@ -46,42 +45,21 @@ fn lists_among_many_names(rt: HostRuntime) -> Result<(), Fail> {
     Ok(())
 }
 
-// A session on these files, of a DTD and a document, has these replies to a script.
-fn check_session<'a, R: AllocGlobal + Threads + Sync>(
-    rt: &R,
-    root: &'a str,
-    dtd: &'a str,
-    doc: &'a str,
-    script: &str,
-    replies: &str,
-) -> Result<(), Fail> {
-    let words: [&'a str; 4] = ["session", "a.dtd", root, "d.xml"];
-    let files: [(&'a str, &'a str); 2] = [("a.dtd", dtd), ("d.xml", doc)];
-    let given = Given {
-        input: script.as_bytes(),
-        ..Given::plain(&words, &files)
-    };
-    check_run(rt, script, &given, Status::Done, replies.as_bytes())
-}
-
 #[test]
 fn one_text_more(rt: HostRuntime) -> Result<(), Fail> {
     let alloc = rt.alloc();
     let dtd = many_names(alloc, "")?;
     let widest = repeated(alloc, 8_386, "<r>", "x<!---->", "</r>")?;
-    check_session(
-        &rt,
-        "r",
-        dtd.as_str(),
-        widest.as_str(),
-        "addtext 0 0 y\nhistory\nverdicts\n",
-        "no limit\nhistory 0\nverdicts 2\n. valid 0\n0 valid 0\n",
-    )
+    let script = b"addtext 0 0 y\nhistory\nverdicts\n";
+    let replies = b"no limit\nhistory 0\nverdicts 2\n. valid 0\n0 valid 0\n";
+    let texts = (dtd.as_str(), "r", widest.as_str());
+    check_session(&rt, "one text more", texts, script, replies, 1)
 }
 
 // One section more is too many, as the rows of `need` say.
 #[test]
 fn the_widest_list_for_weights(rt: HostRuntime) -> Result<(), Fail> {
     let doc = repeated(rt.alloc(), 1_056, "<doc>", "<sec/>", "</doc>")?;
-    check_session(&rt, "doc", ARTICLE, doc.as_str(), "need\n", "need 1\n")
+    let texts = (ARTICLE, "doc", doc.as_str());
+    check_session(&rt, "the widest list", texts, b"need\n", b"need 1\n", 1)
 }

@@ -1,6 +1,6 @@
 //! Rows of documents: what is read, and the first item in fault of what isn't.
 
-use crate::runs::rows::{Row, check_rows, check_run};
+use crate::runs::rows::{check_rows, check_run};
 use crate::runs::runs::Given;
 use pv_cli::Status;
 use std::alloc::{AllocError, Global};
@@ -144,11 +144,13 @@ static TOLD: [(&str, &str); 14] = [
 
 fn check_refused<R: AllocGlobal + Threads + Sync>(
     rt: &R,
+    dtd: &str,
+    root: &str,
     rows: &[(&str, &str)],
 ) -> Result<(), Fail> {
     for (doc, fault) in rows {
         let line = format!(in rt.alloc(); "document {fault}\n")?;
-        check_rows(rt, "valid", &[(ANY, "a", *doc, BAD, line.as_str())])?;
+        check_rows(rt, "valid", &[(dtd, root, *doc, BAD, line.as_str())])?;
     }
     Ok(())
 }
@@ -172,52 +174,22 @@ fn documents(rt: HostRuntime) -> Result<(), Fail> {
         check_rows(&rt, "valid", &[(ANY, "a", *doc, DONE, "valid\n")])?;
         check_shown(&rt, *doc)?;
     }
-    check_refused(&rt, &REFUSED)?;
-    check_refused(&rt, &TOLD)
+    check_refused(&rt, ANY, "a", &REFUSED)?;
+    check_refused(&rt, ANY, "a", &TOLD)
 }
 
-static FAULTS: [Row<'static>; 6] = [
-    (
-        ARTICLE,
-        "doc",
-        "<doc><head>a</head><se",
-        BAD,
-        "document syntax 4\n",
-    ),
-    (
-        ARTICLE,
-        "doc",
-        "<doc><head></doc>",
-        BAD,
-        "document mismatch 2\n",
-    ),
-    (
-        ARTICLE,
-        "doc",
-        "<doc>&nbsp;</doc>",
-        BAD,
-        "document entity 1\n",
-    ),
-    (
-        ARTICLE,
-        "doc",
-        "<!DOCTYPE doc [<!ELEMENT doc ANY>]><doc/>",
-        BAD,
-        "document subset\n",
-    ),
-    (
-        ARTICLE,
-        "doc",
-        "<!DOCTYPE p><p/>",
-        BAD,
-        "document doctype\n",
-    ),
-    (ARTICLE, "doc", "", BAD, "document syntax 0\n"),
+static FAULTS: [(&str, &str); 6] = [
+    ("<doc><head>a</head><se", "syntax 4"),
+    ("<doc><head></doc>", "mismatch 2"),
+    ("<doc>&nbsp;</doc>", "entity 1"),
+    ("<!DOCTYPE doc [<!ELEMENT doc ANY>]><doc/>", "subset"),
+    ("<!DOCTYPE p><p/>", "doctype"),
+    ("", "syntax 0"),
 ];
 
 #[test]
 fn faults(rt: HostRuntime) -> Result<(), Fail> {
-    check_rows(&rt, "valid", &FAULTS)
+    check_refused(&rt, ARTICLE, "doc", &FAULTS)
 }
 
 // What stands before and after 5,000 times a digit.

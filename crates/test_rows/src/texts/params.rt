@@ -7,29 +7,18 @@ use pv_cli::Status;
 use std::test::Fail;
 use std::thread::Threads;
 
-const DONE: Status = Status::Done;
-
-const BAD_DTD: Status = Status::BadDtd;
-
 static PUT_IN_PLACE: [Row; 5] = [
-    (
-        "<!ENTITY % x \"y\">",
-        DONE,
-        "types 0 parts 0 undeclared 0\n",
-    ),
+    ("<!ENTITY % x \"y\">", "types 0 parts 0 undeclared 0\n"),
     (
         "<!ENTITY % inline \"em|br\"><!ELEMENT p (#PCDATA|%inline;)*>",
-        DONE,
         "p mixed 1\ntypes 1 parts 2 undeclared 2\n",
     ),
     (
         "<!ENTITY % m \"EMPTY\"><!ENTITY % m \"ANY\"><!ELEMENT a %m;>",
-        DONE,
         "a empty 1\ntypes 1 parts 0 undeclared 0\n",
     ),
     (
         "<!ENTITY % xx '&#37;zz;'><!ENTITY % zz '&#60;!ELEMENT a EMPTY>'>%xx;",
-        DONE,
         "a empty 1\ntypes 1 parts 0 undeclared 0\n",
     ),
     (
@@ -44,33 +33,23 @@ static PUT_IN_PLACE: [Row; 5] = [
 <!ELEMENT list (item, item+)>
 <!ELEMENT item (p+)>
 ",
-        DONE,
         "doc children 3\nhead mixed 1\nsec children 1\ntitle mixed 1\np mixed 1\nem mixed 1\n\
          br empty 1\nlist children 5\nitem children 2\ntypes 9 parts 21 undeclared 0\n",
     ),
 ];
 
 static FAULTS: [Row; 8] = [
-    (
-        "<!ENTITY % r \"&#37;r;\">%r;",
-        BAD_DTD,
-        "dtd param recursive\n",
-    ),
-    ("<!ELEMENT a (%b;)>", BAD_DTD, "dtd param undeclared\n"),
-    ("<!ELEMENT a ANY>%p;", BAD_DTD, "dtd param undeclared\n"),
-    (
-        "<!ENTITY % e SYSTEM \"e.mod\">",
-        BAD_DTD,
-        "dtd param external\n",
-    ),
-    ("<![INCLUDE[]]>", BAD_DTD, "dtd param conditional\n"),
+    ("<!ENTITY % r \"&#37;r;\">%r;", "dtd param recursive\n"),
+    ("<!ELEMENT a (%b;)>", "dtd param undeclared\n"),
+    ("<!ELEMENT a ANY>%p;", "dtd param undeclared\n"),
+    ("<!ENTITY % e SYSTEM \"e.mod\">", "dtd param external\n"),
+    ("<![INCLUDE[]]>", "dtd param conditional\n"),
     (
         "<!ENTITY % x \"<!ELEMENT a \">%x;EMPTY>",
-        BAD_DTD,
         "dtd param syntax\n",
     ),
-    ("<!ELEMENT a (% b)>", BAD_DTD, "dtd parameter 0\n"),
-    ("<!ATTLIST a b CDATA %>", BAD_DTD, "dtd parameter 0\n"),
+    ("<!ELEMENT a (% b)>", "dtd parameter 0\n"),
+    ("<!ATTLIST a b CDATA %>", "dtd parameter 0\n"),
 ];
 
 // Sixteen entities, each of which refers twice to the one before, and a reference to one of the
@@ -108,8 +87,8 @@ fn check_doubled<R: AllocGlobal + Threads + Sync>(
 
 #[test]
 fn rows(rt: HostRuntime) -> Result<(), Fail> {
-    check(&rt, &PUT_IN_PLACE)?;
-    check(&rt, &FAULTS)?;
-    check_doubled(&rt, "%e15;", DONE, "types 0 parts 0 undeclared 0\n")?;
+    check(&rt, Status::Done, &PUT_IN_PLACE)?;
+    check(&rt, Status::BadDtd, &FAULTS)?;
+    check_doubled(&rt, "%e15;", Status::Done, "types 0 parts 0 undeclared 0\n")?;
     check_doubled(&rt, "%e16;", Status::Limit, "limit params\n")
 }
