@@ -113,7 +113,8 @@ module _ (g : PlainDtd) where
         events = old_start (codes "<" ++ x ++ attrs ++ codes "/>") ∷ [];
         appends = appends_after old mid new _ body marks begun a;
         goes_on =
-            λ rs es h. put_bare x attrs m k ps inside old.lists mid.lists rs es _ awaits takes no_tag
+            λ rs es h. put_bare x attrs m k ps inside old.lists mid.lists rs es _ awaits takes
+            no_tag
             refl (rw u at h);
       })
 
@@ -154,5 +155,6 @@ module _ (g : PlainDtd) where
         events = all.events;
         appends = all.appends;
         fills =
-            rw append-nil at (all.goes_on new.lists [] (put_end os new.lists new.lists awaits refl));
+            rw append-nil at (all.goes_on new.lists []
+            (put_end os new.lists new.lists awaits refl));
       }

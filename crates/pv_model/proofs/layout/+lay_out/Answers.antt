@@ -20,15 +20,18 @@ box_choice-returns t c = rw c.in_ok-new.ensures.ok c.in_ok-layout.ensures
 pub box_in_order-returns : goal.box_in_order-returns
 box_in_order-returns t c = rw c.in_ok-new.ensures.ok c.in_ok-layout.ensures
 
-pub lay_out_choice-returns-in_ok-second-in_default : goal.lay_out_choice-returns-in_ok-second-in_default
+pub lay_out_choice-returns-in_ok-second-in_default :
+    goal.lay_out_choice-returns-in_ok-second-in_default
 lay_out_choice-returns-in_ok-second-in_default t c =
     IsLaidOut-either _ c.args.parts.now _ _ _ _ _ _ c.count-middle.ensures (rw c.split_at.ensures.front at c.in_ok-first-in_default.ensures)
     (rw c.split_at.ensures.back at c.in_ok-second-in_default.ensures)
 
-pub lay_out_in_order-returns-in_ok-second-in_default : goal.lay_out_in_order-returns-in_ok-second-in_default
+pub lay_out_in_order-returns-in_ok-second-in_default :
+    goal.lay_out_in_order-returns-in_ok-second-in_default
 lay_out_in_order-returns-in_ok-second-in_default t c =
     IsLaidOut-in_order _ c.args.parts.now _ _ _ _ _ _ c.count-middle.ensures _ _
-    (rw c.deref.ensures at c.may_be_empty.ensures) (rw c.deref-in_default.ensures at c.may_be_empty-in_default.ensures)
+    (rw c.deref.ensures at c.may_be_empty.ensures)
+    (rw c.deref-in_default.ensures at c.may_be_empty-in_default.ensures)
     (rw c.split_at.ensures.front at c.in_ok-first-in_default.ensures) (rw c.split_at.ensures.back at c.in_ok-second-in_default.ensures)
 
 pub lay_out_choice-box_choice-requires : goal.lay_out_choice-box_choice-requires
@@ -37,7 +40,8 @@ lay_out_choice-box_choice-requires t c =
     let less : weights (plain_parts c.split_at.result.0.now) < weights (plain_parts parts) = rw c.split_at.ensures.front (first_half-< (length parts / 2) parts (omega arith)) in
     (omega (arith, less, c.decreases), tt)
 
-pub lay_out_choice-box_choice-requires-in_default : goal.lay_out_choice-box_choice-requires-in_default
+pub lay_out_choice-box_choice-requires-in_default :
+    goal.lay_out_choice-box_choice-requires-in_default
 lay_out_choice-box_choice-requires-in_default t c =
     let parts = c.args.parts.now in
     let less : weights (plain_parts c.split_at.result.1.now) < weights (plain_parts parts) = rw c.split_at.ensures.back (second_half-< (length parts / 2) parts (omega arith) (omega arith)) in
@@ -49,7 +53,8 @@ lay_out_in_order-box_in_order-requires t c =
     let less : weights (plain_parts c.split_at.result.0.now) < weights (plain_parts parts) = rw c.split_at.ensures.front (first_half-< (length parts / 2) parts (omega arith)) in
     (omega (arith, less, c.decreases), tt)
 
-pub lay_out_in_order-box_in_order-requires-in_default : goal.lay_out_in_order-box_in_order-requires-in_default
+pub lay_out_in_order-box_in_order-requires-in_default :
+    goal.lay_out_in_order-box_in_order-requires-in_default
 lay_out_in_order-box_in_order-requires-in_default t c =
     let parts = c.args.parts.now in
     let less : weights (plain_parts c.split_at.result.1.now) < weights (plain_parts parts) = rw c.split_at.ensures.back (second_half-< (length parts / 2) parts (omega arith) (omega arith)) in

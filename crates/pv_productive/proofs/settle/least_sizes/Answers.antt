@@ -9,5 +9,7 @@ use Rattle.pv_productive.proofs.settle.least_sizes.Goals as goal
 pub returns : goal.returns
 returns c =
     let r = c.lower_all.ensures in
-    sizes (plain_dtd c.args.layout.now.dtd) (proper c.args.layout.now.dtd) (table_of c.lower_all.new.sizes) r.attained
-    (subst (IsSettled (plain_dtd c.args.layout.now.dtd)) (sym (r.same c.loop-test.false)) (r.settled c.loop-test.false))
+    sizes (plain_dtd c.args.layout.now.dtd) (proper c.args.layout.now.dtd)
+    (table_of c.lower_all.new.sizes) r.attained
+    (subst (IsSettled (plain_dtd c.args.layout.now.dtd)) (sym (r.same c.loop-test.false))
+    (r.settled c.loop-test.false))
