@@ -6,6 +6,9 @@ from typing import IO
 
 from .rows import JUDGED, Head, Row, head_of, row_of, titles
 
+# So many bytes of rows are read together.
+MOST_BYTES = 16_384
+
 
 class Earlier:
     """The rows of a report by the documents' paths. Only where each row stands is kept; a line that isn't whole is passed over. It is looked for where
@@ -48,12 +51,21 @@ class Earlier:
         return row if row is not None and row.path == path else None
 
     def lines(self, paths: Iterable[str]) -> Iterator[bytes]:
-        """The rows of these documents as they stand there."""
+        """The rows of these documents as they stand there. Most stand there one after another, so that some are read together."""
+        block, begin = b"", 0
         for path in paths:
             place = self.places.get(path)
-            line = self.line_at(place) if place is not None else None
-            if line is not None:
-                yield line + b"\n"
+            if place is None or self.file is None:
+                continue
+            at = place - begin
+            end = block.find(b"\n", at) if at >= 0 else -1
+            if end < 0:
+                line = self.line_at(place)
+                if line is not None:
+                    yield line + b"\n"
+                block, begin = os.pread(self.file.fileno(), MOST_BYTES, place), place
+            else:
+                yield block[at:end + 1]
 
     def line_at(self, place: int) -> bytes | None:
         """The line that begins there, if it is whole. Several threads may read at once."""

@@ -23,9 +23,12 @@ from pvtag.reasons import Reasons
 from .earlier import sum_of
 from .many import Many, find_many
 from .rows import Head, Row, shown
+from .runs import Turn
 
 # The program reads no document of more bytes.
 MOST_BYTES = 67_108_864
+# The verdicts of documents whose attributes are looked at.
+SHOWN = ("valid", "possible", "impossible")
 # So many DTDs with a root are kept.
 MOST_KEPT = 200
 # What may be a name of XML, and is one where the program takes it.
@@ -86,7 +89,7 @@ class Judge:
         self.program, self.options, self.need, self.most = program, options, options.need, options.most
         # What is asked where a list is too wide: for `need`, or to be tagged at all.
         self.long = find_long(program)
-        self.many = Many(find_many(program))
+        self.many, self.turn = Many(find_many(program)), Turn()
         self.finder, self.lock, self.known = Finder(program), threading.Lock(), dict[tuple[str, str], Under]()
         self.given_pair = self.checked_pair(*pair) if pair is not None else None
 
@@ -167,7 +170,7 @@ class Judge:
     def with_attributes(self, row: Row, given: Given) -> Row:
         """The row with what libxml2 says of attributes, and what is to be said of entities."""
         masked, attributes = given.masked, given.under.attributes
-        if masked is None or row.verdict not in ("valid", "possible", "impossible"):
+        if masked is None or row.verdict not in SHOWN:
             return row
         brought = masked.fault or next((it for it in masked.remarks if it.kind == "brings"), None)
         if brought is not None:
@@ -184,6 +187,15 @@ class Judge:
         for remark in masked.remarks[:1]:
             row = self.with_sentence(row, masked, remark.span, remark.sentence)
         return row
+
+    def has_no_attributes(self, given: Given) -> bool:
+        """Whether a document has nothing of which libxml2 is to be asked, and nothing to be said of entities."""
+        masked = given.masked
+        return masked is not None and masked.is_plain and (not self.options.attributes or given.under.attributes.are_none(masked.data))
+
+    def with_no_attributes(self, row: Row) -> Row:
+        """The row of such a document."""
+        return row._replace(attributes="valid", faults=0) if self.options.attributes and row.verdict in SHOWN else row
 
     def with_sentence(self, row: Row, masked: Masked, span: Span | None, sentence: str) -> Row:
         """The row with this sentence, where it has none."""

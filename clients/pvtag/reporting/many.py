@@ -1,5 +1,6 @@
 """Documents judged by few processes: `pvmany`, which reads a DTD once and answers one document after another."""
 import contextlib
+import functools
 import os
 import select
 import subprocess
@@ -13,6 +14,8 @@ from pvtag.program import RUNNING, Answer, Stopped, is_made, is_utf_8
 MOST_IDLE = 64
 # So many bytes of names are given to one at a time: less than a pipe holds.
 MOST_GIVEN = 16_384
+# Who waits for several lines takes together those that come within so many seconds of the first: each is written by itself.
+MOMENT = 0.004
 # The status with which `pvtag` prints a line, by how the line begins. Any other line is asked of `pvtag` itself.
 STATUSES = {b"valid": 0, b"possible": 0, b"impossible": 1, b"document": 7, b"limit": 8, b"need": 0, b"no impossible": 0, b"no wide": 0, b"no heavy": 0}
 
@@ -44,7 +47,7 @@ class Process:
     """One `pvmany`, with its words: a question, a DTD and a root."""
 
     def __init__(self, program: list[str], words: tuple[str, str, str]) -> None:
-        self.words, self.held = words, b""
+        self.words, self.held, self.since = words, b"", 0.0
         self.run = RUNNING.start([*program, *words], stderr=subprocess.DEVNULL)
 
     def give(self, names: Sequence[bytes]) -> None:
@@ -55,18 +58,24 @@ class Process:
             self.run.stdin.flush()
         except OSError:
             raise Died from None
+        self.since = time.monotonic()
 
-    def lines(self, names: Sequence[bytes], end: float) -> list[bytes]:
-        """The lines for the first of these documents, as many as are there; none where none is by then. Where the process ends it has died."""
+    def lines(self, names: Sequence[bytes], most: float) -> list[bytes]:
+        """The lines for the first of these documents, those that come together; none where none comes within so many seconds. Where the process ends it
+        has died."""
         assert self.run.stdout
-        while True:
-            found = self.whole_lines(names)
-            if found or not select.select([self.run.stdout], [], [], max(end - time.monotonic(), 0))[0]:
-                return found
+        end, found = time.monotonic() + most, self.whole_lines(names)
+        while not found and select.select([self.run.stdout], [], [], max(end - time.monotonic(), 0))[0]:
+            if len(names) > 1:
+                # The others come as quickly as the first, about.
+                time.sleep(min((time.monotonic() - self.since) * (len(names) - 1), MOMENT))
             more = os.read(self.run.stdout.fileno(), 65536)
             if not more:
                 raise Died
             self.held += more
+            found = self.whole_lines(names)
+        self.since = time.monotonic()
+        return found
 
     def whole_lines(self, names: Sequence[bytes]) -> list[bytes]:
         """The lines for the first of these documents that have come whole."""
@@ -138,7 +147,7 @@ class Many:
         at, last = 0, None
         try:
             process.give(names)
-            while at < len(names) and (lines := process.lines(names[at:], time.monotonic() + most)):
+            while at < len(names) and (lines := process.lines(names[at:], most)):
                 at += len(lines)
                 yield [answer_of(line) for line in lines]
             if at == len(names):
@@ -162,6 +171,7 @@ class Many:
             process.end()
 
 
+@functools.lru_cache(maxsize=256)
 def answer_of(line: bytes) -> Answer | None:
     """The answer that a line is; none where `pvtag` has no such line."""
     status = status_of(line)

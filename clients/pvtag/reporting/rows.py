@@ -4,8 +4,7 @@ import io
 import json
 import re
 from collections.abc import Iterable
-from dataclasses import asdict, dataclass
-from typing import ClassVar, NamedTuple
+from typing import NamedTuple
 
 from pvtag.program import CONTROLS
 
@@ -19,12 +18,13 @@ FAILING = ("impossible", "refused", "invalid", "attributes")
 CONTROL = re.compile(f"[{CONTROLS}]|[\udc80-\udcff]")
 ESCAPED = re.compile(rf"[\\{CONTROLS}]|[\udc80-\udcff]")
 UNESCAPED = re.compile(r"\\(?:([\\tnr])|x([0-9a-f]{2})|u([0-9a-f]{4}))")
+# What a head begins with, and the version of a report's form.
+MARK, VERSION = "pvtag-report", 2
 LETTERS = {"\\": "\\", "\t": "t", "\n": "n", "\r": "r"}
 PLAIN = {letter: char for char, letter in LETTERS.items()}
 
 
-@dataclass(frozen=True)
-class Head:
+class Head(NamedTuple):
     """What the rows of a report rest on: the sums of the DTD and of the program, the root, whether missing elements were counted, whether
     attributes were looked at, and whether each document was judged by the DTD that it names: then the DTD and the root are those of the others,
     "" where none were given."""
@@ -35,14 +35,12 @@ class Head:
     need: bool
     attributes: bool
     by_doctype: bool
-    MARK: ClassVar[str] = "pvtag-report"
-    VERSION: ClassVar[int] = 2
 
     def line(self, form: str) -> str | None:
         """The line for it. A table for others, in CSV, has none."""
         if form == "csv":
             return None
-        told = {self.MARK: self.VERSION, **asdict(self)}
+        told = {MARK: VERSION, **self._asdict()}
         return json.dumps(told) if form == "json" else f"# {json.dumps(told)}"
 
 
@@ -77,11 +75,12 @@ class Row(NamedTuple):
 
     def text(self, form: str) -> str:
         """The line, without its end."""
-        values = zip(NAMES, self)
         if form == "json":
-            return json.dumps({name: value for name, value in values if value is not None}).replace("\x7f", "\\u007f")
+            # As `json.dumps` writes an object, in half of the time.
+            values = [begin + (QUOTED(value) if type(value) is str else repr(value)) for begin, value in zip(BEGINS, self) if value is not None]
+            return f"{{{', '.join(values)}}}".replace("\x7f", "\\u007f")
         if form == "csv":
-            return comma_line("" if value is None else no_formula(name, escaped(str(value))) for name, value in values)
+            return comma_line("" if value is None else no_formula(name, escaped(str(value))) for name, value in zip(NAMES, self))
         return "\t".join("" if value is None else escaped(str(value)) for value in self)
 
 
@@ -93,6 +92,9 @@ def kinds_of(row: Row) -> set[str]:
 
 
 NAMES = list(Row._fields)
+# What stands before each value of a JSON object.
+QUOTED = json.JSONEncoder().encode
+BEGINS = [f'"{name}": ' for name in NAMES]
 KINDS = {name: float if name == "seconds" else int if name in ("size", "time", "open", "missing", "line", "column", "faults") else str for name in NAMES}
 
 
@@ -130,12 +132,12 @@ def head_of(line: str) -> Head | None:
     """The head that a line is, if it is one."""
     try:
         told = json.loads(line.removeprefix("# "))
-        if told.pop(Head.MARK) != Head.VERSION:
+        if told.pop(MARK) != VERSION:
             return None
         head = Head(**told)
     except (ValueError, KeyError, TypeError, AttributeError, RecursionError):
         return None
-    return head if [type(it) for it in asdict(head).values()] == [str, str, str, bool, bool, bool] else None
+    return head if [type(it) for it in head] == [str, str, str, bool, bool, bool] else None
 
 
 def row_of(line: str, form: str) -> Row | None:

@@ -1,4 +1,5 @@
 """Documents judged side by side, with no more in hand than some for each job."""
+import contextlib
 import queue
 import threading
 import time
@@ -10,7 +11,9 @@ from .rows import Row
 
 
 # So many documents a job takes at a time at most; fewer once few are left, so that all jobs end together.
-MOST_TAKEN = 32
+MOST_TAKEN = 64
+# So many seconds a thread waits for its turn at most.
+PATIENCE = 0.02
 # Rows, each with its document's place.
 Found = list[tuple[int, Row]]
 
@@ -60,6 +63,24 @@ class Runs:
             begin = self.taken
             self.taken += min(MOST_TAKEN, -(-(count - begin) // (4 * self.jobs)))
             return range(begin, self.taken)
+
+
+class Turn:
+    """Lets one thread after another do what Python does in one thread at a time anyway: those that try it side by side hand its lock from one to the
+    other at each call of the system. None waits for long: a device may not answer."""
+
+    def __init__(self) -> None:
+        self.lock = threading.Lock()
+
+    @contextlib.contextmanager
+    def taken(self) -> Iterator[None]:
+        """This thread's turn, or what comes without one."""
+        is_taken = self.lock.acquire(timeout=PATIENCE)
+        try:
+            yield
+        finally:
+            if is_taken:
+                self.lock.release()
 
 
 class InOrder:

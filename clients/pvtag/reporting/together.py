@@ -8,7 +8,6 @@ import time
 from collections import deque
 from collections.abc import Iterator, Sequence
 
-from pvtag.encodings import encoding_fault
 from pvtag.program import Answer, Trouble
 
 from .judging import MOST_BYTES, Given, Judge, given, identity, seen_of
@@ -17,6 +16,8 @@ from .runs import Found
 
 # No further document is read beside so many bytes of others.
 MOST_HELD = 4_194_304
+# What is raised where a file is gone.
+GONE = (OSError, ValueError, Trouble)
 
 
 class Case:
@@ -39,7 +40,8 @@ class Together:
         left = deque(enumerate(paths))
         while left:
             with contextlib.ExitStack() as copies:
-                found, cases = self.begun(left, copies)
+                with self.judge.turn.taken():
+                    found, cases = self.begun(left, copies)
                 if found:
                     yield found
                 yield from self.judged(cases)
@@ -76,7 +78,7 @@ class Together:
         try:
             under = self.judge.under_of(path, data)
         except Trouble as trouble:
-            encoded = encoding_fault(data) if data is not None else None
+            encoded = why_not_utf_8(data) if data is not None else None
             return row._replace(verdict="refused" if encoded else "no-dtd", sentence=encoded or str(trouble))
         if self.judge.options.by_doctype:
             row = row._replace(dtd=under.name, root=under.root, dtd_sum=under.sum)
@@ -99,10 +101,13 @@ class Together:
         """The documents with what `check`, or a session to `need`, answers for them, as it comes; what takes longer to tell after the others."""
         start = time.monotonic()
         for answers in self.asked(question, cases):
-            quick = [(case, answer) for case, answer in answers if is_quick(answer)]
-            for group in filter(None, (quick, *([each] for each in answers if each not in quick))):
-                for case, answer in group:
-                    self.tell(question, case, answer)
+            quick, others = list[tuple[Case, Answer | None]](), list[tuple[Case, Answer | None]]()
+            for each in answers:
+                (quick if is_quick(each[1]) else others).append(each)
+            for group in filter(None, (quick, *([each] for each in others))):
+                with self.judge.turn.taken() if group is quick else contextlib.nullcontext():
+                    for case, answer in group:
+                        self.tell(question, case, answer)
                 share, start = (time.monotonic() - start) / len(group), time.monotonic()
                 for case, _ in group:
                     case.seconds += share
@@ -124,22 +129,30 @@ class Together:
     def tell(self, question: str, case: Case, answer: Answer | None) -> None:
         """Puts what was answered for a document into its row."""
         judge = self.judge
-        with unless_gone(case):
+        try:
             told = answer or judge.answer(question, case.given)
             case.row = (judge.told if question == "check" else judge.needed)(case.row, case.given, told)
+        except GONE as fault:
+            case.row = unless_there(case.row, fault)
 
     def found(self, cases: Sequence[Case]) -> Found:
         """The rows of documents that were judged. What has changed meanwhile gets no verdict, and a DTD that has is a trouble: its sum stands in the
         report."""
-        rows = Found()
-        for case in cases:
-            start = time.monotonic()
-            with unless_gone(case):
-                case.row = self.judge.with_attributes(case.row, case.given)
-            row = case.row
-            if seen_of(row.path) != case.seen:
-                row = Row(*row[:4], verdict="failed", sentence="it changed while it was judged", dtd=row.dtd, root=row.root, dtd_sum=row.dtd_sum)
-            rows.append((case.at, row._replace(seconds=round(case.seconds + time.monotonic() - start, 4))))
+        rows, judge = Found(), self.judge
+        with judge.turn.taken():
+            plain = [judge.has_no_attributes(case.given) for case in cases]
+        # Nobody waits for libxml2 but who asks it.
+        with judge.turn.taken() if all(plain) else contextlib.nullcontext():
+            for case, is_plain in zip(cases, plain):
+                start = time.monotonic()
+                row = case.row
+                try:
+                    row = judge.with_no_attributes(row) if is_plain else judge.with_attributes(row, case.given)
+                except GONE as fault:
+                    row = unless_there(row, fault)
+                if seen_of(row.path) != case.seen:
+                    row = Row(*row[:4], verdict="failed", sentence="it changed while it was judged", dtd=row.dtd, root=row.root, dtd_sum=row.dtd_sum)
+                rows.append((case.at, row._replace(seconds=round(case.seconds + time.monotonic() - start, 4))))
         for under in {case.given.under for case in cases}:
             under.test_unchanged()
         return rows
@@ -162,15 +175,17 @@ def is_quick(answer: Answer | None) -> bool:
     return answer is not None and answer.output.startswith((b"valid", b"possible", b"need"))
 
 
-@contextlib.contextmanager
-def unless_gone(case: Case) -> Iterator[None]:
+def unless_there(row: Row, fault: Exception) -> Row:
     """Where a file can't be read any more, its row says so in place of a trouble."""
-    try:
-        yield
-    except (OSError, ValueError, Trouble) as fault:
-        if isinstance(fault, Trouble) and os.access(case.row.path, os.R_OK):
-            raise
-        case.row = unreadable(case.row)
+    if isinstance(fault, Trouble) and os.access(row.path, os.R_OK):
+        raise fault
+    return unreadable(row)
+
+
+def why_not_utf_8(data: bytes) -> str | None:
+    """Why a document that isn't UTF-8 can't be read."""
+    from pvtag.encodings import encoding_fault
+    return encoding_fault(data)
 
 
 def unreadable(row: Row) -> Row:
