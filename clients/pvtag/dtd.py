@@ -2,12 +2,10 @@
 
 What a declaration allows is the program's to say: nothing is read of a model here but its text.
 """
-import difflib
 import functools
 import re
 from typing import NamedTuple
 
-from .faults import Refusal, fault_of
 from .places import Source
 from .program import Answer, read_file, run, shown_name
 
@@ -63,8 +61,10 @@ class Dtd:
     (['person'], True)
     """
 
-    def __init__(self, program: list[str], path: str, name: str | None = None) -> None:
+    def __init__(self, program: list[str], path: str, name: str | None = None, told: Answer | None = None) -> None:
         self.program, self.path, self.name = program, path, name if name is not None else shown_name(path)
+        # What `dtd` says, where that is known.
+        self.told = told
 
     @functools.cached_property
     def data(self) -> bytes:
@@ -79,11 +79,12 @@ class Dtd:
     @functools.cached_property
     def types(self) -> dict[str, Type]:
         """The declared names, in order of declaration."""
-        return self.types_of(run(self.program, "dtd", self.path))
+        return self.types_of(self.told or run(self.program, "dtd", self.path))
 
     def types_of(self, answer: Answer) -> dict[str, Type]:
         """The declared names, in order of declaration, read from an answer of `dtd`."""
         if answer.status:
+            from .faults import Refusal, fault_of
             raise Refusal(fault_of(answer.status, answer.line, {"dtd": self.source}))
         rows = (line.split(" ") for line in answer.output.decode().splitlines()[:-1])
         return {name: Type(name, kind, least != "unproductive") for name, kind, least in rows}
@@ -109,7 +110,8 @@ class Dtd:
 
     def nearest(self, name: str, most: int = 3) -> list[str]:
         """The declared names that look most like this one, the nearest first; none where none does."""
-        return difflib.get_close_matches(name, self.types, most)
+        from difflib import get_close_matches
+        return get_close_matches(name, self.types, most)
 
     def behind_prefix(self, name: str) -> str | None:
         """The declared name that differs from this one in its prefix alone: to a DTD a prefix is part of the name."""

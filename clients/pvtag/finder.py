@@ -8,15 +8,11 @@ import re
 import shutil
 import sys
 import threading
-import urllib.parse
-from concurrent.futures import Future
-from dataclasses import dataclass, field
-from xml.sax.saxutils import quoteattr
+from typing import NamedTuple
 
-from .faults import Refusal, fault_of
 from .memory import MemoryFile
 from .places import BOM, Source
-from .program import TOP, Stopped, Trouble, is_utf_8, read_file, run, run_tool, shown_name
+from .program import TOP, Answer, Stopped, Trouble, is_utf_8, read_file, run, run_tool, shown_name
 
 # What other tools may use; each has an example.
 __all__ = ("Named", "Plain", "names_in", "Finder")
@@ -35,8 +31,7 @@ PART = re.compile(rb"(dtd|root)\s*=\s*(" + LITERAL + rb")")
 MODULES = re.compile(r"dtd param (conditional|external)|dtd parameter \d")
 
 
-@dataclass(frozen=True)
-class Named:
+class Named(NamedTuple):
     """What names a DTD: a path or an address, with the public identifier where there is one, and the folder that it
     counts from.
 
@@ -53,17 +48,17 @@ class Named:
     @property
     def file(self) -> str | None:
         """The path, where it is none of an address."""
+        from urllib.parse import unquote
         scheme, _, rest = self.system.partition(":")
         if scheme == "file":
-            return urllib.parse.unquote(rest[2:] if rest.startswith("//") else rest)
+            return unquote(rest[2:] if rest.startswith("//") else rest)
         if "://" in self.system or scheme == "urn":
             return None
-        plain, told = (os.path.join(self.folder, path) for path in (self.system, urllib.parse.unquote(self.system)))
+        plain, told = (os.path.join(self.folder, path) for path in (self.system, unquote(self.system)))
         return plain if os.path.exists(plain) else told
 
 
-@dataclass(frozen=True)
-class Plain:
+class Plain(NamedTuple):
     """A plain DTD: the path by which the program reads it, and the name by which people know it. What is held is there
     for as long as this is.
 
@@ -74,7 +69,24 @@ class Plain:
 
     path: str
     name: str
-    held: MemoryFile | None = field(default=None, compare=False)
+    held: MemoryFile | None = None
+
+
+class Making:
+    """A DTD that one thread makes plain, for which others wait: what it comes to, or why there is none."""
+
+    def __init__(self) -> None:
+        self.is_over, self.plain, self.fault = threading.Event(), Plain("", ""), Exception()
+        self.has_failed = False
+
+    def fails(self, fault: Exception) -> None:
+        self.fault, self.has_failed = fault, True
+
+    def told(self) -> Plain:
+        self.is_over.wait()
+        if self.has_failed:
+            raise self.fault.with_traceback(None)
+        return self.plain
 
 
 def unquoted(literal: bytes | None) -> str:
@@ -127,7 +139,9 @@ class Finder:
 
     def __init__(self, program: list[str]) -> None:
         self.program, self.lock = program, threading.Lock()
-        self.known: dict[object, Future[Plain]] = {}
+        self.known: dict[object, Making] = {}
+        # What `dtd` answers for the files that are plain as they are.
+        self.answers: dict[str, Answer] = {}
 
     def plain(self, named: Named) -> Plain:
         """The DTD as a plain file, or a trouble that says why there is none."""
@@ -135,24 +149,23 @@ class Finder:
         is_there = file is not None and os.path.isfile(file)
         key = os.path.realpath(file) if file is not None and is_there else named
         with self.lock:
-            future = self.known.get(key)
-            is_new = future is None
-            if future is None:
-                future = self.known[key] = Future()
+            making = self.known.get(key)
+            is_new = making is None
+            if making is None:
+                making = self.known[key] = Making()
         if is_new:
             try:
-                future.set_result(self.read(file) if file is not None and is_there else self.by_catalog(named))
+                making.plain = self.read(file) if file is not None and is_there else self.by_catalog(named)
             except (Trouble, Stopped) as fault:
-                future.set_exception(fault)
+                making.fails(fault)
             except Exception as fault:  # pylint: disable=broad-except
-                future.set_exception(Trouble(f"{named.system}: {fault}"))
+                making.fails(Trouble(f"{named.system}: {fault}"))
             except BaseException:
-                future.set_exception(Stopped())
+                making.fails(Stopped())
                 raise
-        told = future.exception()
-        if told is not None:
-            raise told.with_traceback(None)
-        return future.result()
+            finally:
+                making.is_over.set()
+        return making.told()
 
     def read(self, file: str) -> Plain:
         """A DTD's file, made plain where it needs to be."""
@@ -163,16 +176,20 @@ class Finder:
         path = held.path if held is not None else file
         answer = run(self.program, "dtd", path)
         if answer.status == 0:
+            self.answers[path] = answer
             return Plain(path, name, held)
         if MODULES.match(answer.line):
             return self.flattened(file, name)
+        from .faults import Refusal, fault_of
         raise Refusal(fault_of(answer.status, answer.line, {"dtd": Source(name, data)}))
 
     def by_catalog(self, named: Named) -> Plain:
         """A DTD that the catalogs of this machine know by its address or its public identifier."""
         if named.file is not None and not named.public:
             raise Trouble(f"{shown_name(named.file)}: there is no such DTD")
-        system = named.system if named.file is None else f"file://{urllib.parse.quote(os.fsencode(named.file))}"
+        from urllib.parse import quote
+        from xml.sax.saxutils import quoteattr
+        system = named.system if named.file is None else f"file://{quote(os.fsencode(named.file))}"
         identifier = f"PUBLIC {quoteattr(named.public)} {quoteattr(system)}" if named.public else f"SYSTEM {quoteattr(system)}"
         whole = MemoryFile(os.fsencode(f"<!ENTITY % all {identifier}>\n%all;\n"))
         try:

@@ -7,7 +7,6 @@ import resource
 import shutil
 import subprocess
 import sys
-import tempfile
 import threading
 from collections.abc import Callable, Iterator, Sequence
 from typing import Any, NamedTuple
@@ -279,7 +278,8 @@ def shown_name(path: str) -> str:
 @contextlib.contextmanager
 def on_disk(data: bytes, suffix: str) -> Iterator[str]:
     """The path of a temporary file with these bytes."""
-    number, path = tempfile.mkstemp(prefix="pvtag.", suffix=suffix)
+    from tempfile import mkstemp
+    number, path = mkstemp(prefix="pvtag.", suffix=suffix)
     try:
         with os.fdopen(number, "wb") as file:
             file.write(data)

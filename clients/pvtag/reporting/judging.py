@@ -1,29 +1,29 @@
 """What a document comes to, by the program's answers: its verdict, what is missing, and where and why it is impossible or refused."""
 import contextlib
+import functools
 import hashlib
 import os
 import re
 import shutil
 import threading
 from collections.abc import Iterator
-from pathlib import Path
-from typing import NamedTuple
+from typing import TYPE_CHECKING, NamedTuple
 
 from pvtag.attributes import MISSING, Attributes, python_with_lxml
 from pvtag.dtd import Dtd
-from pvtag.faults import TOO_WIDE, fault_of
 from pvtag.finder import NAME as NAME_OF, Finder, Named, Plain, names_in
-from pvtag.layout import Layout
 from pvtag.long import Counted, counted
 from pvtag.masks import Masked, MaskedSource, mask
 from pvtag.places import Place, Source, Span
 from pvtag.program import Answer, Stopped, Trouble, file_of, find_long, is_utf_8, read_file, run
-from pvtag.reasons import Reasons
 
 from .earlier import sum_of
 from .many import Many, find_many
 from .rows import Head, Row, shown
 from .runs import Turn
+
+if TYPE_CHECKING:
+    from pvtag.reasons import Reasons
 
 # The program reads no document of more bytes.
 MOST_BYTES = 67_108_864
@@ -68,12 +68,17 @@ class Given(NamedTuple):
 class Under:
     """A DTD and a root, by which documents are judged; several threads may use it at once."""
 
-    def __init__(self, program: list[str], plain: Plain, root: str) -> None:
-        self.plain, self.path, self.name, self.root = plain, plain.path, plain.name, root
+    def __init__(self, program: list[str], plain: Plain, root: str, told: Answer | None) -> None:
+        self.program, self.plain, self.path, self.name, self.root = program, plain, plain.path, plain.name, root
         self.seen, self.data = seen_of(plain.path), read_file(plain.path)
         self.sum = hashlib.sha256(self.data).hexdigest()
-        self.dtd = Dtd(program, plain.path, plain.name)
-        self.reasons, self.attributes = Reasons(program, self.dtd, root), Attributes(self.data)
+        self.dtd, self.attributes = Dtd(program, plain.path, plain.name, told), Attributes(self.data)
+
+    @functools.cached_property
+    def reasons(self) -> "Reasons":
+        """Why lists can't be repaired."""
+        from pvtag.reasons import Reasons
+        return Reasons(self.program, self.dtd, self.root)
 
     def test_unchanged(self) -> None:
         """A DTD that changes is a trouble: rows rest on it."""
@@ -107,7 +112,7 @@ class Judge:
             if (plain.path, root) not in self.known:
                 if len(self.known) > MOST_KEPT:
                     self.known.clear()
-                self.known[plain.path, root] = Under(self.program, plain, root)
+                self.known[plain.path, root] = Under(self.program, plain, root, self.finder.answers.get(plain.path))
             return self.known[plain.path, root]
 
     def close(self) -> None:
@@ -222,6 +227,7 @@ class Judge:
                 raise Trouble(f"{given.under.name} has changed and isn't taken any more: {answer.line}")
             case -1, _:
                 return row._replace(verdict="failed", sentence=f"it took more than {self.most:.0f} seconds")
+        from pvtag.faults import TOO_WIDE
         refused = self.refused(row, given, answer)
         return self.too_wide(row, given, refused) if answer.line.startswith(TOO_WIDE) else refused
 
@@ -268,6 +274,7 @@ class Judge:
     def impossible(self, row: Row, given: Given, path: str) -> Row:
         """The row with the place and the reason of an impossible list; without them where they can't be had."""
         row = row._replace(verdict="impossible", sentence=impossible_at(path))
+        from pvtag.layout import Layout
         try:
             source = given.source(shown(row.path))
             reason = next(iter(given.under.reasons.of_document(source.data, [path])), None)
@@ -294,6 +301,7 @@ class Judge:
             return row._replace(verdict=verdict, sentence="it can't be read")
         if answer.status < 0:
             return row._replace(verdict=verdict, sentence=f"the program was ended by signal {-answer.status}")
+        from pvtag.faults import fault_of
         fault = fault_of(answer.status, answer.line, {"document": given.source(shown(row.path))})
         place = fault.place
         return row._replace(verdict=verdict, line=place and place.line, column=place and place.column, sentence=fault.sentence)
@@ -331,8 +339,8 @@ def utf_8(word: str) -> Iterator[tuple[str, int | None]]:
 def sum_of_program(program: str) -> str:
     """The sum of the program, which in a repository is what its script runs."""
     found = shutil.which(program) or program
-    built = Path(found).resolve().parent / "build" / "pvtag"
-    told = sum_of(str(built) if built.is_file() else found)
+    built = os.path.join(os.path.dirname(os.path.realpath(found)), "build", "pvtag")
+    told = sum_of(built if os.path.isfile(built) else found)
     if told is None:
         raise Trouble(f"{found} can't be read")
     return told

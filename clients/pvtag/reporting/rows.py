@@ -1,6 +1,4 @@
 """A line of a report, and the head before the lines, as JSON Lines, TSV and CSV. All keep each byte of a file's name."""
-import csv
-import io
 import json
 import re
 from collections.abc import Iterable
@@ -123,6 +121,8 @@ def no_formula(name: str, text: str) -> str:
 
 def comma_line(values: Iterable[str]) -> str:
     """A line of CSV, by RFC 4180, without its end."""
+    import csv
+    import io
     line = io.StringIO()
     csv.writer(line, lineterminator="").writerow(values)
     return line.getvalue()

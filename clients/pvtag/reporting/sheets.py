@@ -6,7 +6,6 @@ import os
 import threading
 import time
 from collections.abc import Iterable, Iterator, Mapping
-from pathlib import Path
 from typing import IO
 
 from pvtag.program import Trouble, shown_name
@@ -70,16 +69,17 @@ class Spool(Sheet):
 @contextlib.contextmanager
 def new_file(path: str) -> Iterator[IO[bytes]]:
     """A file that takes its name once it is whole, and on the disk."""
-    to = Path(path)
-    new = to.with_name(f".{to.name}.{os.getpid()}")
+    folder, name = os.path.split(path)
+    new = os.path.join(folder, f".{name}.{os.getpid()}")
     try:
-        with new.open("wb") as file:
+        with open(new, "wb") as file:
             yield file
             file.flush()
             os.fsync(file.fileno())
-        new.replace(to)
+        os.replace(new, path)
     finally:
-        new.unlink(missing_ok=True)
+        with contextlib.suppress(FileNotFoundError):
+            os.unlink(new)
 
 
 @contextlib.contextmanager
