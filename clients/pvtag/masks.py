@@ -80,7 +80,16 @@ class Masked:
                  remarks: list[Remark], texts: "Mapping[bytes, Text]") -> None:
         self.source, self.data, self.parts, self.stands, self.subset = source, data, parts, stands, subset
         self.remarks, self.texts = remarks, texts
-        self.ofs, self.bys = [part.of.start for part in parts], [part.by.start for part in parts]
+
+    @functools.cached_property
+    def ofs(self) -> list[int]:
+        """Where the references begin."""
+        return [part.of.start for part in self.parts]
+
+    @functools.cached_property
+    def bys(self) -> list[int]:
+        """Where what stands for them begins."""
+        return [part.by.start for part in self.parts]
 
     @property
     def is_plain(self) -> bool:

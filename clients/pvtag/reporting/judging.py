@@ -198,10 +198,6 @@ class Judge:
         masked = given.masked
         return masked is not None and masked.is_plain and (not self.options.attributes or given.under.attributes.are_none(masked.data))
 
-    def with_no_attributes(self, row: Row) -> Row:
-        """The row of such a document."""
-        return row._replace(attributes="valid", faults=0) if self.options.attributes and row.verdict in SHOWN else row
-
     def with_sentence(self, row: Row, masked: Masked, span: Span | None, sentence: str) -> Row:
         """The row with this sentence, where it has none."""
         if row.sentence is not None:
@@ -211,12 +207,12 @@ class Judge:
 
     def told(self, row: Row, given: Given, answer: Answer) -> Row:
         """The row with what `check` answered."""
+        found = found_by(answer)
+        if found is not None:
+            verdict, count = found
+            return Row(*row[:4], verdict, count, None if count or not self.need else 0, None, None, None, None, None, None, *row[13:])
         words = answer.line.split(" ")
         match answer.status, words[0]:
-            case 0, "valid":
-                return row._replace(verdict="valid", open=0, missing=0 if self.need else None)
-            case 0, "possible":
-                return row._replace(verdict="possible", open=int(words[1]))
             case 1, "impossible":
                 return self.impossible(row, given, words[1])
             case 2, _ if given.under is not self.given_pair:
@@ -305,6 +301,13 @@ class Judge:
         fault = fault_of(answer.status, answer.line, {"document": given.source(shown(row.path))})
         place = fault.place
         return row._replace(verdict=verdict, line=place and place.line, column=place and place.column, sentence=fault.sentence)
+
+
+@functools.lru_cache(maxsize=256)
+def found_by(answer: Answer) -> tuple[str, int] | None:
+    """The verdict that an answer to `check` is, if it is a good one, and how many lists aren't valid."""
+    words = answer.line.split(" ")
+    return None if answer.status or words[0] not in ("valid", "possible") else (words[0], int(words[1]) if words[0] == "possible" else 0)
 
 
 def given(path: str, data: bytes | None, under: Under, copies: contextlib.ExitStack) -> Given:

@@ -122,9 +122,10 @@ class Many:
         if over is not None:
             over.end()
 
-    def takes(self, dtd: str, root: str, path: str) -> bool:
-        """Whether there is the program, and it can be told these names."""
-        return self.program is not None and is_utf_8(dtd) and is_utf_8(root) and is_utf_8(path)
+    def takes(self, dtd: str, root: str, paths: Sequence[str]) -> list[bool]:
+        """Which of these documents the program can be told of, if it is there."""
+        is_asked = self.program is not None and is_utf_8(dtd) and is_utf_8(root)
+        return [is_asked and is_utf_8(path) for path in paths]
 
     def answers(self, question: str, dtd: str, root: str, paths: Sequence[str], most: float) -> Iterator[list[Answer | None]]:
         """What `pvtag check`, or a session to `need`, answers for each of these documents within so many seconds: past them the status is -1. Those

@@ -3,7 +3,7 @@ import os
 import sys
 import time
 
-from .rows import Row
+from .runs import Found
 
 
 class Progress:
@@ -15,11 +15,13 @@ class Progress:
         self.start = time.monotonic()
         self.shown = 0.0
 
-    def add(self, row: Row) -> None:
-        self.done += 1
-        self.impossible += row.verdict == "impossible"
+    def add(self, found: Found) -> None:
+        if not self.shows:
+            return
+        self.done += len(found)
+        self.impossible += sum(row.verdict == "impossible" for _, row in found)
         now = time.monotonic()
-        if self.shows and now - self.shown > 0.1:
+        if now - self.shown > 0.1:
             self.shown = now
             print(f"\r\033[K{self.line(now)[:columns() - 1]}", end="", file=sys.stderr, flush=True)
 

@@ -75,7 +75,7 @@ class Row(NamedTuple):
         """The line, without its end."""
         if form == "json":
             # As `json.dumps` writes an object, in half of the time.
-            values = [begin + (QUOTED(value) if type(value) is str else repr(value)) for begin, value in zip(BEGINS, self) if value is not None]
+            values = [begin + (WORDS.get(value) or QUOTED(value) if type(value) is str else repr(value)) for begin, value in zip(BEGINS, self) if value is not None]
             return f"{{{', '.join(values)}}}".replace("\x7f", "\\u007f")
         if form == "csv":
             return comma_line("" if value is None else no_formula(name, escaped(str(value))) for name, value in zip(NAMES, self))
@@ -92,6 +92,7 @@ def kinds_of(row: Row) -> set[str]:
 NAMES = list(Row._fields)
 # What stands before each value of a JSON object.
 QUOTED = json.JSONEncoder().encode
+WORDS = {word: f'"{word}"' for word in (*JUDGED, *UNJUDGED, "invalid")}
 BEGINS = [f'"{name}": ' for name in NAMES]
 KINDS = {name: float if name == "seconds" else int if name in ("size", "time", "open", "missing", "line", "column", "faults") else str for name in NAMES}
 

@@ -7,15 +7,18 @@ import stat
 import time
 from collections import deque
 from collections.abc import Iterator, Sequence
+from typing import Any
 
 from pvtag.program import Answer, Trouble
 
-from .judging import MOST_BYTES, Given, Judge, given, identity, seen_of
+from .judging import MOST_BYTES, SHOWN, Given, Judge, Under, given, identity, seen_of
 from .rows import Row
 from .runs import Found
 
 # No further document is read beside so many bytes of others.
 MOST_HELD = 4_194_304
+# What a row tells of attributes of which none is wrong.
+ATTRIBUTES_VALID: dict[str, Any] = {"attributes": "valid", "faults": 0}
 # What is raised where a file is gone.
 GONE = (OSError, ValueError, Trouble)
 
@@ -115,10 +118,14 @@ class Together:
 
     def asked(self, question: str, cases: Sequence[Case]) -> Iterator[list[tuple[Case, Answer | None]]]:
         """What one process answers for all, as it comes; none for those of which the program itself is to be asked."""
-        many, together, alone = self.judge.many, dict[tuple[str, str], list[Case]](), list[Case]()
+        many, under, alone = self.judge.many, dict[Under, list[Case]](), list[Case]()
         for case in cases:
-            words = case.given.under.path, case.given.under.root
-            (together.setdefault(words, []) if many.takes(*words, case.given.path) else alone).append(case)
+            under.setdefault(case.given.under, []).append(case)
+        together = dict[tuple[str, str], list[Case]]()
+        for it, some in under.items():
+            taken = many.takes(it.path, it.root, [case.given.path for case in some])
+            together.setdefault((it.path, it.root), []).extend(case for case, is_taken in zip(some, taken) if is_taken)
+            alone += [case for case, is_taken in zip(some, taken) if not is_taken]
         for (dtd, root), some in together.items():
             left = iter(some)
             for answers in many.answers(question, dtd, root, [case.given.path for case in some], self.judge.most):
@@ -147,12 +154,13 @@ class Together:
                 start = time.monotonic()
                 row = case.row
                 try:
-                    row = judge.with_no_attributes(row) if is_plain else judge.with_attributes(row, case.given)
+                    row = row if is_plain else judge.with_attributes(row, case.given)
                 except GONE as fault:
                     row = unless_there(row, fault)
                 if seen_of(row.path) != case.seen:
                     row = Row(*row[:4], verdict="failed", sentence="it changed while it was judged", dtd=row.dtd, root=row.root, dtd_sum=row.dtd_sum)
-                rows.append((case.at, row._replace(seconds=round(case.seconds + time.monotonic() - start, 4))))
+                told = ATTRIBUTES_VALID if is_plain and judge.options.attributes and row.verdict in SHOWN else {}
+                rows.append((case.at, row._replace(seconds=round(case.seconds + time.monotonic() - start, 4), **told)))
         for under in {case.given.under for case in cases}:
             under.test_unchanged()
         return rows
