@@ -17,6 +17,7 @@ import json
 import os
 import re
 import select
+import subprocess
 import sys
 import threading
 from collections.abc import Iterator, Mapping, Sequence
@@ -38,6 +39,8 @@ WITH_PREFIX = re.compile(rb"<[^\s<>/!?=:]*:")
 PLAIN_FRONT = re.compile(rb"""(?:\xef\xbb\xbf)?(?:<\?xml\s+version\s*=\s*["']1\.0["'](?:\s+encoding\s*=\s*["'][Uu][Tt][Ff]-8["'])?\s*\?>|(?!<\?xml\s))""")
 # Says by its status whether a Python has lxml.
 HAS_LXML = "try:\n import lxml.etree\nexcept ImportError:\n raise SystemExit(1)"
+# The status of `libxml` where lxml is missing.
+NO_LXML = 9
 # A document takes no longer; a little more than `libxml` gives itself.
 SECONDS = 65.0
 
@@ -186,6 +189,10 @@ class Ended(Exception):
     """The process gives no answer: it took too long, or ended."""
 
 
+class NoLxml(Ended):
+    """The Python that it runs under has no lxml."""
+
+
 class Asking:
     """One process that knows a DTD."""
 
@@ -196,6 +203,7 @@ class Asking:
 
     def ask(self, do: str, data: bytes, subset: bytes = b"") -> dict[str, Any]:
         assert self.process.stdin is not None and self.process.stdout is not None
+        ready: Sequence[Any] = [self.process.stdout]
         try:
             self.process.stdin.write(json.dumps({"do": do, "size": len(data), "subset": len(subset)}).encode() + b"\n" + data + subset)
             self.process.stdin.flush()
@@ -204,10 +212,12 @@ class Asking:
         except OSError:
             line = b""
         if not line.endswith(b"\n"):
+            with contextlib.suppress(subprocess.TimeoutExpired):
+                self.process.wait(1 if ready else 0)
             self.end()
             if self.runs.stopped:
                 raise Stopped
-            raise Ended
+            raise NoLxml if self.process.returncode == NO_LXML else Ended
         answer: dict[str, Any] = json.loads(line)
         return answer
 
@@ -220,6 +230,14 @@ class Asking:
         self.process.wait()
         with self.runs.lock:
             self.runs.runs.discard(self.process)
+
+
+def begun(dtd: bytes, runs: Running) -> Asking:
+    """A process under the first Python that has lxml."""
+    for python in pythons():
+        with contextlib.suppress(NoLxml, Trouble):
+            return Asking(python, dtd, runs)
+    raise Trouble(MISSING)
 
 
 class Attributes:
@@ -256,11 +274,7 @@ class Attributes:
         """A process that nobody else asks meanwhile."""
         with self.lock:
             one = self.idle.pop() if self.idle else None
-        if one is None:
-            python = python_with_lxml()
-            if python is None:
-                raise Trouble(MISSING)
-            one = Asking(python, self.dtd, self.runs)
+        one = one or begun(self.dtd, self.runs)
         yield one
         with self.lock:
             self.idle.append(one)

@@ -22,7 +22,11 @@ from typing import Any
 
 # No catalogs are asked.
 os.environ["XML_CATALOG_FILES"] = ""
-etree: Any = importlib.import_module("lxml.etree")
+try:
+    etree: Any = importlib.import_module("lxml.etree")
+except ImportError:
+    # `attributes` knows it.
+    raise SystemExit(9) from None
 
 SECONDS, BYTES = 60, 2 << 30
 # At most so many faults are told.
