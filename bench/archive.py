@@ -4,11 +4,13 @@ how many small ones the memory is told of.
 The documents are valid letters under examples/letter.dtd and, where it is installed with lxml, sections under DocBook, made plain by tools/flatten.
 Judged are they by `clients/report`, by the same again with nothing changed, by a `pvmany` for each processor, by the program with `xargs -n1`, and by
 `xmllint --noout --dtdvalid` with `xargs -n1` and `-n50`, by the same DTD and by DocBook as it is published, each with as many at a time as there are
-processors. Told are documents a second, the processor time of a document, and which part that is of xmllint's, fifty documents a call. Then what a
-draft under DocBook takes of which every tenth pair of tags is removed, or in which little more than lists and words is tagged: one `pvmany` for
-all, and the program for each. Then the memory at the peak of a report on a hundredth and a tenth of the small documents, of 1 kB, and on all of them.
+processors, in turn and three times. Told are the least processor time of a document with its documents a second, and which part that is of xmllint's,
+fifty documents a call, and of `pvmany`'s; beside them a report on one document, whose time is that of a start, and what reading the documents and their
+SHA-256 take in Python. Then what a draft under DocBook takes of which every tenth pair of tags is removed, or in which little more than lists and words
+is tagged: one `pvmany` for all, a report, and the program for each. Then the memory at the peak of a report on a hundredth and a tenth of the small documents, of 1 kB, and on all of them.
 With `--write` the tables are put into docs/SPEED.md. Nothing else is to run meanwhile.
 """
+import hashlib
 import os
 import random
 import resource
@@ -34,7 +36,10 @@ PROCESSORS = len(os.sched_getaffinity(0))
 # So many drafts, of so many bytes, go through one process.
 DRAFTS, DRAFT_BYTES = 1_000, 10_000
 # In tables: what has an aim, and what others are told as parts of.
-MANY, PEER = "`pvmany check`", "`xmllint`, fifty a call"
+REPORT, MANY, PEER = "`clients/report`", "`pvmany check`", "`xmllint`, fifty a call"
+# The part of `pvmany`'s processor time that is aimed at for a report.
+REPORT_AIM = 1.5
+ROUNDS = 3
 
 
 class Kind(NamedTuple):
@@ -113,9 +118,23 @@ def took(*runs: Run) -> Took:
     return Took(time.monotonic() - start, after.ru_utime + after.ru_stime - before.ru_utime - before.ru_stime)
 
 
-def report_of(program: str, kind: Kind, texts: Path, out: Path) -> list[str]:
-    return [sys.executable, str(TOP / "clients" / "report"), "--program", program, "--output", str(out), "--since", str(out), str(kind.dtd), kind.root,
-            str(texts)]
+def report_of(program: str, kind: Kind, texts: Path, out: Path, *more: str) -> list[str]:
+    return [sys.executable, str(TOP / "clients" / "report"), "--program", program, "--output", str(out), *more, str(kind.dtd), kind.root, str(texts)]
+
+
+def summed(files: list[Path]) -> Took:
+    """What it takes here to read these files and to add up their bytes."""
+    start, before = time.monotonic(), time.process_time()
+    for file in files:
+        hashlib.sha256(file.read_bytes()).hexdigest()
+    return Took(time.monotonic() - start, time.process_time() - before)
+
+
+class Judging(NamedTuple):
+    """What judges documents: how many it judges, and its runs; without any, Python reads them and adds up their bytes."""
+    title: str
+    judged: int
+    runs: list[Run]
 
 
 def many_of(program: str) -> str | None:
@@ -128,23 +147,28 @@ def by_xargs(words: list[str], files: list[Path], each: int) -> Run:
     return Run(["xargs", "-0", "-P", str(PROCESSORS), "-n", str(each), *words], listed(files))
 
 
-def runs_of(program: str, kind: Kind, folder: Path, files: list[Path]) -> Iterator[tuple[str, int, list[Run]]]:
-    """What judges the documents, how many it judges, and its runs."""
-    report = Run(report_of(program, kind, folder / "texts", folder / "report"))
-    yield "`clients/report`", len(files), [report]
-    yield "the same again", len(files), [report]
+def runs_of(program: str, kind: Kind, folder: Path, files: list[Path]) -> Iterator[Judging]:
+    """What judges the documents; what takes long for each, a tenth of them."""
+    texts, out, few = folder / "texts", folder / "report", files[: max(len(files) // 10, 1)]
+    yield Judging(REPORT, len(files), [Run(report_of(program, kind, texts, out))])
+    yield Judging("the same again", len(files), [Run(report_of(program, kind, texts, out, "--since", str(out)))])
+    yield Judging("a report on one of them", 1, [Run(report_of(program, kind, files[0], folder / "one"))])
+    yield Judging("reading and SHA-256 alone, in Python", len(files), [])
     many = many_of(program)
     if many:
         shares = [files[at::PROCESSORS] for at in range(PROCESSORS)]
-        yield MANY, len(files), [Run([many, "check", str(kind.dtd), kind.root], listed(share)) for share in shares if share]
-    yield "`pvtag check` by `xargs`", len(files), [by_xargs([program, "check", str(kind.dtd), kind.root], files, 1)]
+        yield Judging(MANY, len(files), [Run([many, "check", str(kind.dtd), kind.root], listed(share)) for share in shares if share])
+    yield Judging("`pvtag check` by `xargs`", len(few), [by_xargs([program, "check", str(kind.dtd), kind.root], few, 1)])
     if shutil.which("xmllint"):
         lint = ["xmllint", "--nonet", "--noout", "--dtdvalid"]
-        yield PEER, len(files), [by_xargs([*lint, str(kind.dtd)], files, 50)]
-        yield "`xmllint`, one a call", len(files), [by_xargs([*lint, str(kind.dtd)], files, 1)]
+        yield Judging(PEER, len(files), [by_xargs([*lint, str(kind.dtd)], files, 50)])
+        yield Judging("`xmllint`, one a call", len(few), [by_xargs([*lint, str(kind.dtd)], few, 1)])
         if kind.published:
-            few = files[: max(len(files) // 10, 1)]
-            yield "`xmllint`, the DTD as published, fifty a call", len(few), [by_xargs([*lint, kind.published], few, 50)]
+            yield Judging("`xmllint`, the DTD as published, fifty a call", len(few), [by_xargs([*lint, kind.published], few, 50)])
+
+
+def part_of(used: float, peer: float | None, aim: float | None = None) -> str:
+    return "" if peer is None else f"{used / peer:.2f}" + (f" ({aim})" if aim else "")
 
 
 def tables(program: str, count: int, size: int, flat: Path | None) -> Iterator[str]:
@@ -153,14 +177,18 @@ def tables(program: str, count: int, size: int, flat: Path | None) -> Iterator[s
         with tempfile.TemporaryDirectory(prefix="pvtag-archive-") as made:
             folder = Path(made)
             files = write_documents(folder / "texts", alike(kind.text), count)
-            found = {title: (judged, took(*runs)) for title, judged, runs in runs_of(program, kind, folder, files)}
-        peer = found[PEER][1].used / found[PEER][0] if PEER in found else None
+            judgings = list(runs_of(program, kind, folder, files))
+            found = dict[str, list[Took]]()
+            for _ in range(ROUNDS):
+                for it in judgings:
+                    found.setdefault(it.title, []).append(took(*it.runs) if it.runs else summed(files))
+        least = {it.title: min(told.used for told in found[it.title]) / it.judged for it in judgings}
         yield from (f"{count:,} {kind.title}, of {len(kind.text) / 1000:.0f} kB each:", "",
-                    "| Judged by | Documents a second | Processor time of a document | Part of `xmllint`'s |", "|---|---|---|---|")
-        for title, (judged, it) in found.items():
-            used = it.used / judged
-            aim = f" ({kind.aim})" if title == MANY else ""
-            yield f"| {title} | {judged / it.passed:,.0f} | {told_time(used)} | {f'{used / peer:.2f}{aim}' if peer else ''} |"
+                    "| Judged by | Documents a second | Processor time of a document | Part of `xmllint`'s | Part of `pvmany`'s |", "|---|---|---|---|---|")
+        for title, judged, _ in judgings:
+            used, passed = least[title], min(it.passed for it in found[title])
+            cells = (part_of(used, least.get(PEER), kind.aim if title == MANY else None), part_of(used, least.get(MANY), REPORT_AIM if title == REPORT else None))
+            yield f"| {title} | {judged / passed:,.0f} | {told_time(used)} | {' | '.join(cells)} |"
         yield ""
 
 
@@ -172,15 +200,19 @@ def drafts(program: str, flat: Path | None) -> Iterator[str]:
     random.seed(1)
     texts = {"every tenth pair of tags is removed": (alike(without_tags(large.text_of(large.DOCBOOK, DRAFT_BYTES))), " (2 ms)", " (10 ms)"),
              "little more than lists and words is tagged": (iter(lambda: large.few_tags(large.DOCBOOK, DRAFT_BYTES), None), "", "")}
-    words = [str(flat), large.DOCBOOK.root]
-    yield from (f"A draft under DocBook, of {DRAFT_BYTES / 1000:.0f} kB, of {DRAFTS:,}:", "", "| Draft | `pvmany check` | `pvmany need` | `pvtag check` | `pvtag session`, `need` |",
-                "|---|---|---|---|---|")
+    kind = Kind("drafts", flat, large.DOCBOOK.root, "")
+    words = [str(flat), kind.root]
+    yield from (f"A draft under DocBook, of {DRAFT_BYTES / 1000:.0f} kB, of {DRAFTS:,}; a report with `--need` asks `pvmany` for both:", "",
+                "| Draft | `pvmany check` | a report | `pvmany need` | a report with `--need` | `pvtag check` | `pvtag session`, `need` |", "|---|---|---|---|---|---|---|")
     for title, (made, checked, needed) in texts.items():
         with tempfile.TemporaryDirectory(prefix="pvtag-archive-") as folder:
-            files = write_documents(Path(folder), made, DRAFTS)
-            few = files[: DRAFTS // 20]
-            cells = [told_time(took(Run([many, "check", *words], listed(files))).used / len(files)) + checked,
-                     told_time(took(Run([many, "need", *words], listed(files))).used / len(files)) + needed,
+            files = write_documents(Path(folder) / "texts", made, DRAFTS)
+            few, out = files[: DRAFTS // 20], Path(folder) / "report"
+            runs = [Run([many, "check", *words], listed(files)), Run(report_of(program, kind, Path(folder) / "texts", out)),
+                    Run([many, "need", *words], listed(files)), Run(report_of(program, kind, Path(folder) / "texts", out, "--need"))]
+            check, report, need, report_need = (min(used) / len(files) for used in zip(*([took(run).used for run in runs] for _ in range(ROUNDS))))
+            cells = [told_time(check) + checked, f"{told_time(report)}, {part_of(report, check, REPORT_AIM)} of it",
+                     told_time(need) + needed, f"{told_time(report_need)}, {part_of(report_need, check + need, REPORT_AIM)} of both",
                      told_time(sum(took(Run([program, "check", *words, str(file)])).used for file in few) / len(few)),
                      told_time(sum(took(Run([program, "session", *words, str(file)], b"need\n")).used for file in few) / len(few))]
         yield f"| {title} | {' | '.join(cells)} |"

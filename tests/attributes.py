@@ -181,6 +181,46 @@ def try_random(trial: Trial) -> None:
                 compare(trial, attributes, dtd, text)
 
 
+# An attribute in a tag, and what documents may have before or in them of which nothing is said.
+ATTRIBUTE = re.compile(r"""\s[^\s=<>"]+="[^"]*"|\sother="y\"""")
+FRONTS = ("", "", "", "<?xml version='1.0'?>\n", '<?xml version="1.0" encoding="utf-8" ?>', "<?xml version='1.0' standalone='yes'?>", "\ufeff", "<!-- : a=b -->",
+          "<?x a='b'?>")
+
+
+def try_without(trial: Trial) -> None:
+    """Of documents without attributes it is known without libxml2 whether something is wrong; it never is where that isn't asked."""
+    told = 0
+    for _ in range(60):
+        if trial.is_late:
+            break
+        dtd, kinds = random_dtd(trial)
+        # Some names have no required attribute; what is declared last counts for none.
+        for name in trial.random.sample(NAMES, len(NAMES) // 2):
+            dtd = re.sub(f"(<!ATTLIST {name} [^>]*)", lambda it: it[1].replace("#REQUIRED", "#IMPLIED"), dtd)
+        Path("r.dtd").write_text(dtd)
+        with Attributes(dtd.encode()) as attributes:
+            for _ in range(15):
+                text = ATTRIBUTE.sub("", random_element(trial, kinds))
+                text = trial.random.choice([text, text, text.replace("text", "a = b: c", 1), re.sub(r"(</?)(\w)", r"\1x:\2", text)])
+                data = f"{trial.random.choice(FRONTS)}{text}".encode()
+                checked, is_none = attributes.check(data), attributes.are_none(data)
+                trial.tell("nothing is wrong without attributes", not is_none or checked.are_valid, dtd[:3000], text[:3000], keys_of(checked.faults))
+                is_plain = b":" not in data and b"=" not in data
+                trial.tell("and it is known", not is_plain or is_none == checked.are_valid, dtd[:3000], text[:3000], keys_of(checked.faults))
+                told += is_none
+    trial.tell("some need no libxml2", trial.is_late or told > 20, told)
+    for dtd, is_none in (("<!ELEMENT a ANY><!ATTLIST a b ENTITY 'none'>", True), ("<!ELEMENT a ANY><!ATTLIST a b CDATA #REQUIRED>", False),
+                         ("<!ELEMENT a ANY><!ELEMENT ab ANY><!ATTLIST ab b CDATA #REQUIRED>", True), ("<!ELEMENT a ANY><!ATTLIST a b CDATA 'c'>", True)):
+        with Attributes(dtd.encode()) as attributes:
+            trial.tell("as libxml2 says", (attributes.are_none(b"<a/>"), attributes.check(b"<a/>").are_valid) == (is_none, is_none), dtd)
+    for name in ("a" * 250, "\u00e9t\u00e9.-"):
+        names = [name[:size] for size in range(1, len(name) + 1)]
+        dtd = "<!ELEMENT z ANY>" + "".join(f"<!ELEMENT {it} ANY><!ATTLIST {it} b CDATA #REQUIRED>" for it in names)
+        with Attributes(dtd.encode()) as attributes:
+            found = [attributes.are_none(f"<z><{it}/></z>".encode()) for it in ("z", *names, f"{name}z")]
+            trial.tell("many names that begin alike", found == [True, *[False] * len(names), True], name, found)
+
+
 def compare(trial: Trial, attributes: Attributes, dtd: str, text: str, path: str = "r.dtd") -> None:
     """Compares what is said of a document with xmllint."""
     root = published.root_of(text)
@@ -559,6 +599,7 @@ def main() -> None:
             try_commands(trial)
             try_letters(trial)
             try_random(trial)
+            try_without(trial)
             try_machine(trial, python)
         else:
             print("skipped: attributes (no lxml, package python3-lxml)")

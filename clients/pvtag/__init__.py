@@ -11,7 +11,7 @@
     entities  the same items of a DTD, with its parameter entities, and the entities that documents refer to
     masks     a document with an internal subset or entities as the program reads it, and the way back
     attributes  what a DTD declares of attributes, and what is wrong with those of a document, by libxml2; it stands on
-              `libxml`, which asks it, and on `masks`
+              `libxml`, which asks it, on `masks`, and on `attribute_faults`, which puts its messages into sentences
     layout    where the nodes of a document stand in its bytes
     dtd       the names of a DTD as the program tells them, and declarations as their author wrote them
     denial    what `why` prints

@@ -255,6 +255,7 @@ class Attributes:
         self.lock, self.idle = threading.Lock(), list[Asking]()
         # What is known of the DTD. Of `functools.cached_property` the lock would be one for all DTDs.
         self.reading, self.known, self.rows = threading.Lock(), dict[str, Any](), dict[str, tuple[Attribute, ...]]()
+        self.trying, self.tags = threading.Lock(), list[re.Pattern[bytes] | None]()
 
     def __enter__(self) -> "Attributes":
         return self
@@ -368,12 +369,19 @@ class Attributes:
             return False
         if not self.declares_any:
             return True
-        asking = self.asking_names
-        return asking is not None and asking.search(data) is None and not has_prefixes(data) and has_plain_front(data)
+        tag = self.tag_with_required
+        return tag is not None and tag.search(data) is None and not has_prefixes(data) and has_plain_front(data)
 
-    @functools.cached_property
-    def asking_names(self) -> re.Pattern[bytes] | None:
+    @property
+    def tag_with_required(self) -> re.Pattern[bytes] | None:
         """A tag of an element with a required attribute; none where something is wrong with each document, or attributes can't be looked at."""
+        with self.trying:
+            if not self.tags:
+                self.tags.append(self.read_tags())
+            return self.tags[0]
+
+    def read_tags(self) -> re.Pattern[bytes] | None:
+        """That pattern, by what libxml2 tells of the DTD."""
         found: dict[str, Sequence[Sequence[Any]]] = self.told.get("declared", {})
         names = [name for name, rows in found.items() if any(need == "required" for _, _, need, _, _ in rows)]
         free = next((name for name in found if name not in names and ":" not in name), None)
