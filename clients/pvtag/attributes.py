@@ -35,6 +35,8 @@ PYTHONS = (sys.executable, "/usr/bin/python3")
 MISSING = "lxml is missing for Python (Debian: the package python3-lxml)"
 # A tag with an attribute, or what looks like one.
 WITH_ATTRIBUTE = re.compile(rb"<[^\s<>/!?=]+\s[^<>]*=")
+# The names of elements with required attributes come to so many characters at most, where they are looked for without libxml2.
+MOST_NAMES = 4_096
 WITH_PREFIX = re.compile(rb"<[^\s<>/!?=:]*:")
 PLAIN_FRONT = re.compile(rb"""(?:\xef\xbb\xbf)?(?:<\?xml\s+version\s*=\s*["']1\.0["'](?:\s+encoding\s*=\s*["'][Uu][Tt][Ff]-8["'])?\s*\?>|(?!<\?xml\s))""")
 # Says by its status whether a Python has lxml.
@@ -363,7 +365,7 @@ class Attributes:
         return Placing(self, masked).faults(found)
 
     def are_none(self, data: bytes) -> bool:
-        """Whether it can be told without libxml2 that nothing is wrong with the attributes of a document without subset and entities: it has none, nor
+        """Whether it is known without libxml2 that nothing is wrong with the attributes of a document, without subset and entities: it has none, nor
         an element with a required one, nor a prefix."""
         if has_attributes(data):
             return False
@@ -374,7 +376,8 @@ class Attributes:
 
     @property
     def tag_with_required(self) -> re.Pattern[bytes] | None:
-        """A tag of an element with a required attribute; none where something is wrong with each document, or attributes can't be looked at."""
+        """A tag of an element with a required attribute; none where something is wrong with each document, where there are too many such elements, or
+        where attributes can't be looked at."""
         with self.trying:
             if not self.tags:
                 self.tags.append(self.read_tags())
@@ -385,7 +388,7 @@ class Attributes:
         found: dict[str, Sequence[Sequence[Any]]] = self.told.get("declared", {})
         names = [name for name, rows in found.items() if any(need == "required" for _, _, need, _, _ in rows)]
         free = next((name for name in found if name not in names and ":" not in name), None)
-        if self.why_not or free is None:
+        if self.why_not or free is None or sum(map(len, names)) > MOST_NAMES:
             return None
         # The DTD's own faults, as of a default value, are found with each document.
         first = self.check(f"<{free}/>".encode())
