@@ -210,7 +210,7 @@ class Judge:
         found = found_by(answer)
         if found is not None:
             verdict, count = found
-            return Row(*row[:4], verdict, count, None if count or not self.need else 0, None, None, None, None, None, None, *row[13:])
+            return row._replace(verdict=verdict, open=count, missing=0 if self.need and verdict == "valid" else None)
         words = answer.line.split(" ")
         match answer.status, words[0]:
             case 1, "impossible":
