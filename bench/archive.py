@@ -147,6 +147,11 @@ def by_xargs(words: list[str], files: list[Path], each: int) -> Run:
     return Run(["xargs", "-0", "-P", str(PROCESSORS), "-n", str(each), *words], listed(files))
 
 
+def shares_of(words: list[str], files: list[Path]) -> list[Run]:
+    """A run for each processor, as a report has them."""
+    return [Run(words, listed(files[at::PROCESSORS])) for at in range(min(PROCESSORS, len(files)))]
+
+
 def runs_of(program: str, kind: Kind, folder: Path, files: list[Path]) -> Iterator[Judging]:
     """What judges the documents; what takes long for each, a tenth of them."""
     texts, out, few = folder / "texts", folder / "report", files[: max(len(files) // 10, 1)]
@@ -156,8 +161,7 @@ def runs_of(program: str, kind: Kind, folder: Path, files: list[Path]) -> Iterat
     yield Judging("reading and SHA-256 alone, in Python", len(files), [])
     many = many_of(program)
     if many:
-        shares = [files[at::PROCESSORS] for at in range(PROCESSORS)]
-        yield Judging(MANY, len(files), [Run([many, "check", str(kind.dtd), kind.root], listed(share)) for share in shares if share])
+        yield Judging(MANY, len(files), shares_of([many, "check", str(kind.dtd), kind.root], files))
     yield Judging("`pvtag check` by `xargs`", len(few), [by_xargs([program, "check", str(kind.dtd), kind.root], few, 1)])
     if shutil.which("xmllint"):
         lint = ["xmllint", "--nonet", "--noout", "--dtdvalid"]
@@ -202,17 +206,19 @@ def drafts(program: str, flat: Path | None) -> Iterator[str]:
              "little more than lists and words is tagged": (iter(lambda: large.few_tags(large.DOCBOOK, DRAFT_BYTES), None), "", "")}
     kind = Kind("drafts", flat, large.DOCBOOK.root, "")
     words = [str(flat), kind.root]
-    yield from (f"A draft under DocBook, of {DRAFT_BYTES / 1000:.0f} kB, of {DRAFTS:,}; a report with `--need` asks `pvmany` for both:", "",
+    yield from (f"A draft under DocBook, of {DRAFT_BYTES / 1000:.0f} kB, of {DRAFTS:,}; a report with its part of what `pvmany` takes, one for each processor, with `--need` for both:", "",
                 "| Draft | `pvmany check` | a report | `pvmany need` | a report with `--need` | `pvtag check` | `pvtag session`, `need` |", "|---|---|---|---|---|---|---|")
     for title, (made, checked, needed) in texts.items():
         with tempfile.TemporaryDirectory(prefix="pvtag-archive-") as folder:
             files = write_documents(Path(folder) / "texts", made, DRAFTS)
             few, out = files[: DRAFTS // 20], Path(folder) / "report"
-            runs = [Run([many, "check", *words], listed(files)), Run(report_of(program, kind, Path(folder) / "texts", out)),
-                    Run([many, "need", *words], listed(files)), Run(report_of(program, kind, Path(folder) / "texts", out, "--need"))]
-            check, report, need, report_need = (min(used) / len(files) for used in zip(*([took(run).used for run in runs] for _ in range(ROUNDS))))
-            cells = [told_time(check) + checked, f"{told_time(report)}, {part_of(report, check, REPORT_AIM)} of it",
-                     told_time(need) + needed, f"{told_time(report_need)}, {part_of(report_need, check + need, REPORT_AIM)} of both",
+            check, need = [many, "check", *words], [many, "need", *words]
+            report = report_of(program, kind, Path(folder) / "texts", out)
+            report_need = report_of(program, kind, Path(folder) / "texts", out, "--need")
+            runs = [[Run(check, listed(files))], shares_of(check, files), [Run(report)], [Run(need, listed(files))], shares_of(need, files), [Run(report_need)]]
+            used = [min(each) / len(files) for each in zip(*([took(*run).used for run in runs] for _ in range(ROUNDS)))]
+            cells = [told_time(used[0]) + checked, f"{told_time(used[2])}, {part_of(used[2], used[1], REPORT_AIM)}",
+                     told_time(used[3]) + needed, f"{told_time(used[5])}, {part_of(used[5], used[1] + used[4], REPORT_AIM)}",
                      told_time(sum(took(Run([program, "check", *words, str(file)])).used for file in few) / len(few)),
                      told_time(sum(took(Run([program, "session", *words, str(file)], b"need\n")).used for file in few) / len(few))]
         yield f"| {title} | {' | '.join(cells)} |"
