@@ -5,6 +5,7 @@ Words: PVMANY PVTAG COUNT SEED. COUNT documents go through one process. The last
 import os
 import random
 import re
+import resource
 import shutil
 import subprocess
 import sys
@@ -48,6 +49,14 @@ TEMPLATES = (
 # Names of no file that can be read: a folder, none, and bytes that aren't UTF-8.
 NO_FILES = [b"folder", b"nothing.xml", b"", b"a\xff.xml", b"x" * 5000]
 PATIENCE = 1800
+# Runs a command beside 1,100 open files.
+OPENS = """
+import os, resource, sys
+resource.setrlimit(resource.RLIMIT_NOFILE, (4096, resource.getrlimit(resource.RLIMIT_NOFILE)[1]))
+for _ in range(1100):
+    os.set_inheritable(os.open("/dev/null", os.O_RDONLY), True)
+os.execv(sys.argv[1], sys.argv[1:])
+"""
 # Stands for `pvmany` where it dies at a document, hangs at one, or has no memory for one.
 STAND_IN = f"""#!{sys.executable}
 import os, time
@@ -262,6 +271,20 @@ def reports_missing(trial: Trial) -> None:
     trial.expect("a report on what is missing", rows[0] == rows[1] and rows[0]["draft.xml"]["missing"] == "1", rows)
 
 
+def reports_beside_files(trial: Trial) -> None:
+    """`clients/report` makes the same report where so many files are open that its own have numbers from 1,024 on."""
+    if resource.getrlimit(resource.RLIMIT_NOFILE)[1] < 4096:
+        print("many: no report beside 1,100 open files, which aren't allowed here")
+        return
+    report = [str(TOP / "clients" / "report"), "--program", trial.one, "--format", "tsv", DTD, "letter", "valid.xml", "draft.xml"]
+    told = []
+    for words in (report, [sys.executable, "-c", OPENS, *report]):
+        ran = subprocess.run(words, cwd=trial.folder, capture_output=True, text=True, timeout=PATIENCE, check=False)
+        rows = [line.split("\t") for line in ran.stdout.splitlines() if not line.startswith("#")]
+        told.append((ran.returncode, ran.stderr, [dict(zip(rows[0], row, strict=False)) | {"seconds": ""} for row in rows[1:]]))
+    trial.expect("a report beside open files", told[0] == told[1] and len(told[0][2]) == 2, told)
+
+
 def main(many: str, one: str, count: str, seed: str) -> int:
     # A program without proofs keeps what was freed for a while, unless it is told not to.
     os.environ.setdefault("ASAN_OPTIONS", "quarantine_size_mb=0:thread_local_quarantine_size_kb=0")
@@ -277,6 +300,7 @@ def main(many: str, one: str, count: str, seed: str) -> int:
         refuses(trial)
         reports(trial)
         reports_missing(trial)
+        reports_beside_files(trial)
     return trial.ended()
 
 

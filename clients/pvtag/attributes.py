@@ -16,7 +16,6 @@ import functools
 import json
 import os
 import re
-import select
 import subprocess
 import sys
 import threading
@@ -25,7 +24,7 @@ from typing import Any, NamedTuple
 
 from .masks import BLANK, Masked, mask
 from .places import BOM, Span, document_items
-from .program import RUNNING, Running, Stopped, Trouble, run
+from .program import RUNNING, Running, Stopped, Trouble, is_ready, run
 
 # What other tools may use; each has an example.
 __all__ = ("Attributes", "Attribute", "AttributeFault", "Checked")
@@ -205,11 +204,11 @@ class Asking:
 
     def ask(self, do: str, data: bytes, subset: bytes = b"") -> dict[str, Any]:
         assert self.process.stdin is not None and self.process.stdout is not None
-        ready: Sequence[Any] = [self.process.stdout]
+        ready = True
         try:
             self.process.stdin.write(json.dumps({"do": do, "size": len(data), "subset": len(subset)}).encode() + b"\n" + data + subset)
             self.process.stdin.flush()
-            ready, _, _ = select.select([self.process.stdout], [], [], SECONDS)
+            ready = is_ready(self.process.stdout, SECONDS)
             line = self.process.stdout.readline() if ready else b""
         except OSError:
             line = b""

@@ -4,12 +4,13 @@ import contextlib
 import os
 import re
 import resource
+import select
 import shutil
 import subprocess
 import sys
 import threading
 from collections.abc import Callable, Iterator, Sequence
-from typing import Any, NamedTuple
+from typing import IO, Any, NamedTuple
 
 # What other tools may use; each has an example.
 __all__ = ("Trouble", "Answer", "find", "run", "read_file", "shown_name", "file_of")
@@ -247,6 +248,13 @@ def ended(begun: subprocess.Popen[bytes], words: Sequence[str], given: bytes, mo
     if runs.stopped:
         raise Stopped
     return Answer(begun.returncode, output, errors or b"")
+
+
+def is_ready(pipe: IO[bytes], seconds: float) -> bool:
+    """Whether something can be read from a pipe, or its end, within so many seconds; its descriptor may have any number."""
+    waiting = select.poll()
+    waiting.register(pipe, select.POLLIN)
+    return bool(waiting.poll(max(seconds, 0) * 1000))
 
 
 def took_too_long(words: Sequence[str], most: float | None) -> str:

@@ -2,13 +2,12 @@
 import contextlib
 import functools
 import os
-import select
 import subprocess
 import threading
 import time
 from collections.abc import Iterator, Sequence
 
-from pvtag.program import RUNNING, Answer, Stopped, is_made, is_utf_8
+from pvtag.program import RUNNING, Answer, Stopped, is_made, is_ready, is_utf_8
 
 # So many processes wait for a document at most, under all DTDs.
 MOST_IDLE = 64
@@ -65,7 +64,7 @@ class Process:
         has died."""
         assert self.run.stdout
         end, found = time.monotonic() + most, self.whole_lines(names)
-        while not found and select.select([self.run.stdout], [], [], max(end - time.monotonic(), 0))[0]:
+        while not found and is_ready(self.run.stdout, end - time.monotonic()):
             if len(names) > 1:
                 # The others come as quickly as the first, about.
                 time.sleep(min((time.monotonic() - self.since) * (len(names) - 1), MOMENT))
