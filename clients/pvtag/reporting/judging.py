@@ -318,7 +318,7 @@ def given(path: str, data: bytes | None, under: Under, copies: contextlib.ExitSt
 
 def identity(seen: os.stat_result) -> tuple[int, ...]:
     """What differs once a file has changed, or another has taken its name."""
-    return seen.st_dev, seen.st_ino, seen.st_size, seen.st_mtime_ns
+    return seen.st_dev, seen.st_ino, seen.st_size, seen.st_mtime_ns, seen.st_ctime_ns
 
 
 def seen_of(path: str) -> tuple[int, ...] | None:

@@ -167,9 +167,11 @@ class Together:
 
 
 def content(path: str, size: int) -> bytes:
-    """The bytes of a file that has so many."""
-    file = os.open(path, os.O_RDONLY | os.O_CLOEXEC)
+    """The bytes of a file that has so many. It isn't waited for, and is refused, if another took its name that is none."""
+    file = os.open(path, os.O_RDONLY | os.O_CLOEXEC | os.O_NONBLOCK)
     try:
+        if not stat.S_ISREG(os.fstat(file).st_mode):
+            raise OSError(f"{path} isn't a file any more")
         data = os.read(file, size)
         while len(data) < size and (more := os.read(file, size - len(data))):
             data += more
