@@ -1,5 +1,5 @@
 -- What is found with a list that ends.
-use Rattle.std.proofs.Common.{◌≡◌, ℕ, ◌+◌, List, ◌∷◌, ◌++◌, length, map, true, false, Option, Some, Result, Ok, Err, OnOk, sym, ap, ◌∙◌, subst}
+use Rattle.std.proofs.Common.{◌≡◌, ℕ, ◌+◌, List, ◌∷◌, ◌++◌, length, true, false, Some, Result, Ok, Err, OnOk, sym, ap, ◌∙◌, subst}
 use Rattle.std.specs.List.{AllByRecursion}
 use Rattle.std.proofs.lemmas.List.{length-map}
 use Rattle.pv_model.specs.PlainForms.{plain_token}
@@ -34,7 +34,7 @@ module _ (s : Widths) (g : PlainDtd) (root : List ℕ) (xs ys : List (Listed Mar
 
   module _ (old new : Findings) (f : HasFound s g root (xs ++ ys) old) (behind : noted.any ≡ true)
       (first_is : new.first ≡ old.first) (possible_is : new.possible ≡ old.possible)
-      (count_is : new.lists ≡ old.lists + 1) where
+      (count_is : new.lists ≡ old.lists + 1) (plan_is : new.plan ≡ old.plan) where
     some : TellsWhether (IsNarrowAndLive s g root) xs true
     some = subst (TellsWhether (IsNarrowAndLive s g root) xs) behind n.any
 
@@ -42,15 +42,15 @@ module _ (s : Widths) (g : PlainDtd) (root : List ℕ) (xs ys : List (Listed Mar
     behind_wide wide wide_is =
         let before = subst (TellsWhether (IsListWithin s g) xs) wide n.wide in
         kept_behind s g root xs ys x old new f some
-        (rw wide_is (wide_behind s g root xs ys x old new f before)) first_is possible_is
-        count_is
+        (rw wide_is (wide_behind s g root xs ys x old new f before)) first_is possible_is count_is
+        plan_is
 
     pub narrow_behind : IsListWithin s g x → new.wide ≡ old.wide →
         HasFound s g root (xs ++ x ∷ ys) new
     narrow_behind narrow wide_is =
         kept_behind s g root xs ys x old new f some
         (rw wide_is (wide_narrow s g root xs ys x old new f noted.wide n.wide narrow)) first_is
-        possible_is count_is
+        possible_is count_is plan_is
 
     pub found_behind : (path : List ℕ) → noted.wide ≡ false → (IsListWithin s g x → ⊥) →
         new.wide ≡ Some path → path ≡ x.path → HasFound s g root (xs ++ x ∷ ys) new
@@ -58,4 +58,4 @@ module _ (s : Widths) (g : PlainDtd) (root : List ℕ) (xs ys : List (Listed Mar
         let before = subst (TellsWhether (IsListWithin s g) xs) none n.wide in
         kept_behind s g root xs ys x old new f some
         (wide_found s g root xs ys x old new f before wide
-        (wide_is ∙ ap (λ (p : List ℕ). Some p) path_is)) first_is possible_is count_is
+        (wide_is ∙ ap (λ (p : List ℕ). Some p) path_is)) first_is possible_is count_is plan_is

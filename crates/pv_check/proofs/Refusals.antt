@@ -5,7 +5,7 @@ use Rattle.pv_tree.specs.declared.nodes.Mark.{Mark}
 use Rattle.pv_read.specs.Limits.{TextLimits}
 use Rattle.pv_read.specs.Meaning.{DocumentMeansWithin, Outcome}
 use Rattle.pv_read.specs.declared.errors.DocError.TheVariants as unread
-use Rattle.pv_lists.specs.Answers.{AnswersLists, RefusesLists}
+use Rattle.pv_lists.specs.Answers.{RefusesLists}
 use Rattle.pv_lists.specs.declared.errors.ReadError.{ReadError}
 use Rattle.pv_lists.specs.declared.errors.ReadError.TheVariants as read_error
 use Rattle.pv_lists.proofs.Refusals.{read_answered}

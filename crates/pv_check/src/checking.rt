@@ -19,8 +19,9 @@ ghost use Rattle.pv_read.specs.PlainForms.{Answers};
 use crate::errors::{ListError, TextError};
 use crate::findings::{Findings, Noted};
 use crate::judging::Verdicts;
+use crate::planning::Planning;
 use crate::widths::Widths;
-use crate::words::judge_word;
+use crate::words::judge_word_planned;
 use pv_dtd::laws::proper_dtd_law;
 use pv_fresh::count_lists;
 use pv_lists::{OpenLists, read_lists};
@@ -59,7 +60,8 @@ fn judge_root(
         IfOk result (HasFound widths (dtd_of judge.now) root.now (root_lists t)) }
 {
     let owner = root_owner(judge.grammar().dtd(), root);
-    let judged = judge_word(widths, judge, owner, &[lists.inner.token], false)?;
+    let word = [lists.inner.token];
+    let judged = judge_word_planned(widths, judge, &lists.found.plan, owner, &word, false)?;
     let mut found = lists.found;
     found.add(judge.alloc(), judged, &[])?;
     Ok(found)
@@ -69,6 +71,7 @@ fn judge_root(
 fn find_lists(
     widths: Widths,
     judge: &Judge<'_>,
+    planning: Planning,
     root: &[u8],
     bytes: &[u8],
 ) -> Result<Findings, TextError>
@@ -81,7 +84,11 @@ fn find_lists(
     ensures exactly { (o : Outcome Mark) → DocumentMeans blank_mark root.now bytes.now o →
         IfErr result (AnswersText o) }
 {
-    let verdicts = Verdicts { judge, widths };
+    let verdicts = Verdicts {
+        judge,
+        planning,
+        widths,
+    };
     let lists = read_lists(
         judge.alloc(),
         &verdicts,
@@ -103,8 +110,10 @@ fn tell(found: Findings) -> Told
         wide,
         first,
         possible,
+        plan,
         ..
     } = found;
+    drop(plan);
     match wide {
         Some(path) => Told::TooWide(path),
         None => match first {
@@ -128,11 +137,15 @@ fn count<L: Ledger>(told: &Told, lists: u64, steps: &mut Steps<L>)
 /// What the lists of the document that the bytes are tell, where the root's name is this one: what
 /// `check_doc` of `pv_fresh` finds of it, found in one pass and without a tree.
 ///
+/// The rules are laid out by the judge, or here, at the first list that isn't seen to be Valid: a
+/// document whose lists all are takes no plan.
+///
 /// What `read_doc` refuses is refused, with the same error; a fault anywhere in the bytes comes
 /// before any answer, unless long lists come before it. Each list is one step, as `check_doc`
 /// counts them, though those that begin after an Impossible one aren't judged.
 pub fn check_text<L: Ledger>(
     judge: &Judge<'_>,
+    planning: Planning,
     root: &[u8],
     bytes: &[u8],
     steps: &mut Steps<L>,
@@ -152,7 +165,7 @@ pub fn check_text<L: Ledger>(
 {
     live_lists_law::<Mark>();
     proper_dtd_law(judge.grammar().dtd());
-    let found = find_lists(Widths::Limited, judge, root, bytes)?;
+    let found = find_lists(Widths::Limited, judge, planning, root, bytes)?;
     let lists = found.lists;
     let told = tell(found);
     count(&told, lists, steps);
@@ -176,7 +189,7 @@ pub fn check_any_text(judge: &Judge<'_>, root: &[u8], bytes: &[u8]) -> Result<To
 {
     live_lists_law::<Mark>();
     proper_dtd_law(judge.grammar().dtd());
-    match find_lists(Widths::Any, judge, root, bytes) {
+    match find_lists(Widths::Any, judge, Planning::Laid, root, bytes) {
         Ok(found) => Ok(tell(found)),
         Err(TextError::Document(error)) => Err(error),
         // No number of tokens is too many here.

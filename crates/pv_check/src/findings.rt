@@ -13,6 +13,7 @@ ghost use Rattle.pv_check.specs.declared.widths.Widths.{Widths as HowWide};
 use crate::errors::ListError;
 use crate::widths::Widths;
 use pv_chars::NoMemory;
+use pv_reach::Plan;
 use pv_tree::{Path, Verdict};
 use std::alloc::Global;
 
@@ -44,6 +45,8 @@ pub struct Findings {
     pub lists: u64,
     /// How many tokens of long lists that aren't valid may still be judged.
     pub left: usize,
+    /// The plan of the grammar, where its rules were laid out for these lists.
+    pub plan: Option<Plan>,
 }
 
 impl Findings {
@@ -60,6 +63,7 @@ impl Findings {
                 Widths::Limited => TOKENS_BY_ONE_THREAD,
                 Widths::Any => usize::MAX,
             },
+            plan: None,
         }
     }
 

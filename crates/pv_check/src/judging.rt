@@ -1,61 +1,62 @@
 //! The verdicts of lists, each found where its element ends.
 
-ghost use Rattle.std.specs.Prelude.{◌≡◌, ◌<◌, ◌↔◌, true, false, length, IfOk, IsTrue, OnOk};
-ghost use Rattle.std.specs.Prelude.{List};
+ghost use Rattle.std.specs.Prelude.{◌≡◌, ◌<◌, true, false, IfOk, IfSome, List, OnOk};
 ghost use Rattle.pv_productive.specs.PlainForms.{dtd_of};
 ghost use Rattle.pv_tree.specs.Plain.{Tree};
 ghost use Rattle.pv_tree.specs.declared.nodes.Mark.{Mark};
+ghost use Rattle.pv_reach.specs.Plans.{IsPlan};
 ghost use Rattle.pv_lists.specs.Judgements.{FindsEnded, IsEnded, MAX_KIDS, path_in};
 ghost use Rattle.pv_check.specs.Findings.{verdicts_by};
-ghost use Rattle.pv_check.specs.ListJudgements.{FitsWithin, IsPlaced, JudgesOwn};
+ghost use Rattle.pv_check.specs.ListJudgements.{IsPlaced, JudgesOwn};
 
 use crate::errors::ListError;
 use crate::findings::{Findings, Noted};
+use crate::planning::Planning;
 use crate::widths::Widths;
-use crate::words::{judge_word, owner_of};
+use crate::words::{is_narrow, owner_of, plan_and_judge_word};
 use pv_chars::NoMemory;
 use pv_dtd::Dtd;
 use pv_lists::{ListJudge, OpenList, places_in};
-use pv_missing::is_narrow;
 use pv_model::Token;
-use pv_reach::Judge;
+use pv_reach::{Judge, Plan};
 use pv_tree::{Path, Verdict};
 
 /// Finds which lists are too wide, and the verdicts of the others, up to the first that is too wide
-/// or Impossible.
+/// or Impossible. The plan that is laid out at need stands with what was found.
 #[derive(Drop)]
 pub struct Verdicts<'l, 'a> {
     pub judge: &'l Judge<'a>,
+    pub planning: Planning,
     pub widths: Widths,
 }
 
 impl<'l, 'a> Verdicts<'l, 'a> {
-    // Whether a list of this word isn't too wide.
-    fn is_narrow(&self, word: &[Token]) -> bool
-        ensures { IsTrue result ↔
-            FitsWithin self.now.widths (dtd_of self.now.judge.now) (length word.now) }
-    {
-        match self.widths {
-            Widths::Limited => is_narrow(self.judge.grammar().dtd(), word.len() as u64),
-            Widths::Any => true,
-        }
-    }
-
     // The verdict of the list of this element, which ends with this word; none where it is too
     // wide.
     fn verdict(
         &self,
         list: &OpenList<'_, Noted>,
         word: &[Token],
+        plan: &mut Option<Plan>,
     ) -> Result<Option<Verdict>, NoMemory>
-        ensures { (kids : List (Tree Mark)) →
+        requires { IfSome plan.old (IsPlan (dtd_of self.now.judge.now)) }
+        ensures judges { (kids : List (Tree Mark)) →
             IsEnded (dtd_of self.now.judge.now) list.now word.now kids →
             IfOk result (JudgesOwn self.now.widths (dtd_of self.now.judge.now) list.now.name.now
             kids) }
+        ensures planned { IfSome plan.new (IsPlan (dtd_of self.now.judge.now)) }
     {
         let owner = owner_of(list.token);
         let has_kids = list.kids > 0;
-        judge_word(self.widths, self.judge, owner, word, !has_kids)
+        plan_and_judge_word(
+            self.widths,
+            self.planning,
+            self.judge,
+            plan,
+            owner,
+            word,
+            !has_kids,
+        )
     }
 
     // The places of a list in these elements, where it is, judged so, too wide or Impossible.
@@ -90,7 +91,7 @@ impl<'l, 'a> Verdicts<'l, 'a> {
             found.lists += 1;
             return Ok(());
         }
-        if self.is_narrow(word) {
+        if is_narrow(self.widths, self.judge, word) {
             found.lists += 1;
             return Ok(());
         }
@@ -112,11 +113,12 @@ impl<'l, 'a> Verdicts<'l, 'a> {
         requires few_lists { found.old.lists < MAX_KIDS }
         requires few_possible { found.old.possible < MAX_KIDS }
         requires first { list.now.before.any ≡ false }
+        requires planned { IfSome found.old.plan (IsPlan (dtd_of self.now.judge.now)) }
         ensures { OnOk result (FindsEnded
             (verdicts_by self.now.widths (dtd_of self.now.judge.now)) list.now word.now outer.now
             found.old found.new) }
     {
-        let judged = self.verdict(list, word)?;
+        let judged = self.verdict(list, word, &mut found.plan)?;
         let places = self.places(outer, judged)?;
         found.add(self.judge.alloc(), judged, &places)?;
         found.spend(word.len(), judged)

@@ -1,6 +1,6 @@
 //! The command `check`.
 
-ghost use Rattle.std.specs.Prelude.{◌≡◌, IfOk, IfSome, List, length, ℕ};
+ghost use Rattle.std.specs.Prelude.{◌≡◌, IfOk, List, length, ℕ};
 ghost use Rattle.pv_check.specs.Answers.{CountsTold, RefusesBytes, Tells};
 ghost use Rattle.pv_read.specs.Meaning.{DocumentMeans};
 ghost use Rattle.pv_tree.specs.Marks.{blank_mark};
@@ -15,15 +15,12 @@ ghost use Rattle.pv_opening.specs.Response.{plain_response, with_line};
 ghost use Rattle.pv_opening.specs.Returns.{TakesCourse, ending_of, plain_fetched};
 ghost use Rattle.pv_opening.specs.declared.status.Status.TheVariants.{Done};
 ghost use Rattle.pv_productive.specs.PlainForms.{dtd_of};
-ghost use Rattle.pv_reach.specs.Plans.{IsPlan};
 ghost use Rattle.pv_tree.specs.Lists.{lists_of};
 ghost use Rattle.pv_tree.specs.Plain.{PlainDoc};
 ghost use Rattle.pv_tree.specs.PlainDocs.{plain_doc};
 ghost use Rattle.pv_tree.specs.declared.nodes.Mark.{Mark};
 
-use pv_chars::NoMemory;
-use pv_check::{TextError, Told, check_text};
-use pv_dtd::Dtd;
+use pv_check::{Planning, TextError, Told, check_text};
 use pv_missing::Verdicts;
 use pv_opening::{
     Fetched, Response, Status, Stop, narrow_verdicts_by, refuse_document, refuse_path,
@@ -33,14 +30,10 @@ use pv_reach::{Judge, Plan};
 use pv_read::read_doc;
 use pv_steps::Steps;
 use pv_tree::Doc;
-use pv_valid::first_invalid_in;
 use std::alloc::{AllocError, Global};
 use std::mem::forget;
 use std::sync::ledger::Ledger;
 use std::thread::Threads;
-
-// A small text has at most so many bytes for each column of the DTD.
-const TEXT_FOR_COLUMN: u64 = 64;
 
 /// What becomes of a document that was read from a text, once there is an answer.
 #[derive(Clone, Copy)]
@@ -150,10 +143,30 @@ fn check_opened<L: Ledger>(
     }
 }
 
+// What is told of the lists of a document that is opened first, by a plan that is laid out for it.
+fn plan_and_check_opened<L: Ledger>(
+    rt: &(impl Threads + Sync),
+    judge: &Judge<'_>,
+    root: &[u8],
+    bytes: &[u8],
+    keeping: Keeping,
+    steps: &mut Steps<L>,
+) -> Result<Response, Stop>
+    ensures finds { TakesCourse
+        (BehindDocument IsCheckCourse root.now (dtd_of judge.now, bytes.now)) result }
+    ensures checks { CountsJudged (judging_stage root.now (dtd_of judge.now) bytes.now)
+        lists_judged CountsNoMore (ending_of result) steps.old steps.new }
+{
+    let plan = Plan::of(judge.alloc(), judge.grammar())?;
+    let planned = Judge::new(judge.alloc(), judge.grammar(), &plan);
+    check_opened(rt, &planned, root, bytes, keeping, steps)
+}
+
 // What is done where a text has no answer: its fault is told, or it is opened.
 fn check_again<L: Ledger>(
     rt: &(impl Threads + Sync),
     judge: &Judge<'_>,
+    planning: Planning,
     root: &[u8],
     bytes: &[u8],
     error: TextError,
@@ -168,7 +181,31 @@ fn check_again<L: Ledger>(
 {
     match error {
         TextError::Document(fault) => Err(refuse_document(judge.alloc(), fault)),
-        TextError::LongLists => check_opened(rt, judge, root, bytes, keeping, steps),
+        TextError::LongLists => match planning {
+            Planning::Laid => check_opened(rt, judge, root, bytes, keeping, steps),
+            Planning::AtNeed => plan_and_check_opened(rt, judge, root, bytes, keeping, steps),
+        },
+    }
+}
+
+// What `check_by` answers, by a judge whose rules are laid out then.
+fn check_planned<L: Ledger>(
+    rt: &(impl Threads + Sync),
+    judge: &Judge<'_>,
+    planning: Planning,
+    root: &[u8],
+    bytes: &[u8],
+    keeping: Keeping,
+    steps: &mut Steps<L>,
+) -> Result<Response, Stop>
+    ensures finds { TakesCourse
+        (BehindDocument IsCheckCourse root.now (dtd_of judge.now, bytes.now)) result }
+    ensures checks { CountsJudged (judging_stage root.now (dtd_of judge.now) bytes.now)
+        lists_judged CountsNoMore (ending_of result) steps.old steps.new }
+{
+    match check_text(judge, planning, root, bytes, steps) {
+        Ok(told) => respond_told(judge.alloc(), told),
+        Err(error) => check_again(rt, judge, planning, root, bytes, error, keeping, steps),
     }
 }
 
@@ -187,49 +224,11 @@ pub fn check_by<L: Ledger>(
     ensures checks { CountsJudged (judging_stage root.now (dtd_of judge.now) bytes.now)
         lists_judged CountsNoMore (ending_of result) steps.old steps.new }
 {
-    match check_text(judge, root, bytes, steps) {
-        Ok(told) => respond_told(judge.alloc(), told),
-        Err(error) => check_again(rt, judge, root, bytes, error, keeping, steps),
-    }
+    check_planned(rt, judge, Planning::Laid, root, bytes, keeping, steps)
 }
 
-// Whether a small text is a valid document, or none. To find that takes a small part of the time
-// that a plan takes.
-fn needs_no_plan(alloc: Global, dtd: &Dtd, root: &[u8], bytes: &[u8]) -> bool {
-    let most = TEXT_FOR_COLUMN.saturating_mul(u64::from(dtd.columns()));
-    bytes.len() as u64 <= most && !matches!(first_invalid_in(alloc, dtd, root, bytes), Ok(Some(_)))
-}
-
-// The plan of the grammar, but for a text that needs none: the verdicts of a valid document rarely
-// do.
-fn plan_for(
-    alloc: Global,
-    grammar: &Grammar,
-    root: &[u8],
-    bytes: &[u8],
-) -> Result<Option<Plan>, NoMemory>
-    ensures { IfOk result (λ plan. IfSome plan (IsPlan (dtd_of grammar.now))) }
-{
-    if needs_no_plan(alloc, grammar.dtd(), root, bytes) {
-        return Ok(None);
-    }
-    let plan = Plan::of(alloc, grammar)?;
-    Ok(Some(plan))
-}
-
-// What judges by the plan, where there is one.
-fn judge_by<'a>(alloc: Global, grammar: &'a Grammar, plan: &'a Option<Plan>) -> Judge<'a>
-    requires { IfSome plan.now (IsPlan (dtd_of grammar.now)) }
-    ensures { result ≡ grammar.now }
-{
-    match plan {
-        Some(plan) => Judge::new(alloc, grammar, plan),
-        None => Judge::without_plan(alloc, grammar),
-    }
-}
-
-// Whether inserting elements can make a document valid for this grammar. The document is never
-// freed.
+// Whether inserting elements can make a document valid for this grammar, whose rules are laid out
+// at the first list that isn't seen to be Valid. The document is never freed.
 fn check_under<L: Ledger>(
     rt: &(impl Threads + Sync),
     alloc: Global,
@@ -243,9 +242,16 @@ fn check_under<L: Ledger>(
     ensures checks { CountsJudged (judging_stage root.now (dtd_of grammar.now) bytes.now)
         lists_judged CountsNoMore (ending_of result) steps.old steps.new }
 {
-    let plan = plan_for(alloc, grammar, root, bytes)?;
-    let judge = judge_by(alloc, grammar, &plan);
-    check_by(rt, &judge, root, bytes, Keeping::Kept, steps)
+    let judge = Judge::without_plan(alloc, grammar);
+    check_planned(
+        rt,
+        &judge,
+        Planning::AtNeed,
+        root,
+        bytes,
+        Keeping::Kept,
+        steps,
+    )
 }
 
 /// Whether inserting elements can make a document valid for a DTD.

@@ -7,7 +7,7 @@ returns-in_ok-new-in-None-2 c = λ s g root before after list f all judges place
     let is = rw c.in-None.is at placed in
     put_wide s g root before after list c.args.self.now _ f all (rw c.in-None.is at judges)
     (ap Some (c.in_ok-new-in-None.ensures ∙ is)) (ap Some (c.in_ok-new-in-None-2.ensures ∙ is))
-    refl refl
+    refl refl refl
 
 pub returns-in-Some : goal.returns-in-Some
 returns-in-Some c = λ s g root before after list f all judges placed.

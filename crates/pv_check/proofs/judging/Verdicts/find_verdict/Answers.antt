@@ -10,8 +10,15 @@ returns c = on_ok c.spend.result (λ root before after kids finds notes whole.
     let g = dtd_of c.args.self.now.judge.now in
     let list = c.args.list.now in
     let ended = ended_list list c.args.outer.now kids in
-    c.spend.ensures s g root (before ++ ended_list list c.args.outer.now kids ∷ after)
-    (c.in_ok-add.ensures s g root before after (ended_list list c.args.outer.now kids) finds
-    (first_so_far s g root before after (ended_list list c.args.outer.now kids) list.before notes
-    c.requires.first)
-    (c.in_ok-judged.ensures kids whole root (path_in c.args.outer.now)) (rw c.deref.ensures.value c.in_ok-places.ensures)))
+    c.spend.ensures s g root (before ++ ended ∷ after)
+    (c.in_ok-add.ensures s g root before after ended (record {
+      first_wide = finds.first_wide;
+      first = finds.first;
+      possible = finds.possible;
+      few_possible = finds.few_possible;
+      count = finds.count;
+      plan = c.in_ok-judged.ensures.planned;
+    })
+    (first_so_far s g root before after ended list.before notes c.requires.first)
+    (c.in_ok-judged.ensures.judges kids whole root (path_in c.args.outer.now))
+    (rw c.deref.ensures.value c.in_ok-places.ensures)))

@@ -6,7 +6,7 @@ use Rattle.pv_commands.specs.Check.{IsCheckCourse}
 use Rattle.pv_opening.specs.Documents.{PlainOpened, document_stage}
 use Rattle.pv_commands.proofs.CommandCounts.{judged_document}
 use Rattle.pv_opening.proofs.Stages.{found_behind}
-use Rattle.pv_commands.proofs.check.check_by.Goals as goal
+use Rattle.pv_commands.proofs.check.check_planned.Goals as goal
 
 pub returns-in-Ok-clause-finds : goal.returns-in-Ok-clause-finds
 returns-in-Ok-clause-finds g c =

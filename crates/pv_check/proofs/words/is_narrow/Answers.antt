@@ -2,7 +2,7 @@ use Rattle.std.proofs.Common.{ap, ◌∙◌, subst, ◌↔◌, IsTrue, length}
 use Rattle.pv_dtd.specs.Plain.{PlainDtd}
 use Rattle.pv_productive.specs.PlainForms.{dtd_of}
 use Rattle.pv_missing.specs.Widths.{FitsVerdict}
-use Rattle.pv_check.proofs.judging.Verdicts.is_narrow.Goals as goal
+use Rattle.pv_check.proofs.words.is_narrow.Goals as goal
 
 pub returns-in-Limited : goal.returns-in-Limited
 returns-in-Limited c = rw c.in-Limited.is
