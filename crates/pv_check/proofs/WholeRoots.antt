@@ -16,7 +16,7 @@ use Rattle.pv_missing.specs.Completions.{IsPotentiallyValid}
 use Rattle.pv_missing.specs.DocumentLaws.{IsPotentiallyValidByLists}
 use Rattle.pv_missing.specs.Proper.{IsProperDoc}
 use Rattle.pv_missing.specs.Verdicts.{IsFirstImpossible, IsLive}
-use Rattle.pv_check.specs.Answers.{Tells, TellsAnyhow, TellsLists}
+use Rattle.pv_check.specs.Answers.{Tells, TellsAtAnyWidth, TellsLists}
 use Rattle.pv_check.specs.Findings.{HasFound}
 use Rattle.pv_check.specs.ListJudgements.{IsListWithin, IsNarrowAndLive}
 use Rattle.pv_check.specs.declared.checking.Told.{Told}
@@ -87,13 +87,13 @@ module _ (by_lists : IsPotentiallyValidByLists Mark) (g : PlainDtd) (root : List
   }
   tells_document (told.TooWide path) h = h
 
-  pub tells_anyhow : (t : Told) → TellsLists widths.Any g root (lists_of doc) t →
-      TellsAnyhow g root doc t
-  tells_anyhow (told.Possible n) h =
+  pub tells_at_any_width : (t : Told) → TellsLists widths.Any g root (lists_of doc) t →
+      TellsAtAnyWidth g root doc t
+  tells_at_any_width (told.Possible n) h =
       record { possible = (by_lists g root doc p q).1 h.live; count = h.count }
-  tells_anyhow (told.Impossible path) h =
+  tells_at_any_width (told.Impossible path) h =
       record { impossible = impossible_by path h.first; first = h.first }
-  tells_anyhow (told.TooWide path) h = absurd (h.is_not tt)
+  tells_at_any_width (told.TooWide path) h = absurd (h.is_not tt)
 
 pub proper_text : (root bytes : List ℕ) (doc : PlainDoc Mark) →
     DocumentMeans blank_mark root bytes (is_document doc) → IsProperDoc doc

@@ -40,22 +40,22 @@ Tells g root doc (told.Impossible path) = IsImpossibleAt root g doc path
 Tells g root doc (told.TooWide path) = IsFirstTooWide g (lists_of doc) path
 
 -- Inserting elements can make the document valid, and so many of its lists are Possible.
-pub record IsPossibleAnyhow (root : List ℕ) (g : PlainDtd) (doc : PlainDoc Mark) (n : ℕ) : Type 0
+pub record IsPossibleAtAnyWidth (root : List ℕ) (g : PlainDtd) (doc : PlainDoc Mark) (n : ℕ) : Type 0
   where
     pub possible : IsPotentiallyValid g root (view doc.root)
     pub count : HavePossible g root (lists_of doc) n
 
 -- No insertions can make it valid, and this is the path of its first impossible list.
-pub record IsImpossibleAnyhow (root : List ℕ) (g : PlainDtd) (doc : PlainDoc Mark)
+pub record IsImpossibleAtAnyWidth (root : List ℕ) (g : PlainDtd) (doc : PlainDoc Mark)
     (path : List ℕ) : Type 0 where
   pub impossible : IsPotentiallyValid g root (view doc.root) → ⊥
   pub first : IsFirstImpossible g root (lists_of doc) path
 
 -- what is told of a document where no list is too wide for it
-abbrev pub TellsAnyhow : PlainDtd → List ℕ → PlainDoc Mark → Told → Type 0
-TellsAnyhow g root doc (told.Possible n) = IsPossibleAnyhow root g doc n
-TellsAnyhow g root doc (told.Impossible path) = IsImpossibleAnyhow root g doc path
-TellsAnyhow g root doc (told.TooWide path) = ⊥
+abbrev pub TellsAtAnyWidth : PlainDtd → List ℕ → PlainDoc Mark → Told → Type 0
+TellsAtAnyWidth g root doc (told.Possible n) = IsPossibleAtAnyWidth root g doc n
+TellsAtAnyWidth g root doc (told.Impossible path) = IsImpossibleAtAnyWidth root g doc path
+TellsAtAnyWidth g root doc (told.TooWide path) = ⊥
 
 -- how many steps an answer of lists takes: one for each list, and none where one is too wide
 abbrev pub CountsTold : List (Listed Mark) → Told → ℕ → ℕ → Type 0

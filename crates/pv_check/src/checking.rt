@@ -10,7 +10,7 @@ ghost use Rattle.pv_tree.specs.declared.nodes.Mark.{Mark};
 ghost use Rattle.pv_read.specs.Meaning.{DocumentMeans, Outcome, is_document};
 ghost use Rattle.pv_lists.specs.Answers.{ReadsLists};
 ghost use Rattle.pv_check.specs.Answers.{AnswersText, CountsTold, RefusesBytes, Tells, TellsLists};
-ghost use Rattle.pv_check.specs.Answers.{TellsAnyhow, root_lists};
+ghost use Rattle.pv_check.specs.Answers.{TellsAtAnyWidth, root_lists};
 ghost use Rattle.pv_check.specs.Findings.{HasFound, verdicts_by};
 ghost use Rattle.pv_check.specs.declared.widths.Widths.{Widths as HowWide};
 ghost use Rattle.pv_read.specs.Errors.{Refuses};
@@ -182,7 +182,7 @@ pub fn check_any_text(judge: &Judge<'_>, root: &[u8], bytes: &[u8]) -> Result<To
         DocumentMeans blank_mark root.now bytes.now (is_document doc)) }
     ensures tells { IfOk result (λ told. (doc : PlainDoc Mark) →
         DocumentMeans blank_mark root.now bytes.now (is_document doc) →
-        TellsAnyhow (dtd_of judge.now) root.now doc told) }
+        TellsAtAnyWidth (dtd_of judge.now) root.now doc told) }
     ensures refused { IfErr result (Refuses (DocumentMeans blank_mark root.now bytes.now)) }
     ensures exactly { (o : Outcome Mark) → DocumentMeans blank_mark root.now bytes.now o →
         IfErr result (λ e. Answers o (Err e)) }

@@ -1,7 +1,7 @@
 //! Whether inserting elements can make a document valid, however wide its lists are.
 
 ghost use Rattle.std.specs.Prelude.{◌≡◌, IfOk, List, ℕ};
-ghost use Rattle.pv_check.specs.Answers.{TellsAnyhow};
+ghost use Rattle.pv_check.specs.Answers.{TellsAtAnyWidth};
 ghost use Rattle.pv_dtd.specs.Plain.{PlainDtd};
 ghost use Rattle.pv_opening.specs.Response.{plain_response, with_line};
 ghost use Rattle.pv_opening.specs.Returns.{TellsBy};
@@ -33,9 +33,9 @@ fn possible_line(alloc: Global, left: u64) -> Result<Response, AllocError>
 // What is told of the lists of a document.
 fn respond_told(alloc: Global, told: Told) -> Result<Response, Stop>
     requires { (root : List ℕ) × (g : PlainDtd) × (doc : PlainDoc Mark) ×
-        TellsAnyhow g root doc told }
+        TellsAtAnyWidth g root doc told }
     ensures { (root : List ℕ) (g : PlainDtd) (doc : PlainDoc Mark) →
-        TellsAnyhow g root doc told → TellsBy (TellsChecked root g doc) result }
+        TellsAtAnyWidth g root doc told → TellsBy (TellsChecked root g doc) result }
 {
     match told {
         Told::Possible(left) => Ok(possible_line(alloc, left)?),
