@@ -11,6 +11,7 @@ ghost use Rattle.pvlong.specs.RequestAnswers.{FindsAnswer, AnswersFetched};
 ghost use Rattle.pvlong.specs.Requests.{plain_request};
 ghost use Rattle.pvlong.specs.ToldNumbers.{TellsDocument, TellsFor, TellsNumber, not_least_in};
 ghost use Rattle.pvlong.specs.ToldNumbers.{response_in};
+ghost use Rattle.pvlong.specs.declared.requests.Question.TheVariants.{Check};
 
 use crate::possibility::check;
 use crate::requests::{Question, Request};
@@ -70,7 +71,8 @@ fn told_of(response: Result<Response, Stop>) -> Result<Told, Stop>
     }
 }
 
-// What a question about a document is answered, which these bytes are.
+// What a question about the elements that are missing in a document is answered, which these bytes
+// are.
 fn tell(
     alloc: Global,
     question: Question,
@@ -79,19 +81,38 @@ fn tell(
     doc: &Doc,
     bytes: &[u8],
 ) -> Result<Told, Stop>
-    requires { DocumentMeans blank_mark root.now bytes.now (is_document (plain_doc doc.now)) }
+    requires means { DocumentMeans blank_mark root.now bytes.now (is_document (plain_doc doc.now)) }
+    requires asks { question ≡ Check → ⊥ }
     ensures { TellsBy (TellsFor question root.now (plain_dtd dtd) (plain_doc doc.now) bytes.now
         (not_least_in result)) (response_in result) }
 {
     let grammar = build(alloc, dtd)?;
     match question {
-        Question::Check => told_of(check(alloc, &grammar, root, bytes)),
+        Question::Check => unreachable!(),
         Question::Need => told_of(tell_number(alloc, &grammar, root, doc, bytes)),
         Question::Complete => tell_document(alloc, &grammar, root, doc, bytes),
     }
 }
 
-// Reads the document, and tells what is asked of it. It is never freed.
+// Reads the document, and tells what is asked of what is missing in it. It is never freed.
+fn answer_opened(
+    alloc: Global,
+    question: Question,
+    fetched: Fetched,
+    root: &[u8],
+) -> Result<Told, Stop>
+    requires { question ≡ Check → ⊥ }
+    ensures { TakesCourse (AnswersFetched question root.now (plain_fetched fetched)
+        (not_least_in result)) (response_in result) }
+{
+    let Opened { dtd, bytes, doc } = open_document(alloc, fetched, root)?;
+    let told = tell(alloc, question, dtd, root, &doc, &bytes);
+    forget(doc);
+    told
+}
+
+// What a question about a document is answered, whose bytes were fetched. One that is only checked
+// is read without a tree.
 fn answer_fetched(
     alloc: Global,
     question: Question,
@@ -101,10 +122,10 @@ fn answer_fetched(
     ensures { TakesCourse (AnswersFetched question root.now (plain_fetched fetched)
         (not_least_in result)) (response_in result) }
 {
-    let Opened { dtd, bytes, doc } = open_document(alloc, fetched, root)?;
-    let told = tell(alloc, question, dtd, root, &doc, &bytes);
-    forget(doc);
-    told
+    match question {
+        Question::Check => told_of(check(alloc, fetched, root)),
+        Question::Need | Question::Complete => answer_opened(alloc, question, fetched, root),
+    }
 }
 
 /// Answers a request over the files that it names.

@@ -1,21 +1,21 @@
 //! Whether inserting elements can make a document valid, however wide its lists are.
 
-ghost use Rattle.std.specs.Prelude.{◌≡◌, IfOk, List, ℕ};
+ghost use Rattle.std.specs.Prelude.{◌≡◌, IfOk, List, false, ℕ};
 ghost use Rattle.pv_check.specs.Answers.{TellsAtAnyWidth};
 ghost use Rattle.pv_dtd.specs.Plain.{PlainDtd};
 ghost use Rattle.pv_opening.specs.Response.{plain_response, with_line};
-ghost use Rattle.pv_opening.specs.Returns.{TellsBy};
+ghost use Rattle.pv_opening.specs.Returns.{TakesCourse, TellsBy, plain_fetched};
 ghost use Rattle.pv_opening.specs.declared.status.Status.TheVariants.{Done};
 ghost use Rattle.pv_productive.specs.PlainForms.{dtd_of};
-ghost use Rattle.pv_read.specs.Meaning.{DocumentMeans, is_document};
-ghost use Rattle.pv_tree.specs.Marks.{blank_mark};
 ghost use Rattle.pv_tree.specs.Plain.{PlainDoc};
 ghost use Rattle.pv_tree.specs.declared.nodes.Mark.{Mark};
 ghost use Rattle.pvlong.specs.Possibility.{TellsChecked, checked_text};
+ghost use Rattle.pvlong.specs.RequestAnswers.{AnswersFetched};
+ghost use Rattle.pvlong.specs.declared.requests.Question.TheVariants.{Check};
 
 use pv_check::{Told, check_any_text};
-use pv_opening::{Response, Status, Stop, refuse_path};
-use pv_productive::Grammar;
+use pv_opening::{Fetched, Response, Status, Stop, refuse_document, refuse_path};
+use pv_productive::{Grammar, build};
 use pv_reach::{Judge, Plan};
 use std::alloc::{AllocError, Global};
 
@@ -47,18 +47,31 @@ fn respond_told(alloc: Global, told: Told) -> Result<Response, Stop>
     }
 }
 
-/// Whether inserting elements can make the document valid that these bytes are.
-pub fn check(alloc: Global, grammar: &Grammar, root: &[u8], bytes: &[u8]) -> Result<Response, Stop>
-    requires { (doc : PlainDoc Mark) × DocumentMeans blank_mark root.now bytes.now (is_document doc) }
-    ensures { (doc : PlainDoc Mark) →
-        DocumentMeans blank_mark root.now bytes.now (is_document doc) →
-        TellsBy (TellsChecked root.now (dtd_of grammar.now) doc) result }
+// Whether inserting elements can make the document valid for this grammar that these bytes are, or
+// why they are none.
+fn check_bytes(
+    alloc: Global,
+    grammar: &Grammar,
+    root: &[u8],
+    bytes: &[u8],
+) -> Result<Response, Stop>
+    ensures { TakesCourse
+        (AnswersFetched Check root.now (dtd_of grammar.now, bytes.now) false) result }
 {
     let plan = Plan::of(alloc, grammar)?;
     let judge = Judge::new(alloc, grammar, &plan);
     match check_any_text(&judge, root, bytes) {
         Ok(told) => respond_told(alloc, told),
-        // The bytes are a document, so that only memory can be lacking.
-        Err(_) => Err(Stop::NoMemory),
+        Err(error) => Err(refuse_document(alloc, error)),
     }
+}
+
+/// Whether inserting elements can make a document valid whose bytes were fetched, or why they are
+/// none. They are read once, without a tree.
+pub fn check(alloc: Global, fetched: Fetched, root: &[u8]) -> Result<Response, Stop>
+    ensures { TakesCourse (AnswersFetched Check root.now (plain_fetched fetched) false) result }
+{
+    let Fetched { dtd, bytes } = fetched;
+    let grammar = build(alloc, dtd)?;
+    check_bytes(alloc, &grammar, root, &bytes)
 }

@@ -1,16 +1,13 @@
-use Rattle.pv_productive.specs.PlainForms.{dtd_of}
+use Rattle.std.proofs.Common.{◌≡◌, Err, arith, refl}
+use Rattle.std.proofs.lemmas.Grind.{common_steps}
+use Rattle.pv_opening.specs.Stage.{short_of_memory}
+use Rattle.pv_opening.specs.declared.stop.Stop.TheVariants.{NoMemory}
 use Rattle.pvlong.proofs.possibility.check.Goals as goal
 
-pub respond_told-requires : goal.respond_told-requires
-respond_told-requires c = (
-  c.args.root.now,
-  dtd_of c.new-judge.result,
-  c.requires.0,
-  c.in-Ok.ensures.tells c.requires.0
-      c.requires.1,
-)
+pub returns-in_err-grammar : goal.returns-in_err-grammar
+returns-in_err-grammar c =
+    let out : c.from_residual.result ≡ Err NoMemory = grind (arith, common_steps) in
+    rw out (short_of_memory 0 refl refl)
 
-pub returns-in-Ok : goal.returns-in-Ok
-returns-in-Ok c =
-    λ doc means. c.respond_told.ensures c.args.root.now (dtd_of c.args.grammar.now) doc
-    (rw c.new-judge.ensures at c.in-Ok.ensures.tells doc means)
+pub returns : goal.returns
+returns c = rw (c.in_ok-grammar.ensures, c.deref.ensures.value) at c.check_bytes.ensures
