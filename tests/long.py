@@ -6,8 +6,8 @@ a session, or two numbers with this one between them; what is impossible is told
 examples/, under DocBook and XHTML where they are installed, and under made DTDs, of which many tags were taken away: no more elements may be
 missing than were taken. What `pvlong complete` prints is `valid`, for xmllint too where it is installed; it keeps all texts and tags in their order,
 has as many elements more as `need` tells at most, and its status tells whether that is the least number. At least as many are missing as `check`
-counts lists, and a valid document is printed as it is. Files in fault are refused as `check` refuses them. Prints each difference, how often the
-number was exact, and how many cases passed; ends with 1 where one failed.
+counts lists, and a valid document is printed as it is. A list that stands in a document many times is told soon. Files in fault are
+refused as `check` refuses them. Prints each difference, how often the number was exact, and how many cases passed; ends with 1 where one failed.
 """
 import os
 import random
@@ -171,16 +171,28 @@ def try_row(both: Programs, dtd: str, root: str, kids: str, least: int) -> None:
     both.case("rows", judged, lambda: text)
 
 
+def soon(both: Programs, what: str, tried: Callable[[], None]) -> None:
+    """Tries something, and counts as a case that it took a few seconds of a processor at most."""
+    before = os.times()
+    tried()
+    after = os.times()
+    took = after.children_user + after.children_system - before.children_user - before.children_system
+    both.case("rows", lambda: need(took <= SOON * both.times, f"{took:.1f} s of a processor") or "soon", lambda: what)
+
+
+def try_again(both: Programs) -> None:
+    """A wide list that stands in a document many times."""
+    dtd = f"<!ELEMENT d (expr*)>{OPERATIONS}"
+    soon(both, "one list many times", lambda: try_row(both, dtd, "d", f"<expr>{'<num/>' * 70}</expr>" * 300, 300 * 138))
+
+
 def try_mixed(both: Programs) -> None:
     """A list of texts and names, of which few may stand where they do, under mixed contents with 150 names. It is told soon."""
     contents = {"m": (0, 1, 2), "p": (0, 1, 2), "e": (0, 1, 2)}
     contents.update((f"n{x}", sorted({(7 * x + y * y) % 150 for y in range(24)})) for x in range(150))
     models = "".join(f"<!ELEMENT {name} (#PCDATA|{'|'.join(f'n{y}' for y in kids)})*>" for name, kids in contents.items())
-    before = os.times()
-    try_row(both, f"<!ELEMENT r ((m|p)*,e)>{models}", "r", "".join(f"words <n{11 * x % 150}/>" for x in range(34)), 16)
-    after = os.times()
-    took = after.children_user + after.children_system - before.children_user - before.children_system
-    both.case("rows", lambda: need(took <= SOON * both.times, f"{took:.1f} s of a processor") or "soon", lambda: "mixed contents")
+    kids = "".join(f"words <n{11 * x % 150}/>" for x in range(34))
+    soon(both, "mixed contents", lambda: try_row(both, f"<!ELEMENT r ((m|p)*,e)>{models}", "r", kids, 16))
 
 
 def try_heavy(both: Programs) -> None:
@@ -360,6 +372,7 @@ def main() -> int:
                 try_example(both, dtd, root, name)
         for row in ROWS:
             try_row(both, *row)
+        try_again(both)
         try_mixed(both)
         try_heavy(both)
         until(share, lambda: try_search(both), lambda: try_derivations(both))

@@ -4,3 +4,4 @@ pub mod ExactAnswers
 pub mod GoalWork
 pub mod RoomPast
 pub mod TaggedDocs
+pub mod KnownLists

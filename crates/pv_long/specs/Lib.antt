@@ -3,3 +3,4 @@ pub mod AddedBounds
 pub mod NewTags
 pub mod Ends
 pub mod Goals
+pub mod KnownBounds

@@ -7,14 +7,15 @@ ghost use Rattle.pv_rules.specs.PlainForms.{plain_site};
 ghost use Rattle.pv_tree.specs.Lists.{Listed, lists_of};
 ghost use Rattle.pv_tree.specs.PlainDocs.{plain_doc};
 ghost use Rattle.pv_tree.specs.PlainForms.{forest};
-ghost use Rattle.pv_tree.specs.Words.{word_of};
 ghost use Rattle.pv_tree.specs.declared.nodes.Mark.{Mark};
 ghost use Rattle.pv_missing.specs.Owners.{IsOwner};
 ghost use Rattle.pv_missing.specs.PlainForms.{plain_of};
 ghost use Rattle.pv_missing.specs.ListWeights.{IsBound, site_of};
 ghost use Rattle.pv_long.specs.AddedBounds.{AreBounded};
+ghost use Rattle.pv_long.specs.KnownBounds.{AreWordBounds, IsWordBound};
 
 use crate::errors::MakeError;
+use crate::known::KnownBounds;
 use crate::making::building::build;
 use crate::making::filling::{Filled, fill, fill_few, fill_short};
 use crate::making::known_columns::KnownColumns;
@@ -27,7 +28,7 @@ use pv_layout::ColumnLayout;
 use pv_missing::{Of, Verdicts};
 use pv_model::Token;
 use pv_rules::{HEAVIEST, Site};
-use pv_tree::{Doc, Lists, Mark, Node, Verdict, word};
+use pv_tree::{Doc, Lists, Mark, Node, Tokens, Verdict, word};
 use pv_write::Piece;
 use std::alloc::Global;
 
@@ -84,10 +85,8 @@ fn word_bound(
     word: &[Token],
     fronts: &Fronts,
 ) -> Result<u32, NoMemory>
-    ensures { IfOk result (λ k. (root : List ℕ) (list : Listed Mark) →
-        map plain_token word.now ≡ word_of (dtd_of layout.now.grammar.now) list.kids →
-        site_of (dtd_of layout.now.grammar.now) root list.owner ≡ Some (plain_of of) →
-        IsBound (dtd_of layout.now.grammar.now) root list k) }
+    ensures { IfOk result
+        (IsWordBound (dtd_of layout.now.grammar.now) of (map plain_token word.now)) }
 {
     below_sites_law::<Mark>();
     if word.len() > u32::MAX as usize {
@@ -167,10 +166,8 @@ fn bound_filled(
     word: &[Token],
     filled: &Filled,
 ) -> Result<(u32, Vec<Piece>), MakeError>
-    ensures { IfOk result (λ found. (root : List ℕ) (list : Listed Mark) →
-        map plain_token word.now ≡ word_of (dtd_of known.now.layout.now.grammar.now) list.kids →
-        site_of (dtd_of known.now.layout.now.grammar.now) root list.owner ≡ Some (plain_of of) →
-        IsBound (dtd_of known.now.layout.now.grammar.now) root list found.0) }
+    ensures { IfOk result (λ found. IsWordBound (dtd_of known.now.layout.now.grammar.now) of
+        (map plain_token word.now) found.0) }
 {
     let least = word_bound(alloc, known.layout, of, word, &filled.fronts)?;
     if least >= HEAVIEST {
@@ -187,10 +184,8 @@ fn bound_within(
     of: Of,
     word: &[Token],
 ) -> Result<u32, MakeError>
-    ensures { IfOk result (λ k. (root : List ℕ) (list : Listed Mark) →
-        map plain_token word.now ≡ word_of (dtd_of known.now.layout.now.grammar.now) list.kids →
-        site_of (dtd_of known.now.layout.now.grammar.now) root list.owner ≡ Some (plain_of of) →
-        IsBound (dtd_of known.now.layout.now.grammar.now) root list k) }
+    ensures { IfOk result (IsWordBound (dtd_of known.now.layout.now.grammar.now) of
+        (map plain_token word.now)) }
 {
     match windowed(alloc, known, word)? {
         Some(fronts) => Ok(word_bound(alloc, known.layout, of, word, &fronts)?),
@@ -207,10 +202,8 @@ fn bound_word(
     of: Of,
     word: &[Token],
 ) -> Result<(u32, Vec<Piece>), MakeError>
-    ensures { IfOk result (λ found. (root : List ℕ) (list : Listed Mark) →
-        map plain_token word.now ≡ word_of (dtd_of known.now.layout.now.grammar.now) list.kids →
-        site_of (dtd_of known.now.layout.now.grammar.now) root list.owner ≡ Some (plain_of of) →
-        IsBound (dtd_of known.now.layout.now.grammar.now) root list found.0) }
+    ensures { IfOk result (λ found. IsWordBound (dtd_of known.now.layout.now.grammar.now) of
+        (map plain_token word.now) found.0) }
 {
     if let Some(filled) = fill_short(alloc, known, word)? {
         return bound_filled(alloc, known, of, word, &filled);
@@ -227,20 +220,67 @@ fn bound_word(
     bound_filled(alloc, known, of, word, &filled)
 }
 
+// A lower bound of a word, and pieces. What is remembered gives back its memory where there is too
+// little.
+fn bound_with_room(
+    alloc: Global,
+    known: &KnownColumns<'_>,
+    of: Of,
+    word: &[Token],
+    bounds: &mut KnownBounds,
+) -> Result<(u32, Vec<Piece>), MakeError>
+    requires { AreWordBounds (dtd_of known.now.layout.now.grammar.now) bounds.old }
+    ensures bound { IfOk result (λ found. IsWordBound (dtd_of known.now.layout.now.grammar.now) of
+        (map plain_token word.now) found.0) }
+    ensures known { AreWordBounds (dtd_of known.now.layout.now.grammar.now) bounds.new }
+{
+    match bound_word(alloc, known, of, word) {
+        Err(MakeError::NoMemory) if !bounds.is_empty() => {
+            bounds.forget(alloc);
+            bound_word(alloc, known, of, word)
+        }
+        found => found,
+    }
+}
+
+// A lower bound of a word, and pieces, by what is remembered. They are remembered then too.
+fn bound_once(
+    alloc: Global,
+    known: &KnownColumns<'_>,
+    of: Of,
+    word: Tokens,
+    bounds: &mut KnownBounds,
+) -> Result<(u32, Vec<Piece>), MakeError>
+    requires { AreWordBounds (dtd_of known.now.layout.now.grammar.now) bounds.old }
+    ensures bound { IfOk result (λ found. IsWordBound (dtd_of known.now.layout.now.grammar.now) of
+        (map plain_token word) found.0) }
+    ensures known { AreWordBounds (dtd_of known.now.layout.now.grammar.now) bounds.new }
+{
+    if let Some(found) = bounds.find(of, word.as_slice()) {
+        return Ok((found.least, found.pieces.as_slice().to_vec(alloc)?));
+    }
+    let (least, pieces) = bound_with_room(alloc, known, of, word.as_slice(), bounds)?;
+    bounds.keep(alloc, of, word, least, pieces.as_slice());
+    Ok((least, pieces))
+}
+
 // How many elements are missing in a list of these kids at least, and the pieces of a completion.
 fn bound_kids(
     alloc: Global,
     known: &KnownColumns<'_>,
     of: Of,
     kids: &[Node],
+    bounds: &mut KnownBounds,
 ) -> Result<(u32, Vec<Piece>), MakeError>
-    ensures { IfOk result (λ found. (root : List ℕ) (list : Listed Mark) →
+    requires { AreWordBounds (dtd_of known.now.layout.now.grammar.now) bounds.old }
+    ensures bound { IfOk result (λ found. (root : List ℕ) (list : Listed Mark) →
         list.kids ≡ forest kids.now →
         site_of (dtd_of known.now.layout.now.grammar.now) root list.owner ≡ Some (plain_of of) →
         IsBound (dtd_of known.now.layout.now.grammar.now) root list found.0) }
+    ensures known { AreWordBounds (dtd_of known.now.layout.now.grammar.now) bounds.new }
 {
     let word = word(alloc, known.layout.grammar.dtd(), kids)?;
-    let found = bound_word(alloc, known, of, word.as_slice())?;
+    let found = bound_once(alloc, known, of, word, bounds)?;
     Ok(found)
 }
 
@@ -251,12 +291,16 @@ fn bound_list(
     owner: Option<Of>,
     kids: &[Node],
     verdicts: &Verdicts,
+    bounds: &mut KnownBounds,
     found: &mut Found,
 ) -> Result<(), MakeError>
-    ensures { OnOk result ((root : List ℕ) (list : Listed Mark) → list.kids ≡ forest kids.now →
+    requires { AreWordBounds (dtd_of known.now.layout.now.grammar.now) bounds.old }
+    ensures bounded { OnOk result ((root : List ℕ) (list : Listed Mark) →
+        list.kids ≡ forest kids.now →
         IsOwner (dtd_of known.now.layout.now.grammar.now) root list owner →
         AreBounded (dtd_of known.now.layout.now.grammar.now) root (list ∷ []) found.old.least
         found.new.least) }
+    ensures known { AreWordBounds (dtd_of known.now.layout.now.grammar.now) bounds.new }
 {
     if !found.takes_possible(verdicts) {
         found.pieces.push(Vec::new(alloc))?;
@@ -265,7 +309,7 @@ fn bound_list(
     let Some(of) = owner else {
         return Err(MakeError::Unproved);
     };
-    let (least, pieces) = bound_kids(alloc, known, of, kids)?;
+    let (least, pieces) = bound_kids(alloc, known, of, kids, bounds)?;
     found.pieces.push(pieces)?;
     found.has_heavy = found.has_heavy || least >= HEAVIEST;
     found.least = u32::saturating_add(found.least, least);
@@ -273,7 +317,7 @@ fn bound_list(
 }
 
 /// Bounds the lists of a document: a number that their bounds add up to at least, and the pieces of
-/// each, by the verdicts.
+/// each, by the verdicts. A list whose owner and word came before isn't bounded again.
 pub fn bound_doc(
     alloc: Global,
     known: &KnownColumns<'_>,
@@ -285,10 +329,19 @@ pub fn bound_doc(
         (lists_of (plain_doc doc.now)) 0 found.least) }
 {
     let mut found = Found::none(alloc);
+    let mut bounds = KnownBounds::none(alloc);
     let mut lists = Lists::of(alloc, doc);
     while let Some(list) = lists.next()? {
         let owner = owner_under(known.layout.grammar, root, list.owner);
-        bound_list(alloc, known, owner, list.kids, verdicts, &mut found)?;
+        bound_list(
+            alloc,
+            known,
+            owner,
+            list.kids,
+            verdicts,
+            &mut bounds,
+            &mut found,
+        )?;
     }
     Ok(found)
 }

@@ -15,6 +15,7 @@ mod answers;
 mod bounding;
 mod checking;
 mod errors;
+mod known;
 pub mod laws;
 mod making;
 mod tags;

@@ -31,7 +31,8 @@ fn number_of(count: usize) -> u32 {
     u32::try_from(count).unwrap_or(u32::MAX)
 }
 
-fn mix_in(hash: u64, number: u32) -> u64 {
+/// A hash with one more number.
+pub fn mix_in(hash: u64, number: u32) -> u64 {
     let mixed = (hash ^ u64::from(number)).wrapping_mul(0x9e37_79b9_7f4a_7c15);
     mixed ^ (mixed >> 29)
 }

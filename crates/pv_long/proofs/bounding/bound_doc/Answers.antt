@@ -8,23 +8,31 @@ use Rattle.pv_long.proofs.BoundSums.{both_bounded, none_bounded}
 use Rattle.pv_long.proofs.bounding.bound_doc.Goals as goal
 
 pub loop-lists-init : goal.loop-lists-init
-loop-lists-init c = λ last more. rw (c.none-found.ensures, c.of-lists.ensures.lists) at more
+loop-lists-init c = (
+  c.none-bounds.ensures (dtd_of c.args.known.now.layout.now.grammar.now),
+  λ last more. rw (c.none-found.ensures, c.of-lists.ensures.lists) at more,
+)
 
 pub loop-lists-preserved : goal.loop-lists-preserved
-loop-lists-preserved c = λ last more.
-    let d = dtd_of c.args.known.now.layout.now.grammar.now in
-    let root = c.args.root.now in
-    let list = list_given (path_come_to c.next.new.self) c.in-Some.list in
-    let old = c.loop-lists.found.least in
-    let new = c.bound_list.new.found.least in
-    let one : AreBounded d root (list ∷ []) old new = c.in_ok-bound_list.ensures root list refl (c.owner_under-owner.ensures list refl) in
-    c.loop-lists.invariant last
-    (rw (come_to c.loop-lists.lists c.next.new.self _ c.in-Some.list c.in-Some.is c.in_ok-list.ensures.given)
-    (both_bounded d root (list ∷ []) (left_by c.next.new.self) old new last one more))
+loop-lists-preserved c = (
+  c.bound_list.ensures.known,
+  λ last more.
+      let d = dtd_of c.args.known.now.layout.now.grammar.now in
+      let root = c.args.root.now in
+      let list = list_given (path_come_to c.next.new.self) c.in-Some.list in
+      let old = c.loop-lists.found.least in
+      let new = c.bound_list.new.found.least in
+      let one : AreBounded d root (list ∷ []) old new =
+      c.in_ok-bound_list.ensures.bounded root list refl (c.owner_under-owner.ensures list refl) in
+      c.loop-lists.invariant.1 last
+      (rw (come_to c.loop-lists.lists c.next.new.self _ c.in-Some.list c.in-Some.is
+      c.in_ok-list.ensures.given)
+      (both_bounded d root (list ∷ []) (left_by c.next.new.self) old new last one more)),
+)
 
 pub returns : goal.returns
 returns c =
     let d = dtd_of c.args.known.now.layout.now.grammar.now in
     let last = c.loop-lists.found.least in
-    c.loop-lists.invariant last
+    c.loop-lists.invariant.1 last
     (rw (come_to_none c.loop-lists.lists c.next.new.self _ c.in_default.is c.in_ok-list.ensures.given) (none_bounded d c.args.root.now last))
