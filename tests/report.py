@@ -598,6 +598,8 @@ def try_failing(trial: Trial) -> None:
     trial.expect("none of these kinds", (status, errors) == (0, ""), (status, errors))
     status, _, errors = trial.over("--fail-on", "invalid", *valid, str(trial.folder / "nothing.xml"))
     trial.expect("no verdict", (status, errors) == (1, ""), (status, errors))
+    status, said, errors = trial.over("--most", str(10**12), *valid)
+    trial.expect("a run as long as it takes", (status, errors, len(rows_of(said))) == (0, "", len(valid)), (status, errors))
     for words in (["--fail-on", "wrong"], ["--fail-on", "attributes", "--no-attributes"]):
         trial.expect("wrong kinds", trial.over(*words, *valid)[0] == 2, words)
 

@@ -16,8 +16,8 @@ from typing import NamedTuple
 
 from .files import put_file, read
 from .palette import NAME as PALETTE
-from pvtag.program import Stopped, Trouble, shown_name
-from pvtag.reporting.judging import Judge, Options, seen_of
+from pvtag.program import Stopped, Trouble, seen_of, shown_name
+from pvtag.reporting.judging import Judge, Options
 from pvtag.reporting.rows import Row
 from pvtag.reporting.runs import Runs
 from pvtag.reporting.together import Together

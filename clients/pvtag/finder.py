@@ -12,7 +12,7 @@ from typing import NamedTuple
 
 from .memory import MemoryFile
 from .places import BOM, Source
-from .program import TOP, Answer, Stopped, Trouble, is_utf_8, read_file, run, run_tool, shown_name
+from .program import TOP, Answer, Stopped, Trouble, is_utf_8, read_file, run, run_tool, seen_of, shown_name
 
 # What other tools may use; each has an example.
 __all__ = ("Named", "Plain", "names_in", "Finder")
@@ -70,6 +70,13 @@ class Plain(NamedTuple):
     path: str
     name: str
     held: MemoryFile | None = None
+
+
+class Told(NamedTuple):
+    """What `dtd` answers for a file, and which file that was."""
+
+    seen: tuple[int, ...] | None
+    answer: Answer
 
 
 class Making:
@@ -141,7 +148,7 @@ class Finder:
         self.program, self.lock = program, threading.Lock()
         self.known: dict[object, Making] = {}
         # What `dtd` answers for the files that are plain as they are.
-        self.answers: dict[str, Answer] = {}
+        self.answers: dict[str, Told] = {}
 
     def plain(self, named: Named) -> Plain:
         """The DTD as a plain file, or a trouble that says why there is none."""
@@ -169,14 +176,14 @@ class Finder:
 
     def read(self, file: str) -> Plain:
         """A DTD's file, made plain where it needs to be."""
-        name = shown_name(file)
+        name, seen = shown_name(file), seen_of(file)
         data = read_file(file)
         # The program takes no words that aren't UTF-8.
         held = None if is_utf_8(file) else MemoryFile(data)
         path = held.path if held is not None else file
         answer = run(self.program, "dtd", path)
         if answer.status == 0:
-            self.answers[path] = answer
+            self.answers[path] = Told(seen, answer)
             return Plain(path, name, held)
         if MODULES.match(answer.line):
             return self.flattened(file, name)

@@ -21,6 +21,8 @@ TOP = os.path.dirname(os.path.dirname(HERE))
 # script makes one without proofs first, in a minute or two, and runs that.
 SCRIPT, BUILT = os.path.join(TOP, "pvtag"), os.path.join(TOP, "build", "pvtag")
 UNPROVED = ".unproved"
+# The most milliseconds that can be waited for at once.
+MOST_MOMENTS = 2**31 - 1
 # What runs the program where the package is installed.
 PACKAGED = os.path.join(os.path.dirname(os.path.dirname(TOP)), "bin", "pvtag")
 # Script and built program of `pvlong`.
@@ -254,7 +256,20 @@ def is_ready(pipe: IO[bytes], seconds: float) -> bool:
     """Whether something can be read from a pipe, or its end, within so many seconds; its descriptor may have any number."""
     waiting = select.poll()
     waiting.register(pipe, select.POLLIN)
-    return bool(waiting.poll(max(seconds, 0) * 1000))
+    return bool(waiting.poll(min(max(seconds, 0) * 1000, MOST_MOMENTS)))
+
+
+def identity(seen: os.stat_result) -> tuple[int, ...]:
+    """What differs once a file has changed, or another has taken its name."""
+    return seen.st_dev, seen.st_ino, seen.st_size, seen.st_mtime_ns, seen.st_ctime_ns
+
+
+def seen_of(path: str) -> tuple[int, ...] | None:
+    """The identity of the file of this name, if there is one."""
+    try:
+        return identity(os.stat(path))
+    except OSError:
+        return None
 
 
 def took_too_long(words: Sequence[str], most: float | None) -> str:

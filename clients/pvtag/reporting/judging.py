@@ -11,11 +11,11 @@ from typing import TYPE_CHECKING, NamedTuple
 
 from pvtag.attributes import MISSING, Attributes, python_with_lxml
 from pvtag.dtd import Dtd
-from pvtag.finder import NAME as NAME_OF, Finder, Named, Plain, names_in
+from pvtag.finder import NAME as NAME_OF, Finder, Named, Plain, Told, names_in
 from pvtag.long import Counted, counted
 from pvtag.masks import Masked, MaskedSource, mask
 from pvtag.places import Place, Source, Span
-from pvtag.program import Answer, Stopped, Trouble, file_of, find_long, is_utf_8, read_file, run
+from pvtag.program import Answer, Stopped, Trouble, file_of, find_long, is_utf_8, read_file, run, seen_of
 
 from .earlier import sum_of
 from .many import Many, find_many
@@ -68,11 +68,13 @@ class Given(NamedTuple):
 class Under:
     """A DTD and a root, by which documents are judged; several threads may use it at once."""
 
-    def __init__(self, program: list[str], plain: Plain, root: str, told: Answer | None) -> None:
+    def __init__(self, program: list[str], plain: Plain, root: str, told: Told | None) -> None:
         self.program, self.plain, self.path, self.name, self.root = program, plain, plain.path, plain.name, root
         self.seen, self.data = seen_of(plain.path), read_file(plain.path)
         self.sum = hashlib.sha256(self.data).hexdigest()
-        self.dtd, self.attributes = Dtd(program, plain.path, plain.name, told), Attributes(self.data)
+        # An answer on a file that has changed since isn't taken.
+        answer = told.answer if told is not None and told.seen == self.seen else None
+        self.dtd, self.attributes = Dtd(program, plain.path, plain.name, answer), Attributes(self.data)
 
     @functools.cached_property
     def reasons(self) -> "Reasons":
@@ -314,19 +316,6 @@ def given(path: str, data: bytes | None, under: Under, copies: contextlib.ExitSt
     """A document as the program reads it: its file, or a copy in which its subset and its entities are masked."""
     masked = mask(data, under.data) if data is not None else None
     return Given(copies.enter_context(file_of(masked.data)) if masked is not None and not masked.is_plain else path, masked, under)
-
-
-def identity(seen: os.stat_result) -> tuple[int, ...]:
-    """What differs once a file has changed, or another has taken its name."""
-    return seen.st_dev, seen.st_ino, seen.st_size, seen.st_mtime_ns, seen.st_ctime_ns
-
-
-def seen_of(path: str) -> tuple[int, ...] | None:
-    """The identity of the file of this name, if there is one."""
-    try:
-        return identity(os.stat(path))
-    except OSError:
-        return None
 
 
 @contextlib.contextmanager

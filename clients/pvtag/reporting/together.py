@@ -9,9 +9,9 @@ from collections import deque
 from collections.abc import Iterator, Sequence
 from typing import Any
 
-from pvtag.program import Answer, Trouble
+from pvtag.program import Answer, Trouble, identity, seen_of
 
-from .judging import MOST_BYTES, SHOWN, Given, Judge, Under, given, identity, seen_of
+from .judging import MOST_BYTES, SHOWN, Given, Judge, Under, given
 from .rows import Row
 from .runs import Found
 
@@ -147,7 +147,7 @@ class Together:
         report."""
         rows, judge = Found(), self.judge
         with judge.turn.taken():
-            plain = [judge.has_no_attributes(case.given) for case in cases]
+            plain = [case.row.verdict not in SHOWN or judge.has_no_attributes(case.given) for case in cases]
         # Nobody waits for libxml2 but who asks it.
         with judge.turn.taken() if all(plain) else contextlib.nullcontext():
             for case, is_plain in zip(cases, plain):
