@@ -40,10 +40,10 @@ Tells g root doc (told.Impossible path) = IsImpossibleAt root g doc path
 Tells g root doc (told.TooWide path) = IsFirstTooWide g (lists_of doc) path
 
 -- Inserting elements can make the document valid, and so many of its lists are Possible.
-pub record IsPossibleAtAnyWidth (root : List ℕ) (g : PlainDtd) (doc : PlainDoc Mark) (n : ℕ) : Type 0
-  where
-    pub possible : IsPotentiallyValid g root (view doc.root)
-    pub count : HavePossible g root (lists_of doc) n
+pub record IsPossibleAtAnyWidth (root : List ℕ) (g : PlainDtd) (doc : PlainDoc Mark)
+    (n : ℕ) : Type 0 where
+  pub possible : IsPotentiallyValid g root (view doc.root)
+  pub count : HavePossible g root (lists_of doc) n
 
 -- No insertions can make it valid, and this is the path of its first impossible list.
 pub record IsImpossibleAtAnyWidth (root : List ℕ) (g : PlainDtd) (doc : PlainDoc Mark)

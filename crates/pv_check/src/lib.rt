@@ -5,9 +5,9 @@
 //! are those that `pv_lists` reads; each is judged where its element ends, by its word alone, and
 //! beside is kept what was found of the lists that are whole (`HasFound`, specs/Findings.antt).
 //! Where long lists would take tables, so that several threads are worth it, the call says so in
-//! place of an answer. The rules of the grammar may be laid out at the first list that isn't seen to
-//! be Valid (`Planning`), so that a valid document takes no plan. `check_any_text` answers the same
-//! of documents with lists of any width.
+//! place of an answer. The rules of the grammar may be laid out at the first list that isn't seen
+//! to be Valid (`Planning`), so that a valid document takes no plan. `check_any_text` answers the
+//! same of documents with lists of any width.
 #![tactic(auto)]
 
 mod checking;
