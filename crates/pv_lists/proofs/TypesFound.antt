@@ -1,12 +1,12 @@
 -- Element types that were found, where one more is put among them, or an element of one begins.
-use Rattle.std.proofs.Common.{◌≡◌, ℕ, List, Option, IfSome, slice_set, IsTrue, sym, ap, ◌∙◌, subst}
+use Rattle.std.proofs.Common.{◌≡◌, ◌⊎◌, inl, inr, ℕ, List, Option, IfSome, slice_set, IsTrue, sym, ap, ◌∙◌, subst}
 use Rattle.std.specs.List.{All}
 use Rattle.std.proofs.lemmas.List.Elements.{All-set}
 use Rattle.std.proofs.lemmas.Option.{IfSome_then}
 use Rattle.pv_model.specs.PlainForms.{plain_token}
 use Rattle.pv_dtd.specs.Plain.{PlainDtd}
-use Rattle.pv_read.specs.Items.{Item, start_tag}
-use Rattle.pv_lists.specs.Tags.{IsTypeOfTag}
+use Rattle.pv_read.specs.Items.{Item, start_tag, empty_tag}
+use Rattle.pv_lists.specs.Tags.{IsBareTag, IsTypeOfTag}
 use Rattle.pv_lists.specs.Types.{IsTypeOf}
 use Rattle.pv_lists.specs.declared.open.OpenList.{OpenList}
 use Rattle.pv_lists.specs.declared.types.ElementType.{ElementType}
@@ -25,9 +25,17 @@ begins_of g list t name is same_name same_known same_token none = record {
   no_kids = none;
 }
 
-same_tag : (x y a b : List ℕ) → start_tag x a ≡ start_tag y b → x ≡ y
-same_tag x y a b e = cc
+opens_same : (x name attrs : List ℕ) (item : Item) → IsBareTag x item
+    → (item ≡ start_tag name attrs) ⊎ (item ≡ empty_tag name attrs) → x ≡ name
+opens_same x name attrs item (inl bare) (inl is) = cc
+opens_same x name attrs item (inl bare) (inr is) = cc
+opens_same x name attrs item (inr bare) (inl is) = cc
+opens_same x name attrs item (inr bare) (inr is) = cc
 
--- the type of a start tag is that of its name
-pub type_of_tag : (g : PlainDtd) (item : Item) (name attrs : List ℕ) (kind : Option ElementType) → item ≡ start_tag name attrs → IfSome kind (IsTypeOfTag g item) → IfSome kind (IsTypeOf g name)
-type_of_tag g item name attrs kind is h = IfSome_then kind h (λ t w. subst (λ (n : List ℕ). IsTypeOf g n t) (same_tag t.name.now name _ attrs (sym w.is_tag ∙ is)) w.is_type)
+-- the type of a tag that opens an element is that of its name
+pub type_of_tag : (g : PlainDtd) (item : Item) (name attrs : List ℕ) (kind : Option ElementType)
+    → (item ≡ start_tag name attrs) ⊎ (item ≡ empty_tag name attrs)
+    → IfSome kind (IsTypeOfTag g item) → IfSome kind (IsTypeOf g name)
+type_of_tag g item name attrs kind is h =
+    IfSome_then kind h (λ t w. subst (λ (n : List ℕ). IsTypeOf g n t)
+    (opens_same t.name.now name attrs item w.is_tag is) w.is_type)

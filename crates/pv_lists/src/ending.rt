@@ -70,8 +70,8 @@ pub fn close<J: ListJudge>(
     Ok(false)
 }
 
-/// One more item in the root, and whether it makes the root whole. The type of a start tag may be
-/// at hand.
+/// One more item in the root, and whether it makes the root whole. The type of a tag that opens an
+/// element may be at hand.
 pub fn add<'a, J: ListJudge>(
     judge: &J,
     lists: &mut OpenLists<'a, J::Before, J::Found>,
@@ -96,7 +96,7 @@ pub fn add<'a, J: ListJudge>(
             Ok(false)
         }
         Item::EmptyTag(tag) => {
-            open(judge, lists, tag.name, None)?;
+            open(judge, lists, tag.name, kind)?;
             let whole = close(judge, lists)?;
             Ok(whole)
         }

@@ -1,11 +1,12 @@
 //! The item at the front, in the root.
 
-ghost use Rattle.std.specs.Prelude.{◌≡◌, ◌<◌, ◌++◌, codes, length, IfOk, IfErr, IfSome};
-ghost use Rattle.std.specs.Prelude.{IsTrue};
+ghost use Rattle.std.specs.Prelude.{◌≡◌, ◌<◌, [], ◌++◌, codes, length, IfOk, IfErr, IfSome};
+ghost use Rattle.std.specs.Prelude.{IsTrue, if◌then◌else◌};
 ghost use Rattle.pv_chars.specs.Names.{IsName};
 ghost use Rattle.pv_tree.specs.Marks.{blank_mark};
 ghost use Rattle.pv_tree.specs.declared.nodes.Mark.{Mark};
 ghost use Rattle.pv_read.specs.Errors.{Refuses};
+ghost use Rattle.pv_read.specs.Items.{bytes_of};
 ghost use Rattle.pv_read.specs.Left.{Left};
 ghost use Rattle.pv_read.specs.Limits.{IsDeepest};
 ghost use Rattle.pv_read.specs.Meaning.{DocumentRestMeans};
@@ -14,7 +15,7 @@ ghost use Rattle.pv_read.specs.Places.{place_reached, content};
 ghost use Rattle.pv_read.specs.Steps.{TakesItem};
 ghost use Rattle.pv_lists.specs.Runs.{BeginsKnownRun};
 ghost use Rattle.pv_dtd.specs.Plain.{PlainDtd};
-ghost use Rattle.pv_lists.specs.Tags.{IsTypeOfTag};
+ghost use Rattle.pv_lists.specs.Tags.{IsBareTag, IsTypeOfTag};
 ghost use Rattle.pv_lists.specs.Types.{AreTypesNamed, AreTypes, IsTypeOf};
 
 use crate::open::OpenList;
@@ -54,21 +55,44 @@ fn after_end_tag<'a>(name: &[u8], bytes: &'a [u8]) -> Option<&'a [u8]>
     after_bytes(b">", end)
 }
 
-// The type of the start tag at the front, where it was found lately and no attribute stands in the
-// tag, and what stands after the tag.
-fn start_tag_at<'a>(types: &FoundTypes<'a>, bytes: &'a [u8]) -> Option<(ElementType<'a>, &'a [u8])>
+// The name in a tag without attributes, of which this stands between `<` and `>`, and whether the
+// tag is an empty-element tag.
+fn name_inside(inside: &[u8]) -> (&[u8], bool)
+    ensures { inside.now ≡ result.0.now ++ (if result.1 then codes "/" else []) }
+{
+    match inside {
+        [name @ .., b'/'] => (name, true),
+        name => (name, false),
+    }
+}
+
+// The start tag or empty-element tag at the front, where its name was found lately and no attribute
+// stands in it, what stands after it, and its type.
+fn known_tag_at<'a>(
+    types: &FoundTypes<'a>,
+    bytes: &'a [u8],
+) -> Option<(Item<'a>, &'a [u8], ElementType<'a>)>
     requires { AreTypesNamed types.now }
-    ensures named { IfSome result (λ r. IsName r.0.name.now) }
+    ensures named { IfSome result (λ r. IsName r.2.name.now) }
+    ensures bare { IfSome result (λ r. IsBareTag r.2.name.now (plain_item r.0)) }
     ensures typed { (g : PlainDtd) → AreTypes g types.now →
-        IfSome result (λ r. IsTypeOf g r.0.name.now r.0) }
-    ensures whole { IfSome result (λ r.
-        bytes.now ≡ codes "<" ++ (r.0.name.now ++ (codes ">" ++ r.1.now))) }
+        IfSome result (λ r. IsTypeOf g r.2.name.now r.2) }
+    ensures whole { IfSome result (λ r. bytes.now ≡ bytes_of (plain_item r.0) ++ r.1.now) }
     ensures within { IfSome result (λ r. length r.1.now < length bytes.now) }
 {
     let start = after_bytes(b"<", bytes)?;
-    let (name, rest) = up_to_byte(b'>', start)?;
+    let (inside, rest) = up_to_byte(b'>', start)?;
+    let (name, is_short) = name_inside(inside);
     let kind = types.known(name)?;
-    Some((kind, rest))
+    let tag = Tag {
+        name: kind.name,
+        attrs: b"",
+    };
+    if is_short {
+        Some((Item::EmptyTag(tag), rest, kind))
+    } else {
+        Some((Item::StartTag(tag), rest, kind))
+    }
 }
 
 // Whether another element may stand inside so many.
@@ -81,11 +105,11 @@ fn may_open(most_depth: Option<usize>, open_elements: usize) -> bool
     }
 }
 
-/// The item at the front, what stands after it, and of a start tag whose name was found lately the
-/// type; or the first kind of fault there, after so many items, in this open element, with so many
-/// open ones. A run of simple characters is told by one look at them, an end tag by its element's
-/// name, and a start tag by the names that were found. Elements stand at most so deep, or at any
-/// depth.
+/// The item at the front, what stands after it, and of a start tag or an empty-element tag whose
+/// name was found lately the type; or the first kind of fault there, after so many items, in this
+/// open element, with so many open ones. A run of simple characters is told by one look at them, an
+/// end tag by its element's name, and a tag that opens an element by the names that were found.
+/// Elements stand at most so deep, or at any depth.
 pub fn item_in<'a, B>(
     most_depth: Option<usize>,
     element: &OpenList<'a, B>,
@@ -120,10 +144,9 @@ pub fn item_in<'a, B>(
         return Ok((Item::EndTag { name, gap: b"" }, more, None));
     }
     if may_open(most_depth, open_elements)
-        && let Some((kind, more)) = start_tag_at(types, rest)
+        && let Some((item, more, kind)) = known_tag_at(types, rest)
     {
-        let name = kind.name;
-        return Ok((Item::StartTag(Tag { name, attrs: b"" }), more, Some(kind)));
+        return Ok((item, more, Some(kind)));
     }
     let place = Place::Content(name, open_elements);
     let (item, more) = next_item(most_depth, &place, root, rest, count)?;

@@ -11,7 +11,7 @@ use pv_dtd::Dtd;
 use pv_model::Token;
 use std::alloc::Global;
 
-/// How many places there are: one for each value of a byte.
+/// How many places there are.
 const PLACES: usize = 256;
 
 /// What the DTD says of elements of a name.
@@ -115,16 +115,15 @@ impl<'a> FoundTypes<'a> {
     }
 }
 
-// A place by a few bytes of the name.
+// A place by the length of the name and a few of its bytes.
 fn place_of(name: &[u8]) -> usize {
     match name {
-        [first, second, .., last] => {
-            first
-                .wrapping_mul(31)
-                .wrapping_add(second.wrapping_mul(7))
-                .wrapping_add(*last) as usize
+        [first, .., last] => {
+            let middle = name[name.len() / 2];
+            let bytes = *first as usize * 31 + middle as usize * 7 + *last as usize;
+            name.len().wrapping_mul(13).wrapping_add(bytes) % PLACES
         }
-        [first, ..] => *first as usize,
+        [first] => *first as usize,
         [] => 0,
     }
 }

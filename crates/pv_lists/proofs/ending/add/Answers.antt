@@ -1,4 +1,4 @@
-use Rattle.std.proofs.Common.{refl, ap, ◌∷◌, Some, None}
+use Rattle.std.proofs.Common.{refl, ap, ◌∷◌, inl, inr, Some, None}
 use Rattle.pv_model.specs.declared.models.Token.TheVariants.{Text}
 use Rattle.pv_tree.specs.Marks.{blank_mark}
 use Rattle.pv_tree.specs.Plain.{short, tagged}
@@ -14,7 +14,13 @@ pub open-requires-clause-typed : goal.open-requires-clause-typed
 open-requires-clause-typed g c =
     type_of_tag (g.J.ListJudge.judgement c.args.judge.now).dtd (plain_item c.args.item.now)
     c.in-StartTag.tag.name.now c.in-StartTag.tag.attrs.now c.args.kind
-    (ap plain_item c.in-StartTag.is) c.requires.typed
+    (inl (ap plain_item c.in-StartTag.is)) c.requires.typed
+
+pub open-requires-in-EmptyTag-clause-typed : goal.open-requires-in-EmptyTag-clause-typed
+open-requires-in-EmptyTag-clause-typed g c =
+    type_of_tag (g.J.ListJudge.judgement c.args.judge.now).dtd (plain_item c.args.item.now)
+    c.in-EmptyTag.tag.name.now c.in-EmptyTag.tag.attrs.now c.args.kind
+    (inr (ap plain_item c.in-EmptyTag.is)) c.requires.typed
 
 pub close-requires-clause-room : goal.close-requires-clause-room
 close-requires-clause-room g c =

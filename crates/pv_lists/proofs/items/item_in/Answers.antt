@@ -1,5 +1,6 @@
+use Rattle.pv_read.specs.PlainItems.{plain_item}
 use Rattle.pv_lists.proofs.SimpleRuns.{run_taken}
-use Rattle.pv_lists.proofs.KnownTags.{end_tag_taken, start_tag_taken}
+use Rattle.pv_lists.proofs.KnownTags.{end_tag_taken, bare_tag_taken}
 use Rattle.pv_lists.proofs.items.item_in.Goals as goal
 
 pub returns-in-Some-clause-taken : goal.returns-in-Some-clause-taken
@@ -14,7 +15,7 @@ returns-clause-taken g c = λ left at.
 
 pub returns-2-clause-taken : goal.returns-2-clause-taken
 returns-2-clause-taken g c = λ left at.
-    let tag = c.in-Some-start_tag_at in
-    start_tag_taken c.args.most_depth c.args.root.now c.args.rest.now tag.more.now
-    c.args.element.now.name.now tag.kind.name.now c.args.open_elements left at tag.ensures.named
-    (c.may_open.ensures c.if-may_open.true) tag.ensures.whole
+    let tag = c.in-Some-known_tag_at in
+    bare_tag_taken c.args.most_depth c.args.root.now c.args.rest.now tag.more.now
+    c.args.element.now.name.now tag.kind.name.now (plain_item tag.item) c.args.open_elements left at
+    tag.ensures.named (c.may_open.ensures c.if-may_open.true) tag.ensures.bare tag.ensures.whole
