@@ -1,8 +1,8 @@
 -- A change of one list of a document: some kids that stand side by side give way to other trees.
 use Rattle.std.specs.Prelude.{ℕ, zero, suc, Bool, true, false, List, [], ◌∷◌, ◌++◌, map}
 use Rattle.std.specs.List.{between, splice}
-use Rattle.pv_tree.specs.Plain.{Ending, short, tagged, Tree, element, text_node, cdata_node}
-use Rattle.pv_tree.specs.Plain.{misc_node, Forest, no_trees, tree, forest_of, PlainDoc}
+use Rattle.pv_tree.specs.Plain.{Ending, short, tagged, Tree, element, Forest, no_trees, tree}
+use Rattle.pv_tree.specs.Plain.{forest_of, PlainDoc}
 use Rattle.pv_tree.specs.Places.{kids_of}
 
 -- what comes in place of some trees: other trees, an element around them, their own kids, or the
@@ -24,9 +24,7 @@ pub record Change (M : Type 0) : Type 0 where
 
 abbrev pub with_name : {M : Type 0} → List ℕ → Tree M → Tree M
 with_name x (element y attrs ending kids mark) = element x attrs ending kids mark
-with_name x (text_node units) = text_node units
-with_name x (cdata_node bytes) = cdata_node bytes
-with_name x (misc_node bytes) = misc_node bytes
+with_name x t = t
 
 -- the kids of all of these trees
 abbrev pub all_kids : {M : Type 0} → List (Tree M) → List (Tree M)
@@ -47,16 +45,13 @@ list_after c ts = splice ts c.from c.to (in_place_of c.filling (between c.from c
 -- its last kid keeps its end
 abbrev pub ending_after : {M : Type 0} → Bool → Ending → List (Tree M) → Ending
 ending_after true ending ts = short
-ending_after false short [] = short
 ending_after false short (t ∷ ts) = tagged []
-ending_after false (tagged gap) ts = tagged gap
+ending_after false ending ts = ending
 
 abbrev pub with_list : {M : Type 0} → Bool → List (Tree M) → Tree M → Tree M
 with_list shorten ts (element x attrs ending kids mark) =
     element x attrs (ending_after shorten ending ts) (forest_of ts) mark
-with_list shorten ts (text_node units) = text_node units
-with_list shorten ts (cdata_node bytes) = cdata_node bytes
-with_list shorten ts (misc_node bytes) = misc_node bytes
+with_list shorten ts t = t
 
 -- the owner of the list after the change
 abbrev pub owner_after : {M : Type 0} → Change M → Tree M → Tree M
@@ -73,9 +68,7 @@ abbrev pub change_below : {M : Type 0} → List ℕ → (Tree M → Tree M) → 
 change_below [] f t = f t
 change_below (i ∷ path) f (element x attrs ending kids mark) =
     element x attrs ending (change_kid (change_below path f) i kids) mark
-change_below (i ∷ path) f (text_node units) = text_node units
-change_below (i ∷ path) f (cdata_node bytes) = cdata_node bytes
-change_below (i ∷ path) f (misc_node bytes) = misc_node bytes
+change_below (i ∷ path) f t = t
 
 abbrev pub first_tree : {M : Type 0} → Tree M → List (Tree M) → Tree M
 first_tree t [] = t

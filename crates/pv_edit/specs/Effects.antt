@@ -1,8 +1,8 @@
 -- What an edit does: the change that it makes.
-use Rattle.std.specs.Prelude.{ℕ, ◌+◌, false, List, [], ◌∷◌, ◌++◌, take, drop, Option, Some, None}
-use Rattle.pv_tree.specs.Plain.{Tree, element, text_node, cdata_node, misc_node, no_trees, short}
+use Rattle.std.specs.Prelude.{ℕ, ◌+◌, false, List, [], ◌∷◌, ◌++◌, take, drop, Option, Some}
+use Rattle.pv_tree.specs.Plain.{Tree, element, text_node, no_trees, short}
 use Rattle.pv_tree.specs.Plain.{tagged}
-use Rattle.pv_tree.specs.Places.{Spot, at_document, at_node, spot_at}
+use Rattle.pv_tree.specs.Places.{Spot, at_node, spot_at}
 use Rattle.pv_edit.specs.GivenNames.{new_units}
 use Rattle.pv_edit.specs.Changes.{Change, Filling, others, around, inner, named}
 use Rattle.pv_edit.specs.declared.edits.Edit.{Edit}
@@ -11,9 +11,8 @@ use Rattle.pv_edit.specs.declared.edits.Edit.TheVariants.{SetText, AddText, DelT
 
 -- the path of the node whose kid stands at a path
 abbrev pub parent_of : List ℕ → List ℕ
-parent_of [] = []
-parent_of (i ∷ []) = []
 parent_of (i ∷ j ∷ path) = i ∷ parent_of (j ∷ path)
+parent_of path = []
 
 -- which of its kids that is
 abbrev pub kid_place : List ℕ → ℕ
@@ -27,15 +26,12 @@ next_of path = parent_of path ++ (kid_place path + 1) ∷ []
 
 -- the units of a text
 abbrev pub node_units : {M : Type 0} → Tree M → List (List ℕ)
-node_units (element x attrs ending kids mark) = []
 node_units (text_node units) = units
-node_units (cdata_node bytes) = []
-node_units (misc_node bytes) = []
+node_units t = []
 
 abbrev pub units_on : {M : Type 0} → Option (Spot M) → List (List ℕ)
-units_on None = []
-units_on (Some at_document) = []
 units_on (Some (at_node t)) = node_units t
+units_on spot = []
 
 -- the units of the text at a path
 abbrev pub units_at : {M : Type 0} → List ℕ → Tree M → List (List ℕ)

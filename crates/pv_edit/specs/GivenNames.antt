@@ -19,9 +19,8 @@ is_some_bytes [] = false
 is_some_bytes (b ∷ bs) = true
 
 abbrev pub is_one_literal : List ℕ → Bool
-is_one_literal [] = false
 is_one_literal (c ∷ []) = is_literal c
-is_one_literal (c ∷ d ∷ cs) = false
+is_one_literal cs = false
 
 -- what stands between a front and the last byte
 abbrev pub inner_part : List ℕ → List ℕ → List ℕ

@@ -1,9 +1,9 @@
 -- What undoes an edit, and where it leads.
 use Rattle.std.specs.Prelude.{◌≡◌, ◌≤◌, ℕ, ◌+◌, Bool, true, false, List, [], ◌∷◌, ◌++◌, length}
-use Rattle.std.specs.Prelude.{Option, Some, None, IsTrue}
-use Rattle.pv_tree.specs.Plain.{Ending, short, tagged, Tree, element, text_node, cdata_node}
-use Rattle.pv_tree.specs.Plain.{misc_node, trees_of, is_element, depth_of, nodes_in, PlainDoc}
-use Rattle.pv_tree.specs.Places.{Spot, at_document, at_node, spot_at}
+use Rattle.std.specs.Prelude.{Option, Some, IsTrue}
+use Rattle.pv_tree.specs.Plain.{Ending, short, tagged, Tree, element, trees_of, is_element}
+use Rattle.pv_tree.specs.Plain.{depth_of, nodes_in, PlainDoc}
+use Rattle.pv_tree.specs.Places.{Spot, at_node, spot_at}
 use Rattle.pv_tree.specs.Legal.{has_names, is_formed, IsLegal, has_no_close_mark, MAX_DEPTH}
 use Rattle.pv_tree.specs.Legal.{MAX_NODES}
 use Rattle.pv_tree.specs.Units.{HasUnits}
@@ -29,20 +29,12 @@ is_short (tagged gap) = false
 
 -- whether an element ends by `/>`; the document node doesn't
 abbrev pub ends_short : {M : Type 0} → Option (Spot M) → Bool
-ends_short None = false
-ends_short (Some at_document) = false
 ends_short (Some (at_node (element x attrs ending kids mark))) = is_short ending
-ends_short (Some (at_node (text_node units))) = false
-ends_short (Some (at_node (cdata_node bytes))) = false
-ends_short (Some (at_node (misc_node bytes))) = false
+ends_short spot = false
 
 abbrev pub name_on : {M : Type 0} → Option (Spot M) → List ℕ
-name_on None = []
-name_on (Some at_document) = []
 name_on (Some (at_node (element x attrs ending kids mark))) = x
-name_on (Some (at_node (text_node units))) = []
-name_on (Some (at_node (cdata_node bytes))) = []
-name_on (Some (at_node (misc_node bytes))) = []
+name_on spot = []
 
 abbrev pub end_of : Ending → End
 end_of short = end.Short
@@ -50,13 +42,9 @@ end_of (tagged gap) = end.Tagged gap
 
 -- puts kids of the list at a path back into the element that they were taken out of
 abbrev pub put_back : {M : Type 0} → List ℕ → ℕ → Option (Spot M) → Inverse
-put_back list i None = PutBack list i i [] [] end.Short
-put_back list i (Some at_document) = PutBack list i i [] [] end.Short
 put_back list i (Some (at_node (element x attrs ending kids mark))) =
     PutBack list i (i + length (trees_of kids)) x attrs (end_of ending)
-put_back list i (Some (at_node (text_node units))) = PutBack list i i [] [] end.Short
-put_back list i (Some (at_node (cdata_node bytes))) = PutBack list i i [] [] end.Short
-put_back list i (Some (at_node (misc_node bytes))) = PutBack list i i [] [] end.Short
+put_back list i spot = PutBack list i i [] [] end.Short
 
 -- the inverse of an edit of this tree
 abbrev pub inverse_of : {M : Type 0} → Tree M → Edit → Inverse

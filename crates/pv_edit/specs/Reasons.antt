@@ -2,9 +2,9 @@
 use Rattle.std.specs.Prelude.{ℕ, Bool, true, false, not, ◌&&◌, ◌||◌, ◌==◌, nat_le, nat_lt, List, []}
 use Rattle.std.specs.Prelude.{◌∷◌, length, Option, Some, None}
 use Rattle.pv_chars.specs.Texts.{holds_close_mark}
-use Rattle.pv_tree.specs.Plain.{Tree, element, text_node, cdata_node, misc_node, Forest, no_trees}
+use Rattle.pv_tree.specs.Plain.{Tree, text_node, Forest, no_trees}
 use Rattle.pv_tree.specs.Plain.{tree, forest_of, depth_of, is_element, PlainDoc}
-use Rattle.pv_tree.specs.Places.{Spot, at_document, at_node, spot_at, list_at}
+use Rattle.pv_tree.specs.Places.{Spot, at_node, spot_at, list_at}
 use Rattle.pv_tree.specs.Legal.{front_units, MAX_DEPTH}
 use Rattle.pv_edit.specs.GivenNames.{is_new_name, is_new_text}
 use Rattle.pv_edit.specs.Changes.{Change, list_after, root_after, doc_after}
@@ -18,16 +18,13 @@ use Rattle.pv_edit.specs.declared.reasons.Reason.TheVariants.{BadName, BadText, 
 use Rattle.pv_edit.specs.declared.reasons.Reason.TheVariants.{CloseMark}
 
 abbrev pub is_text : {M : Type 0} → Tree M → Bool
-is_text (element x attrs ending kids mark) = false
 is_text (text_node units) = true
-is_text (cdata_node bytes) = false
-is_text (misc_node bytes) = false
+is_text t = false
 
 -- a node of the tree for which the test is true; the document node is none
 abbrev pub is_spot : {M : Type 0} → (Tree M → Bool) → Option (Spot M) → Bool
-is_spot test None = false
-is_spot test (Some at_document) = false
 is_spot test (Some (at_node t)) = test t
+is_spot test spot = false
 
 abbrev pub is_given : {A : Type 0} → Option A → Bool
 is_given None = false
@@ -42,9 +39,8 @@ abbrev pub kids_at : {M : Type 0} → List ℕ → Tree M → List (Tree M)
 kids_at path root = items_of (list_at path root)
 
 abbrev pub is_one_element : {M : Type 0} → List (Tree M) → Bool
-is_one_element [] = false
 is_one_element (t ∷ []) = is_element t
-is_one_element (t ∷ u ∷ ts) = false
+is_one_element ts = false
 
 -- the path of the document node, or of the root
 abbrev pub is_top : List ℕ → Bool
@@ -52,9 +48,8 @@ is_top [] = true
 is_top (i ∷ path) = false
 
 abbrev pub is_root : List ℕ → Bool
-is_root [] = false
 is_root (i ∷ []) = true
-is_root (i ∷ j ∷ path) = false
+is_root path = false
 
 -- the units of some run of texts side by side, joined, hold `]]>`
 abbrev pub spells_close_mark : {M : Type 0} → Forest M → Bool
