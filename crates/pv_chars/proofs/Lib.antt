@@ -28,3 +28,4 @@ pub mod CharFacts
 pub mod TextDeclarations
 -- of this crate:
 pub mod Arms
+pub mod LastUnits

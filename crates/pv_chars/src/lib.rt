@@ -14,6 +14,7 @@ mod characters;
 pub mod declarations;
 pub mod delimiters;
 mod errors;
+mod last_units;
 pub mod laws;
 mod lists;
 pub mod markup;

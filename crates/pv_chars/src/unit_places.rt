@@ -6,7 +6,11 @@ ghost use Rattle.pv_chars.specs.Units.{BeginsAmpersand, IsCut, units_in};
 ghost use Rattle.pv_chars.specs.UnitPlaces.{openings, EndsBeforeAmpersand};
 
 use crate::delimiters::up_to_byte;
+use crate::last_units::last_units;
 use crate::utf8::continues;
+
+/// How many units are passed from the left in the time that one takes from the right.
+const LEFT: usize = 8;
 
 /// What stands after so many units of a text that has `all`.
 pub(crate) fn behind_units(bytes: &[u8], all: usize, count: usize) -> &[u8]
@@ -17,8 +21,8 @@ pub(crate) fn behind_units(bytes: &[u8], all: usize, count: usize) -> &[u8]
     if all == bytes.len() {
         return bytes.split_at(count).1;
     }
-    if count == all {
-        return bytes.split_at(bytes.len()).1;
+    if all - count < count / LEFT {
+        return last_units(bytes, all, all - count);
     }
     walk(bytes, count)
 }
