@@ -7,8 +7,10 @@ examples/, under DocBook and XHTML where they are installed, and under made DTDs
 missing than were taken. What `pvlong complete` prints is `valid`, for xmllint too where it is installed; it keeps all texts and tags in their order,
 has as many elements more as `need` tells at most, and its status tells whether that is the least number. At least as many are missing as `check`
 counts lists, and a valid document is printed as it is. A list that stands in a document many times is told soon. Files in fault are
-refused as `check` refuses them. Prints each difference, how often the number was exact, and how many cases passed; ends with 1 where one failed.
+refused as `check` refuses them. Where no time is left, the same holds, and the numbers may be further apart. Prints each difference, how often the
+number was exact, and how many cases passed; ends with 1 where one failed.
 """
+import contextlib
 import os
 import random
 import re
@@ -17,7 +19,7 @@ import subprocess
 import sys
 import tempfile
 import time
-from collections.abc import Callable
+from collections.abc import Callable, Iterator
 from typing import NamedTuple
 
 sys.dont_write_bytecode = True
@@ -151,12 +153,12 @@ def by_session(told: Told, reply: str) -> str:
 
 # ---- small documents ----
 
-def try_example(both: Programs, dtd: str, root: str, name: str) -> None:
+def try_example(both: Programs, dtd: str, root: str, name: str, what: str = "examples") -> None:
     with open(f"{TOP}/examples/{name}", encoding="utf-8", newline="") as file:
         text = file.read()
 
     path = f"{TOP}/examples/{dtd}"
-    both.case("examples", lambda: by_session(judge(both, path, root, text, path), both.session_need(path, root, "d.xml")), lambda: name)
+    both.case(what, lambda: by_session(judge(both, path, root, text, path), both.session_need(path, root, "d.xml")), lambda: name)
 
 
 def try_row(both: Programs, dtd: str, root: str, kids: str, least: int) -> None:
@@ -349,6 +351,42 @@ def try_refusals(both: Programs) -> None:
                   lambda files=files: str(files))
 
 
+@contextlib.contextmanager
+def within(seconds: str) -> Iterator[None]:
+    """Gives `pvlong` so many seconds."""
+    os.environ["PVLONG_SECONDS"] = seconds
+    try:
+        yield
+    finally:
+        del os.environ["PVLONG_SECONDS"]
+
+
+def try_late_row(both: Programs, dtd: str, root: str, kids: str, least: int) -> None:
+    write("row.dtd", dtd)
+    text = f"<{root}>{kids}</{root}>"
+
+    def judged() -> str:
+        told = judge(both, "row.dtd", root, text)
+        need(told.least <= least <= told.most, f"{told.line!r} where {least} are missing")
+        return "exact" if told.least == told.most else "between"
+
+    both.case("late", judged, lambda: text)
+
+
+def try_late(both: Programs) -> None:
+    """Where no time is left: bounds and completions of the examples and of long lists, which may be further apart; and what are no seconds."""
+    with within("0"):
+        for dtd, (root, names) in EXAMPLES.items():
+            for name in names:
+                try_example(both, dtd, root, name, "late")
+        for row in ROWS:
+            try_late_row(both, *row)
+    for seconds in ("", "x", "01", "+1", "1.5", "4294967296"):
+        with within(seconds):
+            both.case("late", lambda: same(both.long("need", "good.dtd", "a", "good.xml"), (2, b"usage\n"), "no seconds") or "no seconds",
+                      lambda seconds=seconds: seconds)
+
+
 def until(seconds: float, *tries: Callable[[], None]) -> None:
     """Tries one after another, again and again for so long, each once at least."""
     end = time.monotonic() + seconds
@@ -375,6 +413,7 @@ def main() -> int:
         try_again(both)
         try_mixed(both)
         try_heavy(both)
+        try_late(both)
         until(share, lambda: try_search(both), lambda: try_derivations(both))
         until(share, lambda: try_made(both), lambda: try_one_list(both))
         tries = [lambda it=it, room=room: try_wide(both, os.path.basename(it.original), it.flat, it.models, it.least, room, it.original)

@@ -27,6 +27,13 @@ is_count() {
     esac
 }
 
+is_seconds() {
+    case $1 in
+    '' | 0?* | *[!0-9]*) return 1 ;;
+    ??????????*) return 1 ;;
+    esac
+}
+
 # The program takes no words that aren't UTF-8. Another process is asked of them where one isn't ASCII.
 is_utf_8() {
     case $* in
@@ -78,8 +85,9 @@ pvmany.--version.1)
 esac
 
 is_utf_8 "$@" && case $name.${1-}.$# in
-pvtag.valid.4 | pvtag.check.4 | pvtag.session.4 | pvtag.complete.4 | pvtag.why.4 | pvlong.check.4 | pvlong.need.4 | pvlong.complete.4)
-    is_name "$3" && is_file "$2" && is_file "$4"
+pvtag.valid.4 | pvtag.check.4 | pvtag.session.4 | pvtag.complete.4 | pvtag.why.4) is_name "$3" && is_file "$2" && is_file "$4" ;;
+pvlong.check.4 | pvlong.need.4 | pvlong.complete.4)
+    is_seconds "${PVLONG_SECONDS-0}" && is_name "$3" && is_file "$2" && is_file "$4"
     ;;
 pvtag.verify.5 | pvtag.deny.5 | pvtag.standoff.5) is_name "$3" && is_file "$2" && is_file "$4" && is_file "$5" ;;
 pvmany.valid.3 | pvmany.check.3 | pvmany.need.3) is_name "$3" && is_file "$2" ;;
@@ -129,7 +137,14 @@ case $status.$name.$command in
 2.*.)
     say "a command is expected first: one of $commands"
     ;;
-2.pvtag.valid | 2.pvtag.check | 2.pvtag.session | 2.pvtag.complete | 2.pvtag.why | 2.pvlong.check | 2.pvlong.need | 2.pvlong.complete)
+2.pvlong.check | 2.pvlong.need | 2.pvlong.complete)
+    if ! is_seconds "${PVLONG_SECONDS-0}"; then
+        say "PVLONG_SECONDS is to be a number of seconds, and \`$PVLONG_SECONDS\` is none"
+    else
+        say_words 3 'DTD ROOT DOC' && say "ROOT is to be a name, and \`$3\` is none"
+    fi
+    ;;
+2.pvtag.valid | 2.pvtag.check | 2.pvtag.session | 2.pvtag.complete | 2.pvtag.why)
     say_words 3 'DTD ROOT DOC' && say "ROOT is to be a name, and \`$3\` is none"
     ;;
 2.pvmany.valid | 2.pvmany.check | 2.pvmany.need) say_words 2 'DTD ROOT' && say "ROOT is to be a name, and \`$3\` is none" ;;

@@ -14,6 +14,7 @@ ghost use Rattle.pv_missing.specs.ListWeights.{IsBound, site_of};
 ghost use Rattle.pv_long.specs.AddedBounds.{AreBounded};
 ghost use Rattle.pv_long.specs.KnownBounds.{AreWordBounds, IsWordBound};
 
+use crate::deadlines::Deadline;
 use crate::errors::MakeError;
 use crate::known::KnownBounds;
 use crate::making::building::build;
@@ -193,6 +194,22 @@ fn bound_within(
     }
 }
 
+// A bound of a word that says nothing, and the pieces of the first completion that is found.
+fn bound_at_once(
+    alloc: Global,
+    known: &KnownColumns<'_>,
+    of: Of,
+    word: &[Token],
+) -> Result<(u32, Vec<Piece>), MakeError>
+    ensures { IfOk result (λ found. IsWordBound (dtd_of known.now.layout.now.grammar.now) of
+        (map plain_token word.now) found.0) }
+{
+    let least = word_bound(alloc, known.layout, of, word, &no_fronts(alloc))?;
+    let filled = fill_few(alloc, known, known.layout.column(site_at(of)), word, 1)?;
+    let pieces = pieces_by(alloc, known, of, word, &filled)?;
+    Ok((least, pieces))
+}
+
 // A lower bound of a word, and pieces, by whatever is made of it: of a short one all, of a longer
 // one what is seen within windows, and else as much as there is room for. There are no pieces where
 // more than 1,000,000 elements are missing.
@@ -220,13 +237,14 @@ fn bound_word(
     bound_filled(alloc, known, of, word, &filled)
 }
 
-// A lower bound of a word, and pieces. What is remembered gives back its memory where there is too
-// little.
+// A lower bound of a word, and pieces: at once where it is late. What is remembered gives back its
+// memory where there is too little.
 fn bound_with_room(
     alloc: Global,
     known: &KnownColumns<'_>,
     of: Of,
     word: &[Token],
+    is_late: bool,
     bounds: &mut KnownBounds,
 ) -> Result<(u32, Vec<Piece>), MakeError>
     requires { AreWordBounds (dtd_of known.now.layout.now.grammar.now) bounds.old }
@@ -234,6 +252,9 @@ fn bound_with_room(
         (map plain_token word.now) found.0) }
     ensures known { AreWordBounds (dtd_of known.now.layout.now.grammar.now) bounds.new }
 {
+    if is_late {
+        return bound_at_once(alloc, known, of, word);
+    }
     match bound_word(alloc, known, of, word) {
         Err(MakeError::NoMemory) if !bounds.is_empty() => {
             bounds.forget(alloc);
@@ -249,6 +270,7 @@ fn bound_once(
     known: &KnownColumns<'_>,
     of: Of,
     word: Tokens,
+    is_late: bool,
     bounds: &mut KnownBounds,
 ) -> Result<(u32, Vec<Piece>), MakeError>
     requires { AreWordBounds (dtd_of known.now.layout.now.grammar.now) bounds.old }
@@ -259,7 +281,7 @@ fn bound_once(
     if let Some(found) = bounds.find(of, word.as_slice()) {
         return Ok((found.least, found.pieces.as_slice().to_vec(alloc)?));
     }
-    let (least, pieces) = bound_with_room(alloc, known, of, word.as_slice(), bounds)?;
+    let (least, pieces) = bound_with_room(alloc, known, of, word.as_slice(), is_late, bounds)?;
     bounds.keep(alloc, of, word, least, pieces.as_slice());
     Ok((least, pieces))
 }
@@ -270,6 +292,7 @@ fn bound_kids(
     known: &KnownColumns<'_>,
     of: Of,
     kids: &[Node],
+    is_late: bool,
     bounds: &mut KnownBounds,
 ) -> Result<(u32, Vec<Piece>), MakeError>
     requires { AreWordBounds (dtd_of known.now.layout.now.grammar.now) bounds.old }
@@ -280,17 +303,18 @@ fn bound_kids(
     ensures known { AreWordBounds (dtd_of known.now.layout.now.grammar.now) bounds.new }
 {
     let word = word(alloc, known.layout.grammar.dtd(), kids)?;
-    let found = bound_once(alloc, known, of, word, bounds)?;
+    let found = bound_once(alloc, known, of, word, is_late, bounds)?;
     Ok(found)
 }
 
 // Bounds the list of these kids where it is Possible.
-fn bound_list(
+fn bound_list<D: Deadline>(
     alloc: Global,
     known: &KnownColumns<'_>,
     owner: Option<Of>,
     kids: &[Node],
     verdicts: &Verdicts,
+    deadline: &D,
     bounds: &mut KnownBounds,
     found: &mut Found,
 ) -> Result<(), MakeError>
@@ -309,7 +333,7 @@ fn bound_list(
     let Some(of) = owner else {
         return Err(MakeError::Unproved);
     };
-    let (least, pieces) = bound_kids(alloc, known, of, kids, bounds)?;
+    let (least, pieces) = bound_kids(alloc, known, of, kids, deadline.is_past(), bounds)?;
     found.pieces.push(pieces)?;
     found.has_heavy = found.has_heavy || least >= HEAVIEST;
     found.least = u32::saturating_add(found.least, least);
@@ -317,13 +341,15 @@ fn bound_list(
 }
 
 /// Bounds the lists of a document: a number that their bounds add up to at least, and the pieces of
-/// each, by the verdicts. A list whose owner and word came before isn't bounded again.
-pub fn bound_doc(
+/// each, by the verdicts. A list whose owner and word came before isn't bounded again. After the
+/// deadline, nothing is sought of a list but a completion.
+pub fn bound_doc<D: Deadline>(
     alloc: Global,
     known: &KnownColumns<'_>,
     root: &[u8],
     doc: &Doc,
     verdicts: &Verdicts,
+    deadline: &D,
 ) -> Result<Found, MakeError>
     ensures { IfOk result (λ found. AreBounded (dtd_of known.now.layout.now.grammar.now) root.now
         (lists_of (plain_doc doc.now)) 0 found.least) }
@@ -339,6 +365,7 @@ pub fn bound_doc(
             owner,
             list.kids,
             verdicts,
+            deadline,
             &mut bounds,
             &mut found,
         )?;

@@ -14,6 +14,7 @@
 mod answers;
 mod bounding;
 mod checking;
+mod deadlines;
 mod errors;
 mod known;
 pub mod laws;
@@ -22,5 +23,6 @@ mod tags;
 mod telling;
 
 pub use answers::{Completion, Missing};
+pub use deadlines::{Deadline, NoDeadline};
 pub use errors::LongError;
 pub use telling::missing;

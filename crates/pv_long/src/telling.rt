@@ -18,6 +18,7 @@ ghost use Rattle.pv_long.specs.BoundAnswers.{TellsNone};
 use crate::answers::{Completion, Missing};
 use crate::bounding::{Found, bound_doc};
 use crate::checking::is_completion;
+use crate::deadlines::Deadline;
 use crate::errors::{LongError, MakeError};
 use crate::making::known_columns::known_columns;
 use crate::tags::check_tags;
@@ -105,12 +106,13 @@ fn least_of(bound: u32, verdicts: &Verdicts) -> Result<u32, MakeError>
 
 // What is found of the lists of a document, and a number that no completion passes from above, no
 // fewer than its Possible lists.
-fn bound_lists(
+fn bound_lists<D: Deadline>(
     alloc: Global,
     grammar: &Grammar,
     root: &[u8],
     doc: &Doc,
     verdicts: &Verdicts,
+    deadline: &D,
 ) -> Result<(u32, Found), MakeError>
     requires { HasPossibility root.now (dtd_of grammar.now) (plain_doc doc.now) verdicts.now }
     ensures least { IfOk result (λ found.
@@ -122,7 +124,7 @@ fn bound_lists(
     proper_doc_law(doc);
     let layout = lay_out(alloc, grammar)?;
     let known = known_columns(alloc, &layout)?;
-    let found = bound_doc(alloc, &known, root, doc, verdicts)?;
+    let found = bound_doc(alloc, &known, root, doc, verdicts, deadline)?;
     let least = least_of(found.least, verdicts)?;
     Ok((least, found))
 }
@@ -147,13 +149,14 @@ fn complete_by(
 
 // A number that no completion of a document passes from above, no fewer than its Possible lists,
 // and one of its completions.
-fn bounds_of(
+fn bounds_of<D: Deadline>(
     alloc: Global,
     grammar: &Grammar,
     root: &[u8],
     doc: &Doc,
     bytes: &[u8],
     verdicts: &Verdicts,
+    deadline: &D,
 ) -> Result<(u32, Completion), LongError>
     requires text { DocumentMeans blank_mark root.now bytes.now (is_document (plain_doc doc.now)) }
     requires possible { HasPossibility root.now (dtd_of grammar.now) (plain_doc doc.now)
@@ -165,7 +168,7 @@ fn bounds_of(
         IsCompletion (dtd_of grammar.now) root.now (plain_doc doc.now) found.1) }
     ensures refused { IfErr result (SaysHeavy (dtd_of grammar.now) root.now (plain_doc doc.now)) }
 {
-    let (least, found) = bound_lists(alloc, grammar, root, doc, verdicts)?;
+    let (least, found) = bound_lists(alloc, grammar, root, doc, verdicts, deadline)?;
     if found.has_heavy && least >= HEAVIEST {
         return Err(LongError::TooHeavy);
     }
@@ -186,13 +189,14 @@ fn own_text(alloc: Global, bytes: &[u8]) -> Result<Completion, MakeError>
 }
 
 // What is missing in a document that can be completed, by the verdicts of its lists.
-fn missing_by(
+fn missing_by<D: Deadline>(
     alloc: Global,
     grammar: &Grammar,
     root: &[u8],
     doc: &Doc,
     bytes: &[u8],
     verdicts: &Verdicts,
+    deadline: &D,
 ) -> Result<Missing, LongError>
     requires text { DocumentMeans blank_mark root.now bytes.now (is_document (plain_doc doc.now)) }
     requires possible { HasPossibility root.now (dtd_of grammar.now) (plain_doc doc.now)
@@ -210,7 +214,7 @@ fn missing_by(
     if verdicts.left() == 0 {
         return Ok(Missing::Exactly(own_text(alloc, bytes)?));
     }
-    let (least, completion) = bounds_of(alloc, grammar, root, doc, bytes, verdicts)?;
+    let (least, completion) = bounds_of(alloc, grammar, root, doc, bytes, verdicts, deadline)?;
     if least < completion.count {
         Ok(Missing::Between(least, completion))
     } else {
@@ -223,14 +227,18 @@ fn missing_by(
 /// from above and a completion that inserts more. The bound is at least the number of the Possible
 /// lists, and a valid document is its own completion. The document stays as it is.
 ///
+/// After the deadline, of each list that is left no bound is sought, and a completion at once: the
+/// numbers may be further apart then, and both are right. A list that was begun is ended.
+///
 /// A list may be as wide as a verdict allows. New elements are written as `complete` of pv_complete
 /// writes them. That something is told isn't promised: see `LongError`.
-pub fn missing(
+pub fn missing<D: Deadline>(
     alloc: Global,
     grammar: &Grammar,
     root: &[u8],
     doc: &Doc,
     bytes: &[u8],
+    deadline: &D,
 ) -> Result<Missing, LongError>
     requires { DocumentMeans blank_mark root.now bytes.now (is_document (plain_doc doc.now)) }
     ensures told { IfOk result (IsMissing (dtd_of grammar.now) root.now (plain_doc doc.now)
@@ -238,5 +246,5 @@ pub fn missing(
     ensures refused { IfErr result (TellsNone (dtd_of grammar.now) root.now (plain_doc doc.now)) }
 {
     let verdicts = verdicts_of(alloc, grammar, root, doc)?;
-    missing_by(alloc, grammar, root, doc, bytes, &verdicts)
+    missing_by(alloc, grammar, root, doc, bytes, &verdicts, deadline)
 }

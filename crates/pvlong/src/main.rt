@@ -11,6 +11,7 @@ mod exits;
 mod possibility;
 mod program;
 mod requests;
+mod seconds;
 mod telling;
 
 ghost use Rattle.std.specs.Prelude.{◌≡◌, true};
@@ -22,10 +23,13 @@ ghost use Rattle.pvlong.specs.Exits.{exit_code};
 
 use crate::exits::Exit;
 use crate::program::pvlong;
+use crate::seconds::Seconds;
 use pv_io::{FolderShelf, Shelf, Sink, WriteSink};
+use pv_long::Deadline;
 use std::alloc::Global;
 use std::process::ExitCode;
 use std::rt::{Env, Files};
+use std::time::Clock;
 use std::{env, io};
 
 /// The exit status where the words after the program's name can't be fetched.
@@ -40,7 +44,13 @@ fn words_of(rt: &(impl Env + AllocGlobal), alloc: Global) -> io::Result<Vec<Stri
 }
 
 /// Runs the program over these devices, and ends with the number of its exit.
-fn run<H: Shelf, K: Sink>(alloc: Global, words: &[String], shelf: &mut H, out: &mut K) -> ExitCode
+fn run<H: Shelf, K: Sink, D: Deadline>(
+    alloc: Global,
+    words: &[String],
+    shelf: &mut H,
+    out: &mut K,
+    deadline: &D,
+) -> ExitCode
     requires names { H.names shelf.old ≡ fetch_names words.now }
     requires ready { K.ready out.old ≡ true }
     ensures { (exit : Exit) × (exit_status result ≡ exit_code exit) ×
@@ -49,24 +59,32 @@ fn run<H: Shelf, K: Sink>(alloc: Global, words: &[String], shelf: &mut H, out: &
         (output_at (K.written out.old) (K.faults out.old))
         (output_at (K.written out.new) (K.faults out.new)) exit }
 {
-    let exit = pvlong(alloc, words, shelf, out);
+    let exit = pvlong(alloc, words, shelf, out, deadline);
     ExitCode::from(exit.code())
 }
 
 // Runs the program over the machine's files and its output: what these hold isn't told, but what
 // their counts show is that of an answer.
-fn run_here<R: Files + AllocGlobal + Print>(rt: &R, words: &[String]) -> ExitCode
+fn run_here<R: Files + AllocGlobal + Print + Clock + Env>(
+    rt: &R,
+    words: &[String],
+    seconds: &Seconds<'_, R>,
+) -> ExitCode
     ensures { (exit : Exit) × (exit_status result ≡ exit_code exit)
         × AnswersHere (byte_lists words.now) exit }
 {
     let mut shelf = FolderShelf::new(rt, words);
     let mut out = WriteSink::new(io::writer(rt));
-    run(rt.alloc(), words, &mut shelf, &mut out)
+    run(rt.alloc(), words, &mut shelf, &mut out, seconds)
 }
 
 fn main(rt: HostRuntime) -> ExitCode {
     let Ok(words) = words_of(&rt, rt.alloc()) else {
         return ExitCode::from(NO_WORDS);
     };
-    run_here(&rt, &words)
+    match Seconds::from_now(&rt) {
+        Some(seconds) => run_here(&rt, &words, &seconds),
+        // No words are no request.
+        None => run_here(&rt, &[], &Seconds::without_end(&rt)),
+    }
 }

@@ -15,6 +15,7 @@ use crate::exits::Exit;
 use crate::requests::request_of;
 use crate::telling::Told;
 use pv_io::{Shelf, Sink};
+use pv_long::Deadline;
 use pv_opening::{Response, Status, Stop, respond};
 use std::alloc::Global;
 
@@ -39,12 +40,14 @@ fn end<K: Sink>(out: &mut K, answer: Result<Told, Stop>) -> Exit
 
 /// All that the program does: the words are those after its name.
 ///
-/// The shelf's names are the words but number 0 and number 2, counted from 0.
-pub fn pvlong<H: Shelf, K: Sink>(
+/// The shelf's names are the words but number 0 and number 2, counted from 0. The deadline is for
+/// the bounds of lists: the answer is right whenever it is past.
+pub fn pvlong<H: Shelf, K: Sink, D: Deadline>(
     alloc: Global,
     words: &[String],
     shelf: &mut H,
     out: &mut K,
+    deadline: &D,
 ) -> Exit
     requires names { H.names shelf.old ≡ fetch_names words.now }
     requires ready { K.ready out.old ≡ true }
@@ -62,7 +65,7 @@ pub fn pvlong<H: Shelf, K: Sink>(
     ensures files { (H.moment shelf.new).files ≡ (H.moment shelf.old).files }
 {
     match request_of(words) {
-        Some(request) => end(out, answer(alloc, shelf, &request)),
+        Some(request) => end(out, answer(alloc, shelf, &request, deadline)),
         None => end(out, usage(alloc)),
     }
 }

@@ -4,20 +4,61 @@ use crate::need::calls::grammar_of;
 use crate::need::completions::COMPLETED;
 use crate::need::needs::{NEEDS, REFUSED, document, need_of};
 use pv_long::laws::one_least_law;
-use pv_long::{Completion, LongError, Missing, missing};
+use pv_long::{Completion, Deadline, LongError, Missing, NoDeadline, missing};
 use pv_productive::Grammar;
 use pv_read::read_doc;
 use std::alloc::Global;
 use std::test::Fail;
 use test_fixture::dtds::ARTICLE;
 
-// What is told of a document.
-fn told_of(alloc: Global, dtd: &str, root: &str, text: &str) -> Result<Missing, Fail> {
+// What is told of a document until a deadline.
+fn told_until<D: Deadline>(
+    alloc: Global,
+    dtd: &str,
+    root: &str,
+    text: &str,
+    deadline: &D,
+) -> Result<Missing, Fail> {
     let grammar = grammar_of(alloc, dtd)?;
     let (root, bytes) = (root.as_bytes(), text.as_bytes());
     let doc = read_doc(alloc, bytes, root)?;
     one_least_law();
-    Ok(missing(alloc, &grammar, root, &doc, bytes)?)
+    Ok(missing(alloc, &grammar, root, &doc, bytes, deadline)?)
+}
+
+// What is told of a document without a deadline.
+fn told_of(alloc: Global, dtd: &str, root: &str, text: &str) -> Result<Missing, Fail> {
+    told_until(alloc, dtd, root, text, &NoDeadline)
+}
+
+// A deadline that is past.
+struct Past;
+
+impl Deadline for Past {
+    fn is_past(&self) -> bool {
+        true
+    }
+}
+
+// Whether so many elements may be missing by what is told.
+fn may_be(told: &Missing, number: u64) -> bool {
+    match told {
+        Missing::Exactly(completion) => u64::from(completion.count) == number,
+        Missing::Between(least, completion) => {
+            u64::from(*least) <= number && number <= u64::from(completion.count)
+        }
+    }
+}
+
+#[test]
+fn missing_at_once(rt: HostRuntime) -> Result<(), Fail> {
+    for (texts, _count) in &NEEDS {
+        let (dtd, root, text) = *texts;
+        let needed = need_of(rt.alloc(), *texts)?;
+        let told = told_until(rt.alloc(), dtd, root, text, &Past)?;
+        assert!(rt; may_be(&told, needed), "{text}");
+    }
+    Ok(())
 }
 
 // How many elements are missing, where the bounds meet.
@@ -79,7 +120,7 @@ fn wide_lists(rt: HostRuntime) -> Result<(), Fail> {
 fn is_impossible(alloc: Global, grammar: &Grammar, root: &str, text: &str) -> Result<bool, Fail> {
     let (root, bytes) = (root.as_bytes(), text.as_bytes());
     let doc = read_doc(alloc, bytes, root)?;
-    match missing(alloc, grammar, root, &doc, bytes) {
+    match missing(alloc, grammar, root, &doc, bytes, &NoDeadline) {
         Err(LongError::Impossible(path)) => Ok(path.places() == [0].as_slice()),
         Err(_) => Ok(false),
         Ok(_) => Ok(false),

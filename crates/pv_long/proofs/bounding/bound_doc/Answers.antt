@@ -8,13 +8,13 @@ use Rattle.pv_long.proofs.BoundSums.{both_bounded, none_bounded}
 use Rattle.pv_long.proofs.bounding.bound_doc.Goals as goal
 
 pub loop-lists-init : goal.loop-lists-init
-loop-lists-init c = (
+loop-lists-init g c = (
   c.none-bounds.ensures (dtd_of c.args.known.now.layout.now.grammar.now),
   λ last more. rw (c.none-found.ensures, c.of-lists.ensures.lists) at more,
 )
 
 pub loop-lists-preserved : goal.loop-lists-preserved
-loop-lists-preserved c = (
+loop-lists-preserved g c = (
   c.bound_list.ensures.known,
   λ last more.
       let d = dtd_of c.args.known.now.layout.now.grammar.now in
@@ -31,7 +31,7 @@ loop-lists-preserved c = (
 )
 
 pub returns : goal.returns
-returns c =
+returns g c =
     let d = dtd_of c.args.known.now.layout.now.grammar.now in
     let last = c.loop-lists.found.least in
     c.loop-lists.invariant.1 last

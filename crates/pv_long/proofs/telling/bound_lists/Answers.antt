@@ -6,7 +6,7 @@ use Rattle.pv_long.proofs.ExactAnswers.{are_missing}
 use Rattle.pv_long.proofs.telling.bound_lists.Goals as goal
 
 pub returns-clause-least : goal.returns-clause-least
-returns-clause-least c =
+returns-clause-least g c =
     are_missing (dtd_of c.args.grammar.now) c.args.root.now (plain_doc c.args.doc.now)
     c.bounds_add_up_law.ensures c.possible_missing_law.ensures c.in_ok-found.found.least
     c.in_ok-least.least
@@ -15,4 +15,4 @@ returns-clause-least c =
     c.requires.verdicts.are_verdicts c.in_ok-least.ensures
 
 pub returns-clause-lists : goal.returns-clause-lists
-returns-clause-lists c = omega (arith, c.in_ok-least.ensures)
+returns-clause-lists g c = omega (arith, c.in_ok-least.ensures)

@@ -9,7 +9,7 @@ use Rattle.pvlong.specs.ToldNumbers.{TellsFor, not_least_in, response_in}
 use Rattle.pvlong.proofs.answering.answer_opened.Goals as goal
 
 pub returns-in_err-dtd : goal.returns-in_err-dtd
-returns-in_err-dtd c =
+returns-in_err-dtd g c =
     let root = c.args.root.now in
     let stage = document_stage root (plain_dtd c.args.fetched.dtd) c.args.fetched.bytes.items in
     let p = err_from_is_err_and c.from_residual.result c.from_residual.ensures.1 in
@@ -17,7 +17,7 @@ returns-in_err-dtd c =
     (λ never. never) c.in_err-dtd.ensures.returns)
 
 pub returns : goal.returns
-returns c =
+returns g c =
     let root = c.args.root.now in
     let question = c.args.question in
     let stage = document_stage root (plain_dtd c.args.fetched.dtd) c.args.fetched.bytes.items in

@@ -8,7 +8,7 @@ use Rattle.pvlong.proofs.ToldLines.{number_for}
 use Rattle.pvlong.proofs.answering.tell.Goals as goal
 
 pub returns-in-Need : goal.returns-in-Need
-returns-in-Need c =
+returns-in-Need g c =
     let root = c.args.root.now in
     let doc = plain_doc c.args.doc.now in
     rw (c.in-Need.is, c.told_of.ensures.least, c.told_of.ensures.response)
@@ -17,7 +17,7 @@ returns-in-Need c =
     c.in_ok-grammar.ensures c.tell_number.ensures))
 
 pub returns : goal.returns
-returns c =
+returns g c =
     let root = c.args.root.now in
     let doc = plain_doc c.args.doc.now in
     let told = c.tell_document.result in

@@ -6,7 +6,7 @@ use Rattle.pvlong.specs.ToldNumbers.{TellsDocument, TellsNothing, has_no_documen
 use Rattle.pvlong.proofs.answering.tell_document.Goals as goal
 
 pub returns-in-Err : goal.returns-in-Err
-returns-in-Err c =
+returns-in-Err g c =
     let root = c.args.root.now in
     let d = dtd_of c.args.grammar.now in
     let doc = plain_doc c.args.doc.now in
@@ -15,6 +15,6 @@ returns-in-Err c =
     (λ r none. has_no_document none) (c.refuse_missing.ensures root d doc c.in-Err.ensures.refused)
 
 pub returns-in-Ok : goal.returns-in-Ok
-returns-in-Ok c =
+returns-in-Ok g c =
     c.document_of.ensures c.args.root.now c.args.bytes.now (dtd_of c.args.grammar.now)
     (plain_doc c.args.doc.now) c.in-Ok.ensures.told

@@ -5,7 +5,7 @@ use Rattle.pvlong.specs.ToldNumbers.{TellsNothing, TellsNumber, has_no_number}
 use Rattle.pvlong.proofs.answering.tell_number.Goals as goal
 
 pub returns-in-Err : goal.returns-in-Err
-returns-in-Err c =
+returns-in-Err g c =
     let root = c.args.root.now in
     let d = dtd_of c.args.grammar.now in
     let doc = plain_doc c.args.doc.now in
