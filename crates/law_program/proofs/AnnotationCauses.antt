@@ -15,11 +15,11 @@ use Rattle.pv_tree.specs.Plain.{PlainDoc}
 use Rattle.pv_tree.specs.declared.nodes.Mark.{Mark}
 use Rattle.law_program.specs.Causes.{ReadsAnnotation, ReadsNested, nested_depth, nested_impossible}
 use Rattle.law_program.specs.Causes.{nested_width, range_lines, ranges_file, text_file, RespondsBy}
-use Rattle.pv_commands.specs.Check.{TellsPossibility, is_no_more, is_possible}
 use Rattle.pv_cli.specs.CommandLine.{PlainCommandLine, on_ranges}
 use Rattle.pv_opening.specs.Course.{Course, responds}
 use Rattle.pv_opening.specs.Opening.{Files, file_at}
-use Rattle.pv_opening.specs.Possibility.{RefusesWidth, is_impossible, is_too_wide, width_stage}
+use Rattle.pv_opening.specs.Possibility.{RefusesWidth, TellsPossibility, is_impossible, is_no_more}
+use Rattle.pv_opening.specs.Possibility.{is_possible, is_too_wide, width_stage}
 use Rattle.pv_opening.specs.Response.{PlainResponse}
 use Rattle.pv_opening.specs.Stage.{Responds}
 use Rattle.pv_commands.specs.Standoff.{IsShownCourse, RefusesNesting, RefusesRanges, RefusesText}

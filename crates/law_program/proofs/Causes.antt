@@ -7,7 +7,6 @@ use Rattle.pv_drill.specs.Drill.{DRILL_DTD, drill_text}
 use Rattle.law_program.specs.Causes.{ReadsScript, HasCause, OneRoseAtMost, ReadsBoth, RespondsBy}
 use Rattle.law_program.specs.Causes.{of_input, of_shelf}
 use Rattle.pv_commands.specs.Certificates.{certificate_stage}
-use Rattle.pv_commands.specs.Check.{TellsPossibility}
 use Rattle.pv_commands.specs.Complete.{TellsPack}
 use Rattle.pv_cli.specs.CommandLine.{PlainCommandLine, drill, files_named, on_certificate}
 use Rattle.pv_cli.specs.CommandLine.{on_document, on_dtd, on_ranges}
@@ -24,7 +23,7 @@ use Rattle.pv_commands.specs.Dtd.{TellsDtd}
 use Rattle.law_program.specs.Laws.{ComesByCause, RaisesOneAtMost}
 use Rattle.pv_opening.specs.Opening.{Files, dtd_file_stage, file_at, opening_stage}
 use Rattle.pv_commands.specs.PackFiles.{pack_file_stage}
-use Rattle.pv_opening.specs.Possibility.{possibility_stage, width_stage}
+use Rattle.pv_opening.specs.Possibility.{TellsPossibility, possibility_stage, width_stage}
 use Rattle.pv_opening.specs.ShownCourses.{CountsInput, CountsShelf, WritesEnding, cut_off, wrote}
 use Rattle.pv_cli.specs.Program.{IsDefined}
 use Rattle.pv_opening.specs.Response.{PlainResponse}

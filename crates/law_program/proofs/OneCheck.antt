@@ -8,10 +8,10 @@ use Rattle.pv_tree.specs.declared.nodes.Mark.{Mark}
 use Rattle.pv_missing.proofs.Counts.{one_count_of_lists, same_counts}
 use Rattle.pv_missing.specs.Verdicts.{HavePossible, is_possible as is_possible_verdict}
 use Rattle.pv_read.specs.DocumentLaws.{SpellsOneDocument}
-use Rattle.pv_commands.specs.Check.{IsCheckCourse, TellsPossibility, is_no_more, is_possible}
-use Rattle.pv_commands.specs.Check.{possible_text}
+use Rattle.pv_commands.specs.Check.{IsCheckCourse}
 use Rattle.pv_opening.specs.Course.{Course}
 use Rattle.pv_opening.specs.Documents.{PlainOpened}
+use Rattle.pv_opening.specs.Possibility.{TellsPossibility, is_no_more, is_possible, possible_text}
 use Rattle.pv_opening.specs.Possibility.{width_stage}
 use Rattle.pv_opening.specs.Stage.{Behind, Responds}
 use Rattle.pv_opening.specs.Response.{PlainResponse, with_line}

@@ -24,7 +24,6 @@ use Rattle.law_program.specs.Causes.{in_dtd}
 use Rattle.law_program.specs.Causes.{in_document, document_bytes, list_width, not_possible}
 use Rattle.law_program.specs.Causes.{not_valid, script_line, whole_script, missing_elements}
 use Rattle.law_program.specs.Causes.{table_entries, weights_width}
-use Rattle.pv_commands.specs.Check.{TellsPossibility, is_no_more, is_possible}
 use Rattle.pv_commands.specs.Complete.{TellsPack, has_too_many, is_heavy, is_pack, is_wide}
 use Rattle.pv_cli.specs.CommandLine.{PlainCommandLine}
 use Rattle.law_program.specs.Tests.{Test, possibility, tests_width, validity, width}
@@ -32,7 +31,8 @@ use Rattle.pv_opening.specs.Course.{Course, RunEnding, responds}
 use Rattle.pv_opening.specs.Documents.{PlainOpened, RefusesDocument, no_document, too_many_bytes}
 use Rattle.pv_opening.specs.Opening.{Files, RefusesDtd, dtd_file_stage, file_at, no_dtd}
 use Rattle.pv_opening.specs.Opening.{opening_stage}
-use Rattle.pv_opening.specs.Possibility.{RefusesImpossible, RefusesWidth, is_impossible, is_too_wide}
+use Rattle.pv_opening.specs.Possibility.{RefusesImpossible, RefusesWidth, TellsPossibility}
+use Rattle.pv_opening.specs.Possibility.{is_impossible, is_no_more, is_possible, is_too_wide}
 use Rattle.pv_opening.specs.Possibility.{possibility_stage}
 use Rattle.pv_opening.specs.Response.{PlainResponse}
 use Rattle.pv_conversation.proofs.Likeness.{same_response}

@@ -17,11 +17,10 @@ use Rattle.pv_words.specs.Words.{counted_text}
 use Rattle.pv_write.specs.Text.{doc_text}
 use Rattle.pv_tree.specs.declared.nodes.Mark.{Mark}
 use Rattle.pv_opening.specs.declared.status.Status.TheVariants.{BadDocument, BadPack, Limit}
-use Rattle.pv_commands.specs.Check.{TellsPossibility}
 use Rattle.pv_opening.specs.Course.{Course}
 use Rattle.pv_opening.specs.JudgedCounts.{CountsJudged, CountsNoMore}
 use Rattle.pv_opening.specs.Opening.{Files, dtd_file_stage, file_at, file_stage}
-use Rattle.pv_opening.specs.Possibility.{width_stage}
+use Rattle.pv_opening.specs.Possibility.{TellsPossibility, width_stage}
 use Rattle.pv_opening.specs.Response.{PlainResponse, with_line}
 use Rattle.pv_words.specs.Numbers.{numbers_text}
 use Rattle.pv_opening.specs.Stage.{Behind, Responds, Stage, beside, followed_by, without_fetch}

@@ -4,16 +4,15 @@ ghost use Rattle.std.specs.Prelude.{◌≡◌, IfOk, List, length, ℕ};
 ghost use Rattle.pv_check.specs.Answers.{CountsTold, RefusesBytes, Tells};
 ghost use Rattle.pv_read.specs.Meaning.{DocumentMeans};
 ghost use Rattle.pv_tree.specs.Marks.{blank_mark};
-ghost use Rattle.pv_commands.specs.Check.{IsCheckCourse, TellsPossibility, possible_text};
+ghost use Rattle.pv_commands.specs.Check.{IsCheckCourse};
 ghost use Rattle.pv_commands.specs.Returns.{BehindDocument};
 ghost use Rattle.pv_dtd.specs.Plain.{PlainDtd};
 ghost use Rattle.pv_opening.specs.Documents.{PlainOpened};
 ghost use Rattle.pv_opening.specs.JudgedCounts.{CountsJudged, CountsNoMore, judging_stage};
 ghost use Rattle.pv_opening.specs.JudgedCounts.{lists_judged};
-ghost use Rattle.pv_opening.specs.Possibility.{AreVerdictsOf, width_stage};
-ghost use Rattle.pv_opening.specs.Response.{plain_response, with_line};
+ghost use Rattle.pv_opening.specs.Possibility.{AreVerdictsOf, TellsPossibility, width_stage};
+ghost use Rattle.pv_opening.specs.Response.{plain_response};
 ghost use Rattle.pv_opening.specs.Returns.{TakesCourse, ending_of, plain_fetched};
-ghost use Rattle.pv_opening.specs.declared.status.Status.TheVariants.{Done};
 ghost use Rattle.pv_productive.specs.PlainForms.{dtd_of};
 ghost use Rattle.pv_tree.specs.Lists.{lists_of};
 ghost use Rattle.pv_tree.specs.Plain.{PlainDoc};
@@ -23,7 +22,8 @@ ghost use Rattle.pv_tree.specs.declared.nodes.Mark.{Mark};
 use pv_check::{Planning, TextError, Told, check_text};
 use pv_missing::Verdicts;
 use pv_opening::{
-    Fetched, Response, Status, Stop, narrow_verdicts_by, refuse_document, refuse_path,
+    Fetched, Response, Status, Stop, narrow_verdicts_by, possible_line, refuse_document,
+    refuse_path,
 };
 use pv_productive::{Grammar, build};
 use pv_reach::{Judge, Plan};
@@ -44,17 +44,6 @@ pub enum Keeping {
     Kept,
 }
 
-// So many lists are Possible, and none is Impossible.
-fn possible(alloc: Global, left: u64) -> Result<Response, AllocError>
-    ensures { IfOk result (λ r. plain_response r ≡ with_line Done (possible_text left)) }
-{
-    if left == 0 {
-        Response::with_line(alloc, Status::Done, b"valid")
-    } else {
-        Response::with_number(alloc, Status::Done, b"possible ", left)
-    }
-}
-
 /// What `check` tells of a document by its verdicts.
 pub(crate) fn check_line(alloc: Global, verdicts: &Verdicts) -> Result<Response, AllocError>
     ensures { (root : List ℕ) (g : PlainDtd) (doc : PlainDoc Mark) →
@@ -65,7 +54,7 @@ pub(crate) fn check_line(alloc: Global, verdicts: &Verdicts) -> Result<Response,
         Some(path) => {
             Response::with_path(alloc, Status::Negative, b"impossible ", path.places())
         }
-        None => possible(alloc, verdicts.left()),
+        None => possible_line(alloc, verdicts.left()),
     }
 }
 
@@ -98,7 +87,7 @@ fn respond_told(alloc: Global, told: Told) -> Result<Response, Stop>
         CountsNoMore (ending_of result) before after }
 {
     match told {
-        Told::Possible(left) => Ok(possible(alloc, left)?),
+        Told::Possible(left) => Ok(possible_line(alloc, left)?),
         Told::Impossible(path) => {
             let places = path.places();
             Err(refuse_path(alloc, Status::Negative, b"impossible ", places))

@@ -1,7 +1,7 @@
 -- What is answered of the text of a valid document, whose lists can all have verdicts.
 use Rattle.std.proofs.Common.{◌≡◌, ◌∷◌, ◌++◌, ℕ, List, [], Result, codes, decimal, refl, sym, arith}
 use Rattle.std.specs.List.{AllByRecursion}
-use Rattle.pv_commands.specs.Check.{IsCheckCourse, TellsPossibility, is_possible, possible_text}
+use Rattle.pv_commands.specs.Check.{IsCheckCourse}
 use Rattle.pv_commands.specs.Returns.{BehindDocument}
 use Rattle.pv_complete.specs.NeededElements.{CanWeigh, Needs}
 use Rattle.pv_dtd.specs.Hedge.{IsValid}
@@ -15,7 +15,8 @@ use Rattle.pv_missing.proofs.DocLists.{live_locality}
 use Rattle.pv_missing.proofs.NoPossibleLists.{none_possible}
 use Rattle.pv_missing.proofs.OneList.{extends_refl}
 use Rattle.pv_opening.specs.Documents.{OpensDocument, PlainOpened, document_stage}
-use Rattle.pv_opening.specs.Possibility.{AreAllNarrow, width_stage}
+use Rattle.pv_opening.specs.Possibility.{AreAllNarrow, TellsPossibility, is_possible, possible_text}
+use Rattle.pv_opening.specs.Possibility.{width_stage}
 use Rattle.pv_opening.specs.Response.{with_line}
 use Rattle.pv_opening.specs.Returns.{TakesCourse, TellsBy}
 use Rattle.pv_opening.specs.Stage.{Responds}

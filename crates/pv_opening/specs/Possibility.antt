@@ -1,5 +1,5 @@
 -- Whether inserting elements can make a document valid: the width of its lists, and the verdict.
-use Rattle.std.specs.Prelude.{◌≡◌, ◌↔◌, ℕ, IsNone, List, ◌++◌, codes}
+use Rattle.std.specs.Prelude.{◌≡◌, ◌↔◌, ℕ, zero, suc, IsNone, List, ◌++◌, codes, decimal}
 use Rattle.std.specs.List.{AllByRecursion}
 use Rattle.pv_dtd.specs.Plain.{PlainDtd}
 use Rattle.pv_tree.specs.Lists.{lists_of}
@@ -7,10 +7,10 @@ use Rattle.pv_tree.specs.Plain.{PlainDoc}
 use Rattle.pv_tree.specs.View.{view}
 use Rattle.pv_tree.specs.declared.nodes.Mark.{Mark}
 use Rattle.pv_missing.specs.Completions.{IsPotentiallyValid}
-use Rattle.pv_missing.specs.Verdicts.{HaveVerdicts, IsFirstImpossible, PlainVerdicts}
+use Rattle.pv_missing.specs.Verdicts.{HavePossible, HaveVerdicts, IsFirstImpossible, PlainVerdicts}
 use Rattle.pv_missing.specs.Widths.{IsFirstTooWide, IsListForVerdict}
 use Rattle.pv_words.specs.Paths.{path_text}
-use Rattle.pv_opening.specs.declared.status.Status.TheVariants.{Limit, Negative}
+use Rattle.pv_opening.specs.declared.status.Status.TheVariants.{Done, Limit, Negative}
 use Rattle.pv_opening.specs.Response.{PlainResponse, with_line}
 use Rattle.pv_opening.specs.Stage.{Stage, followed_by, test_stage}
 
@@ -51,3 +51,17 @@ verdict_stage root g doc =
 -- both tests, in the order of work
 abbrev pub possibility_stage : List ℕ → PlainDtd → PlainDoc Mark → Stage (Unit {0})
 possibility_stage root g doc = followed_by (width_stage g doc) (λ _. verdict_stage root g doc)
+
+-- so many lists are Possible, and none is Impossible
+abbrev pub possible_text : ℕ → List ℕ
+possible_text zero = codes "valid"
+possible_text (suc n) = codes "possible " ++ decimal (suc n)
+
+-- Inserting elements can make the document valid, and so many of its lists are Possible. Or it
+-- can't, and this is the path of the first impossible list.
+pub data TellsPossibility (root : List ℕ) (g : PlainDtd) (doc : PlainDoc Mark) (r : PlainResponse)
+    : Type 0 where
+  is_possible : (n : ℕ) → IsPotentiallyValid g root (view doc.root) →
+      HavePossible g root (lists_of doc) n →
+      r ≡ with_line Done (possible_text n) → TellsPossibility root g doc r
+  is_no_more : RefusesImpossible root g doc r → TellsPossibility root g doc r

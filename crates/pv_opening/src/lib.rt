@@ -17,7 +17,7 @@ pub use opening::{
     Fetched, Named, Opened, dtd_of, fetch, fetch_files, open_document, open_dtd, open_files,
     refuse, refuse_document, refuse_item, refuse_numbers, refuse_path,
 };
-pub use possibility::{narrow_verdicts, narrow_verdicts_by};
+pub use possibility::{narrow_verdicts, narrow_verdicts_by, possible_line};
 pub use response::Response;
 pub use status::Status;
 pub use stop::Stop;

@@ -1,8 +1,10 @@
 //! The verdicts of a document's lists, as `check` and the opening of a session ask for them.
 
 ghost use Rattle.std.specs.Prelude.{◌≡◌, ◌+◌, IfErr, IfOk, OnErr, OnOk, length};
-ghost use Rattle.pv_opening.specs.Possibility.{AreVerdictsOf, width_stage};
+ghost use Rattle.pv_opening.specs.Possibility.{AreVerdictsOf, possible_text, width_stage};
+ghost use Rattle.pv_opening.specs.Response.{plain_response, with_line};
 ghost use Rattle.pv_opening.specs.Returns.{StopsBy};
+ghost use Rattle.pv_opening.specs.declared.status.Status.TheVariants.{Done};
 ghost use Rattle.pv_dtd.specs.Plain.{PlainDtd};
 ghost use Rattle.pv_fresh.specs.Answers.{HasCause};
 ghost use Rattle.pv_productive.specs.PlainForms.{dtd_of};
@@ -12,6 +14,7 @@ ghost use Rattle.pv_tree.specs.PlainDocs.{plain_doc};
 ghost use Rattle.pv_tree.specs.declared.nodes.Mark.{Mark};
 
 use crate::opening::refuse_path;
+use crate::response::Response;
 use crate::status::Status;
 use crate::stop::Stop;
 use pv_fresh::FreshError;
@@ -21,7 +24,7 @@ use pv_productive::Grammar;
 use pv_reach::Judge;
 use pv_steps::Steps;
 use pv_tree::Doc;
-use std::alloc::Global;
+use std::alloc::{AllocError, Global};
 use std::sync::ledger::Ledger;
 use std::thread::Threads;
 
@@ -78,5 +81,17 @@ pub fn narrow_verdicts_by<L: Ledger>(
     match check_doc_par_by(rt, judge, root, doc, &NoGate, steps) {
         Ok(verdicts) => Ok(verdicts),
         Err(error) => Err(refuse_wide(judge.alloc(), error)),
+    }
+}
+
+/// The response where so many lists are Possible, and none is Impossible: inserting elements can
+/// make the document valid, or it is.
+pub fn possible_line(alloc: Global, left: u64) -> Result<Response, AllocError>
+    ensures { IfOk result (λ r. plain_response r ≡ with_line Done (possible_text left)) }
+{
+    if left == 0 {
+        Response::with_line(alloc, Status::Done, b"valid")
+    } else {
+        Response::with_number(alloc, Status::Done, b"possible ", left)
     }
 }

@@ -13,7 +13,6 @@ use Rattle.pv_tree.specs.declared.nodes.Mark.{Mark}
 use Rattle.pv_opening.specs.Returns.{TellsBy}
 use Rattle.pv_opening.specs.declared.stop.Stop.{Stop}
 use Rattle.pv_opening.proofs.Stages.{stops_as}
-use Rattle.pvlong.specs.Possibility.{TellsChecked}
 use Rattle.pvlong.specs.ToldNumbers.{TellsDocument, TellsFor, TellsNumber, bounds_text, is_between}
 use Rattle.pvlong.specs.ToldNumbers.{is_least, is_of_least, is_of_more}
 use Rattle.pvlong.specs.declared.requests.Question.TheVariants.{Check, Need}
@@ -40,11 +39,11 @@ module _ (root bytes : List ℕ) (g : PlainDtd) (doc : PlainDoc Mark) where
   between_line least c (Err e) told is = tt
 
   -- a verdict or a number is told, and no document
-  pub checked_for : (result : Result Response Stop) → TellsBy (TellsChecked root g doc) result →
+  pub checked_for : (result : Result Response Stop) → TellsBy (TellsPossibility root g doc) result →
       TellsBy (TellsFor Check root g doc bytes false) result
   checked_for (Ok r) tells = (tells, refl)
   checked_for (Err stop) tells =
-      stops_as (TellsChecked root g doc) (TellsFor Check root g doc bytes false) stop
+      stops_as (TellsPossibility root g doc) (TellsFor Check root g doc bytes false) stop
       (λ r told. (told, refl)) tells
 
   pub number_for : (result : Result Response Stop) → TellsBy (TellsNumber root g doc) result →

@@ -1,5 +1,4 @@
 pub mod RequestAnswers
 pub mod Exits
 pub mod Requests
-pub mod Possibility
 pub mod ToldNumbers

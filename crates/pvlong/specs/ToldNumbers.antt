@@ -5,19 +5,20 @@ use Rattle.pv_dtd.specs.Plain.{PlainDtd}
 use Rattle.pv_tree.specs.Lists.{lists_of}
 use Rattle.pv_tree.specs.Plain.{PlainDoc}
 use Rattle.pv_tree.specs.View.{view}
+use Rattle.pv_tree.specs.declared.nodes.Mark.{Mark}
 use Rattle.pv_missing.specs.Completions.{HasCompletion, IsLeast}
 use Rattle.pv_missing.specs.Widths.{IsFirstTooWide}
 use Rattle.pv_fresh.specs.Answers.{IsImpossibleAt}
 use Rattle.pv_long.specs.BoundAnswers.{AreMissing, CountsPossible, IsCompletionText, KeepsValid}
 use Rattle.pv_long.specs.BoundAnswers.{IsTooHeavy, MayBeCompleted}
 use Rattle.pv_words.specs.Paths.{path_text}
+use Rattle.pv_opening.specs.Possibility.{TellsPossibility}
 use Rattle.pv_opening.specs.declared.status.Status.TheVariants.{Done, Limit, Negative}
 use Rattle.pv_opening.specs.Response.{PlainResponse, with_line}
 use Rattle.pv_opening.specs.declared.response.Response.{Response}
 use Rattle.pv_opening.specs.declared.stop.Stop.{Stop}
 use Rattle.pvlong.specs.declared.requests.Question.{Question}
 use Rattle.pvlong.specs.declared.requests.Question.TheVariants.{Check, Complete, Need}
-use Rattle.pvlong.specs.Possibility.{TellsChecked}
 use Rattle.pvlong.specs.declared.telling.Told.{Told}
 
 -- Nothing is told: the path is that of the first list that is too wide for a verdict; or none is,
@@ -72,9 +73,9 @@ pub data TellsDocument {M : Type 0} (root : List ℕ) (g : PlainDtd) (doc : Plai
 
 -- What a question about a document, which these bytes are, is answered; and whether a document is
 -- told that may not be least.
-abbrev pub TellsFor : {M : Type 0} → Question → List ℕ → PlainDtd → PlainDoc M → List ℕ → Bool →
+abbrev pub TellsFor : Question → List ℕ → PlainDtd → PlainDoc Mark → List ℕ → Bool →
     PlainResponse → Type 0
-TellsFor Check root g doc bytes not_least r = TellsChecked root g doc r × (not_least ≡ false)
+TellsFor Check root g doc bytes not_least r = TellsPossibility root g doc r × (not_least ≡ false)
 TellsFor Need root g doc bytes not_least r = TellsNumber root g doc r × (not_least ≡ false)
 TellsFor Complete root g doc bytes not_least r = TellsDocument root g doc bytes not_least r
 

@@ -1,41 +1,28 @@
 //! Whether inserting elements can make a document valid, however wide its lists are.
 
-ghost use Rattle.std.specs.Prelude.{◌≡◌, IfOk, List, false, ℕ};
+ghost use Rattle.std.specs.Prelude.{List, false, ℕ};
 ghost use Rattle.pv_check.specs.Answers.{TellsAtAnyWidth};
 ghost use Rattle.pv_dtd.specs.Plain.{PlainDtd};
-ghost use Rattle.pv_opening.specs.Response.{plain_response, with_line};
+ghost use Rattle.pv_opening.specs.Possibility.{TellsPossibility};
 ghost use Rattle.pv_opening.specs.Returns.{TakesCourse, TellsBy, plain_fetched};
-ghost use Rattle.pv_opening.specs.declared.status.Status.TheVariants.{Done};
 ghost use Rattle.pv_productive.specs.PlainForms.{dtd_of};
 ghost use Rattle.pv_tree.specs.Plain.{PlainDoc};
 ghost use Rattle.pv_tree.specs.declared.nodes.Mark.{Mark};
-ghost use Rattle.pvlong.specs.Possibility.{TellsChecked, checked_text};
 ghost use Rattle.pvlong.specs.RequestAnswers.{AnswersFetched};
 ghost use Rattle.pvlong.specs.declared.requests.Question.TheVariants.{Check};
 
 use pv_check::{Told, check_any_text};
-use pv_opening::{Fetched, Response, Status, Stop, refuse_document, refuse_path};
+use pv_opening::{Fetched, Response, Status, Stop, possible_line, refuse_document, refuse_path};
 use pv_productive::{Grammar, build};
 use pv_reach::{Judge, Plan};
-use std::alloc::{AllocError, Global};
-
-// So many lists aren't valid yet, and inserting elements can make all of them valid.
-fn possible_line(alloc: Global, left: u64) -> Result<Response, AllocError>
-    ensures { IfOk result (λ r. plain_response r ≡ with_line Done (checked_text left)) }
-{
-    if left == 0 {
-        Response::with_line(alloc, Status::Done, b"valid")
-    } else {
-        Response::with_number(alloc, Status::Done, b"possible ", left)
-    }
-}
+use std::alloc::Global;
 
 // What is told of the lists of a document.
 fn respond_told(alloc: Global, told: Told) -> Result<Response, Stop>
     requires { (root : List ℕ) × (g : PlainDtd) × (doc : PlainDoc Mark) ×
         TellsAtAnyWidth g root doc told }
     ensures { (root : List ℕ) (g : PlainDtd) (doc : PlainDoc Mark) →
-        TellsAtAnyWidth g root doc told → TellsBy (TellsChecked root g doc) result }
+        TellsAtAnyWidth g root doc told → TellsBy (TellsPossibility root g doc) result }
 {
     match told {
         Told::Possible(left) => Ok(possible_line(alloc, left)?),

@@ -7,8 +7,8 @@ use Rattle.pv_words.specs.Paths.{path_text}
 use Rattle.pv_tree.specs.Lists.{lists_of}
 use Rattle.pv_tree.specs.Plain.{PlainDoc}
 use Rattle.pv_tree.specs.declared.nodes.Mark.{Mark}
-use Rattle.pv_commands.specs.Check.{TellsPossibility, is_no_more, is_possible, possible_text}
-use Rattle.pv_opening.specs.Possibility.{AreVerdictsOf, is_impossible}
+use Rattle.pv_opening.specs.Possibility.{AreVerdictsOf, TellsPossibility, is_impossible, is_no_more}
+use Rattle.pv_opening.specs.Possibility.{is_possible, possible_text}
 use Rattle.pv_opening.specs.Response.{PlainResponse, plain_response, with_line}
 use Rattle.pv_opening.specs.declared.response.Response.{Response}
 use Rattle.pv_opening.specs.declared.status.Status.TheVariants.{Done, Negative}
@@ -32,15 +32,15 @@ module _ (root : List ℕ) (g : PlainDtd) (doc : PlainDoc Mark) (vs : PlainVerdi
   impossible_line path (Ok r) is told = impossible_told path (plain_response r) is told
   impossible_line path (Err e) is told = tt
 
-  possible_line : {E : Type 0} (left : ℕ) (result : Result Response E) → vs.first ≡ None →
+  line_told : {E : Type 0} (left : ℕ) (result : Result Response E) → vs.first ≡ None →
       left ≡ possible_in vs.verdicts →
       IfOk result (λ r. plain_response r ≡ with_line Done (possible_text left)) →
       IfOk result (λ r. TellsPossibility root g doc (plain_response r))
-  possible_line left (Ok r) is counts told =
+  line_told left (Ok r) is counts told =
       is_possible left (has.possible.0 (rw is refl))
       (record { verdicts = vs.verdicts; are_verdicts = has.verdicts.are_verdicts; count = counts })
       told
-  possible_line left (Err e) is counts told = tt
+  line_told left (Err e) is counts told = tt
 
 pub returns-in-Some : goal.returns-in-Some
 returns-in-Some c = λ root g doc has.
@@ -54,5 +54,5 @@ pub returns-in-None : goal.returns-in-None
 returns-in-None c = λ root g doc has.
     let none : c.args.verdicts.now.first ≡ None =
     sym c.first_impossible.ensures ∙ ap option_copied c.in-None.is in
-    possible_line root g doc c.args.verdicts.now has c.left.result c.possible.result none
-    c.left.ensures c.possible.ensures
+    line_told root g doc c.args.verdicts.now has c.left.result c.possible_line.result none
+    c.left.ensures c.possible_line.ensures

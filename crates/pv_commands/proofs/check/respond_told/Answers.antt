@@ -1,9 +1,10 @@
 use Rattle.std.proofs.Common.{◌≡◌, ◌++◌, codes, refl, Result, Err, Ok}
 use Rattle.std.proofs.lemmas.Result.{err_from_is_err_and}
 use Rattle.pv_words.specs.Paths.{path_text}
-use Rattle.pv_commands.specs.Check.{TellsPossibility, is_no_more, is_possible}
 use Rattle.pv_opening.specs.JudgedCounts.{judges_all, judges_none}
-use Rattle.pv_opening.specs.Possibility.{AreAllNarrow, RefusesWidth, is_impossible, is_too_wide, width_stage}
+use Rattle.pv_opening.specs.Possibility.{AreAllNarrow, RefusesWidth, TellsPossibility}
+use Rattle.pv_opening.specs.Possibility.{is_impossible, is_no_more, is_possible, is_too_wide}
+use Rattle.pv_opening.specs.Possibility.{width_stage}
 use Rattle.pv_opening.specs.Response.{plain_response, with_line}
 use Rattle.pv_opening.specs.Returns.{RefusesWith}
 use Rattle.pv_opening.specs.Stage.{Responds, short_of_memory}
@@ -14,21 +15,21 @@ use Rattle.pv_opening.proofs.JudgedLists.{stops_within}
 use Rattle.pv_opening.proofs.Stages.{found_behind, refusal_stops, stop_found, stops_as, tells_found}
 use Rattle.pv_commands.proofs.check.respond_told.Goals as goal
 
-pub returns-in_ok-possible-in-Possible-clause-tells :
-    goal.returns-in_ok-possible-in-Possible-clause-tells
-returns-in_ok-possible-in-Possible-clause-tells c = λ root opened tells.
+pub returns-in_ok-possible_line-in-Possible-clause-tells :
+    goal.returns-in_ok-possible_line-in-Possible-clause-tells
+returns-in_ok-possible_line-in-Possible-clause-tells c = λ root opened tells.
     let h = rw c.in-Possible.is at tells in
     let d = opened.dtd in
     let doc = opened.doc in
-    let result : Result Response Stop = Ok c.in_ok-possible-in-Possible.field-0 in
-    let told : TellsPossibility root d doc (plain_response c.in_ok-possible-in-Possible.field-0) =
-    is_possible c.in-Possible.left h.possible h.count c.in_ok-possible-in-Possible.ensures in
+    let result : Result Response Stop = Ok c.in_ok-possible_line-in-Possible.field-0 in
+    let told : TellsPossibility root d doc (plain_response c.in_ok-possible_line-in-Possible.field-0) =
+    is_possible c.in-Possible.left h.possible h.count c.in_ok-possible_line-in-Possible.ensures in
     found_behind (width_stage d doc) (λ _. Responds (TellsPossibility root d doc)) tt result
     (h.narrow, refl) (tells_found (TellsPossibility root d doc) result told)
 
-pub returns-in_err-possible-in-Possible-clause-tells :
-    goal.returns-in_err-possible-in-Possible-clause-tells
-returns-in_err-possible-in-Possible-clause-tells c = λ root opened tells.
+pub returns-in_err-possible_line-in-Possible-clause-tells :
+    goal.returns-in_err-possible_line-in-Possible-clause-tells
+returns-in_err-possible_line-in-Possible-clause-tells c = λ root opened tells.
     let p = err_from_is_err_and c.from_residual.result c.from_residual.ensures.1 in
     rw (p.1, p.2) (short_of_memory 0 refl refl)
 
@@ -62,15 +63,15 @@ returns-in-TooWide-clause-tells c = λ root opened tells.
     (λ never. never)
     (refusal_stops {X = Unit {0}} (λ _. AreAllNarrow d doc) (RefusesWidth d doc) stop refused)
 
-pub returns-in_ok-possible-in-Possible-clause-counts :
-    goal.returns-in_ok-possible-in-Possible-clause-counts
-returns-in_ok-possible-in-Possible-clause-counts c =
+pub returns-in_ok-possible_line-in-Possible-clause-counts :
+    goal.returns-in_ok-possible_line-in-Possible-clause-counts
+returns-in_ok-possible_line-in-Possible-clause-counts c =
     λ root opened before after tells counts. judges_all tt 0
     ((rw c.in-Possible.is at tells).narrow, refl) (rw c.in-Possible.is at counts)
 
-pub returns-in_err-possible-in-Possible-clause-counts :
-    goal.returns-in_err-possible-in-Possible-clause-counts
-returns-in_err-possible-in-Possible-clause-counts c =
+pub returns-in_err-possible_line-in-Possible-clause-counts :
+    goal.returns-in_err-possible_line-in-Possible-clause-counts
+returns-in_err-possible_line-in-Possible-clause-counts c =
     λ root opened before after tells counts. judges_all tt 0
     ((rw c.in-Possible.is at tells).narrow, refl) (rw c.in-Possible.is at counts)
 

@@ -5,9 +5,8 @@ use Rattle.pv_productive.specs.PlainForms.{dtd_of}
 use Rattle.pv_tree.specs.Plain.{PlainDoc}
 use Rattle.pv_tree.specs.PlainDocs.{plain_doc}
 use Rattle.pv_tree.specs.declared.nodes.Mark.{Mark}
-use Rattle.pv_commands.specs.Check.{TellsPossibility}
 use Rattle.pv_opening.specs.JudgedCounts.{judges_all, judges_none}
-use Rattle.pv_opening.specs.Possibility.{width_stage}
+use Rattle.pv_opening.specs.Possibility.{TellsPossibility, width_stage}
 use Rattle.pv_opening.specs.Returns.{TakesCourse}
 use Rattle.pv_opening.specs.Stage.{Behind, Responds, short_of_memory}
 use Rattle.pv_opening.specs.declared.response.Response.{Response}

@@ -1,10 +1,10 @@
 use Rattle.std.proofs.Common.{◌≡◌, ◌++◌, codes}
 use Rattle.pv_words.specs.Paths.{path_text}
+use Rattle.pv_opening.specs.Possibility.{TellsPossibility, is_impossible, is_no_more, is_possible}
 use Rattle.pv_opening.specs.Response.{with_line}
 use Rattle.pv_opening.specs.Returns.{RefusesWith}
 use Rattle.pv_opening.specs.declared.status.Status.TheVariants.{Negative}
 use Rattle.pv_opening.proofs.Stages.{stops_as}
-use Rattle.pvlong.specs.Possibility.{TellsChecked, is_impossible, is_possible}
 use Rattle.pvlong.proofs.possibility.respond_told.Goals as goal
 
 pub returns-in_ok-possible_line-in-Possible : goal.returns-in_ok-possible_line-in-Possible
@@ -20,5 +20,5 @@ returns-in-Impossible c = λ root g doc tells.
     c.refuse_path.result =
     rw c.places-places.ensures at c.refuse_path.ensures in
     stops_as (λ r. r ≡ with_line Negative (codes "impossible " ++ path_text path))
-    (TellsChecked root g doc)
-    c.refuse_path.result (λ r is. is_impossible path h.impossible h.first is) told
+    (TellsPossibility root g doc)
+    c.refuse_path.result (λ r is. is_no_more (is_impossible path h.impossible h.first is)) told
