@@ -194,6 +194,17 @@ def under_a_large_model(size: int) -> Doc:
     return lists("<b/>", f"<!ELEMENT a (b, c, {', '.join(['b?'] * 16_000)})><!ELEMENT b EMPTY><!ELEMENT c EMPTY>")(size)
 
 
+def under_many_optional(size: int) -> Doc:
+    """Lists of one kid under one optional name 32,701 times: the kid may stand at each place."""
+    return lists("<b/>", f"<!ELEMENT a ({', '.join(['b?'] * 32_701)})><!ELEMENT b EMPTY>")(size)
+
+
+def in_a_ring(size: int) -> Doc:
+    """Names each of which may hold the next, in a circle, and a list of each that is possible by it."""
+    declared = "".join(f"<!ELEMENT n{at} (n{(at + 1) % size}?, c?)>" for at in range(size))
+    return Doc(f"<!ELEMENT a ANY><!ELEMENT c EMPTY>{declared}", "a", "<a>" + "".join(f"<n{at}><c/><c/></n{at}>" for at in range(size)) + "</a>")
+
+
 def any_of_many(kids: int) -> Callable[[int], Doc]:
     """Names with content ANY, and a list that lacks one."""
     return lambda size: Doc("<!ELEMENT a (b, c)>" + "".join(f"<!ELEMENT n{at} ANY>" for at in range(size)) + "<!ELEMENT b ANY><!ELEMENT c EMPTY>", "a",
@@ -219,6 +230,8 @@ def of_models() -> Iterator[Shape]:
     yield from on("dtd check", "names in a circle", 400, "names", round_and_round)
     yield from on("check session:need", "a list of each of many names", 400, "names and lists", own_names)
     yield from on("valid check", "short lists under a model of 32,001 parts", 10, "lists", under_a_large_model)
+    yield from on("check", "lists of one kid under 32,701 optional parts", 1_000, "lists", under_many_optional)
+    yield from on("check", "a possible list of each name of a ring", 100, "names and lists", in_a_ring)
     yield from on("session:need", "30 kids under names with content ANY", 20, "names", any_of_many(30))
     yield from on("dtd session:need", "names each of which needs two of the next", 400, "names", doubling)
 

@@ -58,6 +58,7 @@ KNOWN: dict[str, Bound] = {
     "`check`, a name, and many of two after it": Bound(PLACES, 2.2),
     "`offer`, names with six optional others": Bound("each name's edit is judged from nothing", 1.6),
     "a session's `need`, a list of each of many names": Bound("columns are told apart for each owner, names times lists", 2.2),
+    "`check`, a possible list of each name of a ring": Bound("each list's table goes over the rules of all names that its owner leads to", 2.2),
     "a session, insertions at a list's end": Bound(LIST, 2.2),
     "a session, cuts of a text from its front": Bound(LIST, 2.2),
     "an opening, towers of 511 elements": Bound(CACHE, 1.4),

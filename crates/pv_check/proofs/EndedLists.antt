@@ -35,7 +35,7 @@ module _ (s : Widths) (g : PlainDtd) (root : List ℕ) (xs ys : List (Listed Mar
 
   module _ (old new : Findings) (f : HasFound s g root (xs ++ ys) old) (behind : noted.any ≡ true)
       (first_is : new.first ≡ old.first) (possible_is : new.possible ≡ old.possible)
-      (count_is : new.lists ≡ old.lists + 1) (plan_is : new.plan ≡ old.plan) where
+      (count_is : new.lists ≡ old.lists + 1) (kept_is : new.kept ≡ old.kept) where
     some : TellsWhether (IsNarrowAndLive s g root) xs true
     some = subst (TellsWhether (IsNarrowAndLive s g root) xs) behind n.any
 
@@ -44,14 +44,14 @@ module _ (s : Widths) (g : PlainDtd) (root : List ℕ) (xs ys : List (Listed Mar
         let before = subst (TellsWhether (IsListWithin s g) xs) wide n.wide in
         kept_behind s g root xs ys x old new f some
         (rw wide_is (wide_behind s g root xs ys x old new f before)) first_is possible_is count_is
-        plan_is
+        kept_is
 
     pub narrow_behind : IsListWithin s g x → new.wide ≡ old.wide →
         HasFound s g root (xs ++ x ∷ ys) new
     narrow_behind narrow wide_is =
         kept_behind s g root xs ys x old new f some
         (rw wide_is (wide_narrow s g root xs ys x old new f noted.wide n.wide narrow)) first_is
-        possible_is count_is plan_is
+        possible_is count_is kept_is
 
     pub found_behind : (path : List ℕ) → noted.wide ≡ false → (IsListWithin s g x → ⊥) →
         new.wide ≡ Some path → path ≡ x.path → HasFound s g root (xs ++ x ∷ ys) new
@@ -59,4 +59,4 @@ module _ (s : Widths) (g : PlainDtd) (root : List ℕ) (xs ys : List (Listed Mar
         let before = subst (TellsWhether (IsListWithin s g) xs) none n.wide in
         kept_behind s g root xs ys x old new f some
         (wide_found s g root xs ys x old new f before wide
-        (wide_is ∙ ap (λ (p : List ℕ). Some p) path_is)) first_is possible_is count_is plan_is
+        (wide_is ∙ ap (λ (p : List ℕ). Some p) path_is)) first_is possible_is count_is kept_is

@@ -42,8 +42,8 @@ module _ (s : Widths) (g : PlainDtd) (root : List ℕ) (xs ys : List (Listed Mar
   pub kept_behind : TellsWhether (IsNarrowAndLive s g root) xs true →
       TellsFirst (IsListWithin s g) (xs ++ x ∷ ys) new.wide
       → new.first ≡ old.first → new.possible ≡ old.possible → new.lists ≡ old.lists + 1
-      → new.plan ≡ old.plan → HasFound s g root (xs ++ x ∷ ys) new
-  kept_behind behind wide first_is possible_is count_is plan_is =
+      → new.kept ≡ old.kept → HasFound s g root (xs ++ x ∷ ys) new
+  kept_behind behind wide first_is possible_is count_is kept_is =
       let never : new.first ≡ None → ⊥ = λ none. not_none (IsNarrowAndLive s g root) xs ys behind.0
       old.first behind.1 f.first (sym first_is ∙ none) in
       record {
@@ -54,7 +54,7 @@ module _ (s : Widths) (g : PlainDtd) (root : List ℕ) (xs ys : List (Listed Mar
         possible = λ none. absurd (never none);
         few_possible = omega (arith, f.few_possible, possible_is, count_is);
         count = omega (arith, f.count, many, count_is);
-        plan = rw plan_is f.plan;
+        kept = rw kept_is f.kept;
       }
 
   -- the width of a list that isn't judged
@@ -74,20 +74,20 @@ module _ (s : Widths) (g : PlainDtd) (root : List ℕ) (xs ys : List (Listed Mar
   -- no list before it is too wide or impossible
   module _ (all : AllByRecursion (IsNarrowAndLive s g root) xs) where
     pub put_wide : (IsListWithin s g x → ⊥) → new.wide ≡ Some x.path → new.first ≡ Some x.path →
-        new.possible ≡ old.possible → new.lists ≡ old.lists + 1 → new.plan ≡ old.plan →
+        new.possible ≡ old.possible → new.lists ≡ old.lists + 1 → new.kept ≡ old.kept →
         HasFound s g root (xs ++ x ∷ ys) new
-    put_wide wide wide_is first_is possible_is count_is plan_is = record {
+    put_wide wide wide_is first_is possible_is count_is kept_is = record {
       first_wide =
           rw wide_is (put_not (IsListWithin s g) xs ys x (narrow_all s g root xs all) wide);
       first = rw first_is (put_not (IsNarrowAndLive s g root) xs ys x all (λ so. wide so.0));
       possible = λ none. absurd (some_is_none x.path new.first first_is none);
       few_possible = omega (arith, f.few_possible, possible_is, count_is);
       count = omega (arith, f.count, many, count_is);
-      plan = rw plan_is f.plan;
+      kept = rw kept_is f.kept;
     }
 
     module _ (narrow : IsListWithin s g x) (wide_is : new.wide ≡ old.wide)
-        (count_is : new.lists ≡ old.lists + 1) (plan_is : new.plan ≡ old.plan) where
+        (count_is : new.lists ≡ old.lists + 1) (kept_is : new.kept ≡ old.kept) where
       same_wide : TellsFirst (IsListWithin s g) (xs ++ x ∷ ys) new.wide
       same_wide =
           rw wide_is (put_so (IsListWithin s g) xs ys x old.wide (narrow_all s g root xs all) narrow
@@ -101,7 +101,7 @@ module _ (s : Widths) (g : PlainDtd) (root : List ℕ) (xs ys : List (Listed Mar
         possible = λ none. absurd (some_is_none x.path new.first first_is none);
         few_possible = omega (arith, f.few_possible, possible_is, count_is);
         count = omega (arith, f.count, many, count_is);
-        plan = rw plan_is f.plan;
+        kept = rw kept_is f.kept;
       }
 
       pub put_live : (v : Verdict) → IsVerdict g root x v → IsLive g root x →
@@ -115,5 +115,5 @@ module _ (s : Widths) (g : PlainDtd) (root : List ℕ) (xs ys : List (Listed Mar
         possible = λ none. possible_more g root x v is xs ys old.possible new.possible (f.possible (sym first_is ∙ none)) possible_is;
         few_possible = let few = one_if_few (is_possible v) in omega (arith, f.few_possible, possible_is, count_is, few);
         count = omega (arith, f.count, many, count_is);
-        plan = rw plan_is f.plan;
+        kept = rw kept_is f.kept;
       }

@@ -5,3 +5,4 @@ pub mod ListsByWords
 pub mod EndedLists
 pub mod Refusals
 pub mod WholeRoots
+pub mod KnownWords

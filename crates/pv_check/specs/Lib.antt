@@ -1,3 +1,4 @@
 pub mod ListJudgements
+pub mod KnownVerdicts
 pub mod Findings
 pub mod Answers

@@ -61,7 +61,7 @@ fn judge_root(
 {
     let owner = root_owner(judge.grammar().dtd(), root);
     let word = [lists.inner.token];
-    let judged = judge_word_planned(widths, judge, &lists.found.plan, owner, &word, false)?;
+    let judged = judge_word_planned(widths, judge, &lists.found.kept.plan, owner, &word, false)?;
     let mut found = lists.found;
     found.add(judge.alloc(), judged, &[])?;
     Ok(found)
@@ -110,10 +110,10 @@ fn tell(found: Findings) -> Told
         wide,
         first,
         possible,
-        plan,
+        kept,
         ..
     } = found;
-    drop(plan);
+    drop(kept);
     match wide {
         Some(path) => Told::TooWide(path),
         None => match first {

@@ -11,9 +11,9 @@ ghost use Rattle.pv_check.specs.ListJudgements.{IsNarrowAndLive, IsPlaced, Judge
 ghost use Rattle.pv_check.specs.declared.widths.Widths.{Widths as HowWide};
 
 use crate::errors::ListError;
+use crate::kept::Kept;
 use crate::widths::Widths;
 use pv_chars::NoMemory;
-use pv_reach::Plan;
 use pv_tree::{Path, Verdict};
 use std::alloc::Global;
 
@@ -45,13 +45,13 @@ pub struct Findings {
     pub lists: u64,
     /// How many tokens of long lists that aren't valid may still be judged.
     pub left: usize,
-    /// The plan of the grammar, where its rules were laid out for these lists.
-    pub plan: Option<Plan>,
+    /// What is kept for the lists that end after these.
+    pub kept: Kept,
 }
 
 impl Findings {
     /// Those of no lists, which may be so wide.
-    pub fn none(widths: Widths) -> Findings
+    pub fn none(alloc: Global, widths: Widths) -> Findings
         ensures { (s : HowWide) (g : PlainDtd) (root : List ℕ) → HasFound s g root [] result }
     {
         Findings {
@@ -63,7 +63,7 @@ impl Findings {
                 Widths::Limited => TOKENS_BY_ONE_THREAD,
                 Widths::Any => usize::MAX,
             },
-            plan: None,
+            kept: Kept::nothing(alloc),
         }
     }
 

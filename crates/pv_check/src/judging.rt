@@ -1,24 +1,25 @@
 //! The verdicts of lists, each found where its element ends.
 
-ghost use Rattle.std.specs.Prelude.{◌≡◌, ◌<◌, true, false, IfOk, IfSome, List, OnOk};
+ghost use Rattle.std.specs.Prelude.{◌≡◌, ◌<◌, true, false, IfOk, List, OnOk};
 ghost use Rattle.pv_productive.specs.PlainForms.{dtd_of};
 ghost use Rattle.pv_tree.specs.Plain.{Tree};
 ghost use Rattle.pv_tree.specs.declared.nodes.Mark.{Mark};
-ghost use Rattle.pv_reach.specs.Plans.{IsPlan};
 ghost use Rattle.pv_lists.specs.Judgements.{FindsEnded, IsEnded, MAX_KIDS, path_in};
 ghost use Rattle.pv_check.specs.Findings.{verdicts_by};
+ghost use Rattle.pv_check.specs.KnownVerdicts.{IsRightlyKept};
 ghost use Rattle.pv_check.specs.ListJudgements.{IsPlaced, JudgesOwn};
 
 use crate::errors::ListError;
 use crate::findings::{Findings, Noted};
+use crate::kept::Kept;
 use crate::planning::Planning;
 use crate::widths::Widths;
-use crate::words::{is_narrow, owner_of, plan_and_judge_word};
+use crate::words::{is_narrow, owner_of};
 use pv_chars::NoMemory;
 use pv_dtd::Dtd;
 use pv_lists::{ListJudge, OpenList, places_in};
 use pv_model::Token;
-use pv_reach::{Judge, Plan};
+use pv_reach::Judge;
 use pv_tree::{Path, Verdict};
 
 /// Finds which lists are too wide, and the verdicts of the others, up to the first that is too wide
@@ -37,22 +38,21 @@ impl<'l, 'a> Verdicts<'l, 'a> {
         &self,
         list: &OpenList<'_, Noted>,
         word: &[Token],
-        plan: &mut Option<Plan>,
+        kept: &mut Kept,
     ) -> Result<Option<Verdict>, NoMemory>
-        requires { IfSome plan.old (IsPlan (dtd_of self.now.judge.now)) }
+        requires { IsRightlyKept self.now.widths (dtd_of self.now.judge.now) kept.old }
         ensures judges { (kids : List (Tree Mark)) →
             IsEnded (dtd_of self.now.judge.now) list.now word.now kids →
             IfOk result (JudgesOwn self.now.widths (dtd_of self.now.judge.now) list.now.name.now
             kids) }
-        ensures planned { IfSome plan.new (IsPlan (dtd_of self.now.judge.now)) }
+        ensures kept { IsRightlyKept self.now.widths (dtd_of self.now.judge.now) kept.new }
     {
         let owner = owner_of(list.token);
         let has_kids = list.kids > 0;
-        plan_and_judge_word(
+        kept.judge_word(
             self.widths,
             self.planning,
             self.judge,
-            plan,
             owner,
             word,
             !has_kids,
@@ -113,12 +113,12 @@ impl<'l, 'a> Verdicts<'l, 'a> {
         requires few_lists { found.old.lists < MAX_KIDS }
         requires few_possible { found.old.possible < MAX_KIDS }
         requires first { list.now.before.any ≡ false }
-        requires planned { IfSome found.old.plan (IsPlan (dtd_of self.now.judge.now)) }
+        requires kept { IsRightlyKept self.now.widths (dtd_of self.now.judge.now) found.old.kept }
         ensures { OnOk result (FindsEnded
             (verdicts_by self.now.widths (dtd_of self.now.judge.now)) list.now word.now outer.now
             found.old found.new) }
     {
-        let judged = self.verdict(list, word, &mut found.plan)?;
+        let judged = self.verdict(list, word, &mut found.kept)?;
         let places = self.places(outer, judged)?;
         found.add(self.judge.alloc(), judged, &places)?;
         found.spend(word.len(), judged)
@@ -142,7 +142,7 @@ impl<'l, 'a> ListJudge for Verdicts<'l, 'a> {
     }
 
     fn none(&self) -> Findings {
-        Findings::none(self.widths)
+        Findings::none(self.judge.alloc(), self.widths)
     }
 
     fn before(&self, found: &Findings) -> Noted {

@@ -14,6 +14,8 @@ mod checking;
 mod errors;
 mod findings;
 mod judging;
+mod kept;
+mod known;
 mod planning;
 mod widths;
 mod words;

@@ -68,8 +68,8 @@ pub fn is_narrow(widths: Widths, judge: &Judge<'_>, word: &[Token]) -> bool
     }
 }
 
-// The content model of a name that is productive.
-fn productive_model(grammar: &Grammar, id: NameId) -> Option<&LaidModel>
+/// The content model of a name that is productive.
+pub fn productive_model(grammar: &Grammar, id: NameId) -> Option<&LaidModel>
     ensures { IfSome (option_copied result) (λ model. IsProductive (dtd_of grammar.now) id.0 ×
         (model_of (dtd_of grammar.now) id.0 ≡ Some (plain_model model))) }
 {

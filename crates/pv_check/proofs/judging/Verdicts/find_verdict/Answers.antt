@@ -17,7 +17,7 @@ returns c = on_ok c.spend.result (λ root before after kids finds notes whole.
       possible = finds.possible;
       few_possible = finds.few_possible;
       count = finds.count;
-      plan = c.in_ok-judged.ensures.planned;
+      kept = c.in_ok-judged.ensures.kept;
     })
     (first_so_far s g root before after ended list.before notes c.requires.first)
     (c.in_ok-judged.ensures.judges kids whole root (path_in c.args.outer.now))
