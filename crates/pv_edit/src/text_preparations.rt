@@ -1,6 +1,7 @@
 //! What an edit of texts is going to do.
 
-ghost use Rattle.std.specs.Prelude.{◌≡◌, ◌∷◌, ◌++◌, ◌<◌, [], false, true, IfOk, length};
+ghost use Rattle.std.specs.Prelude.{◌≡◌, ◌∷◌, ◌++◌, ◌<◌, ◌≤◌, [], false, true, IfOk, length};
+ghost use Rattle.std.specs.Prelude.{vec_capacity};
 ghost use Rattle.pv_tree.specs.PlainDocs.{plain_doc};
 ghost use Rattle.pv_tree.specs.PlainForms.{plain};
 ghost use Rattle.pv_edit.specs.Changes.{others};
@@ -52,20 +53,21 @@ pub(crate) fn cut_task(alloc: Global, doc: &Doc, path: &Path, at: usize) -> Resu
     let Some(units) = text_at(doc, path) else {
         unreachable!()
     };
+    let nodes = Vec::with_capacity(alloc, 2)?;
     let (first, second) = units.cut(alloc, at)?;
-    let filling = two_nodes(alloc, Node::Text(first), Node::Text(second))?;
+    let filling = two_nodes(nodes, Node::Text(first), Node::Text(second));
     node_task(alloc, path, 1, filling)
 }
 
-// Two nodes, to come in place of others.
-fn two_nodes(alloc: Global, first: Node, second: Node) -> Result<Filling, NoMemory>
-    ensures { IfOk result (λ filling. plain_filling filling
-        ≡ others (plain first ∷ plain second ∷ [])) }
+// Two nodes in a vector with room for them, to come in place of others.
+fn two_nodes(mut nodes: Vec<Node>, first: Node, second: Node) -> Filling
+    requires empty { nodes.items ≡ [] }
+    requires room { 2 ≤ vec_capacity nodes }
+    ensures { plain_filling result ≡ others (plain first ∷ plain second ∷ []) }
 {
-    let mut nodes = Vec::with_capacity(alloc, 2)?;
     nodes.push_reserved(first);
     nodes.push_reserved(second);
-    Ok(Filling::Others(nodes))
+    Filling::Others(nodes)
 }
 
 /// The preparation of a join.
