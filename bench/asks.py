@@ -2,8 +2,9 @@
 
 Words: the repository's folder, and how many rounds. PVTAG names another build of the program, and BEFORE one that is measured beside it. An offer is
 asked first in each of some lists of 1,000 paragraphs, under a made DTD in the shape of DocBook of 398 names, and then again in the last of them; a wrap
-that is refused is tried in a list of 20,000 and of 200,000 kids, at first and again; kids come into two lists of 50,000 in turn; and `need` is asked
-again where all 1,000,000 lists are valid. The runs are interleaved; told is the least processor time of a line, without the opening.
+that is refused is tried in a list of 20,000 and of 200,000 kids, at first and again, and in two lists in turn; kids come into two and three lists of
+50,000 in turn; and `need` is asked again where all 1,000,000 lists are valid. The runs are interleaved; told is the least processor time of a line,
+without the opening.
 """
 import os
 import sys
@@ -41,6 +42,11 @@ def cases(folder):
     two = files(FREE, "r", lists(50_000, 2), "two")
     yield "insertions in two lists of 50,000 kids in turn", two, ["insert 0.0 25000 b", "insert 0.1 25000 b"] * 2, \
         ["insert 0.0 25000 b", "insert 0.1 25000 b"] * TRIED
+    three = files(FREE, "r", lists(50_000, 3), "three")
+    yield "insertions in three lists of 50,000 kids in turn", three, [f"insert 0.{at} 25000 b" for at in range(3)] * 2, \
+        [f"insert 0.{at} 25000 b" for at in range(3)] * TRIED
+    yield "refused wraps in two of them in turn", three, [f"wrap 0.{at} 25000 25001 b" for at in range(2)] * 2, \
+        [f"wrap 0.{at} 25000 25001 b" for at in range(2)] * TRIED
     yield "`need` again, 1,000,000 valid lists", files(FREE, "r", lists(1_000_000), "valid"), ["need"], ["need"] * 5
 
 

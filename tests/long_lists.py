@@ -2,9 +2,9 @@
 
 Words: PROGRAM DOCUMENTS SEED, and the most seconds, where less is wanted; of each content model there is one document at least. A document has
 lists of 300 to 2,000 kids, two of them with owners of one name. Edits come at the front, in the middle and at the end of these lists, and of
-lists as long that come of a wrap; they stay with one list for a while or go back and forth; edits that are refused, offers in the same list and in
-others, `undo` and `redo` stand between.
-At each third line or so a session is begun on the document that `show` gives: all verdicts, the reply to the next edit and the verdicts after it
+lists as long that come of a wrap; they stay with one list for a while or go back and forth; edits that are refused, alone or several of one list,
+offers in the same list and in others, `undo` and `redo` stand between.
+At each third line or so a session is begun on the document that `show` gives: all verdicts, the replies to the next edits and the verdicts after them
 are to be the same, and `ok` is to tell how many of them are possible and impossible. `check` is to tell the same of the document. The last line
 tells how many of these passed.
 """
@@ -385,19 +385,25 @@ class Game:
             self.lists.make(root or self.lists.root)
         return reply
 
-    def compare(self, edit: Edit, asked: str) -> None:
-        """Makes an edit, and asks something before it, in this session and in a fresh one."""
+    def compare(self) -> None:
+        """Asks something, tries edits that are mostly refused, and makes one, in this session and in a fresh one."""
         shown = self.session.ask("show")[1]
         Path("n.xml").write_text(shown, encoding="ascii")
         self.expect("what is shown", re.sub(r"<(\w+)/>", r"<\1></\1>", shown) == written(self.lists.root))
-        fresh = afresh(self.program, ["verdicts", asked, edit[0], "verdicts"])
-        before, wanted = rows(self.session.ask("verdicts")), rows(next(fresh))
+        before, asked = rows(self.session.ask("verdicts")), self.question()
+        names = self.session.ask(asked)
+        tried = [(edit[0], self.edited(edit)) for edit in self.refusals()]
+        edit = self.lists.edit()
+        tried.append((edit[0], self.edited(edit)))
+        after = rows(self.session.ask("verdicts"))
+        fresh = afresh(self.program, ["verdicts", asked, *(line for line, _ in tried), "verdicts"])
+        wanted, wanted_names = rows(next(fresh)), next(fresh)
         self.expect("the verdicts", before == wanted, differing(before, wanted))
-        got, wanted_names = self.session.ask(asked), next(fresh)
-        self.expect(asked, got == wanted_names, f"{got} for {wanted_names}")
-        reply, wanted_reply = self.edited(edit), next(fresh)[0]
-        self.expect(edit[0], reply == wanted_reply, f"{reply} for {wanted_reply}")
-        after, wanted = rows(self.session.ask("verdicts")), rows(next(fresh))
+        self.expect(asked, names == wanted_names, f"{names} for {wanted_names}")
+        for line, reply in tried:
+            wanted_reply = next(fresh)[0]
+            self.expect(line, reply == wanted_reply, f"{reply} for {wanted_reply}")
+        wanted = rows(next(fresh))
         self.expect("the verdicts behind it", after == wanted, differing(after, wanted))
         if reply.startswith("ok"):
             counts = Counter(verdict for _, verdict in after)
@@ -434,11 +440,19 @@ class Game:
             reply = self.session.ask(question)[0]
             self.expect(question, reply.startswith(("offer ", "no ")), reply)
             if random.random() < 0.5:
-                self.edited(self.unproductive())
+                for edit in self.refusals():
+                    self.edited(edit)
 
-    def unproductive(self) -> Edit:
+    def refusals(self) -> Iterator[Edit]:
+        """Edits that are mostly refused: some in one list, and then some in another."""
+        for _ in range(random.choice([0, 1, 1, 2])):
+            places, root = self.place(), self.lists.root
+            for _ in range(random.choice([1, 1, 2, 3, 5])):
+                if self.lists.root is root:
+                    yield self.unproductive(places)
+
+    def unproductive(self, places: Places) -> Edit:
         """A wrap that can be made only where an impossible list is replaced by another."""
-        places = self.place()
         kids = node_at(self.lists.root, places).kids
         start, end = run_of(len(kids))
         return f"wrap {path(places)} {start} {end} u", replaced(self.lists.root, places, start, end, (Element("u", kids[start:end]),))
@@ -455,7 +469,7 @@ class Game:
             had = self.lists.redo()
             self.expect("redo", self.session.ask("redo")[0].startswith("ok" if had else "no history"))
         elif number % 3 == 2:
-            self.compare(self.lists.edit(), self.question())
+            self.compare()
         else:
             self.edited(self.lists.edit())
 

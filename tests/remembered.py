@@ -2,7 +2,7 @@
 
 Words: PROGRAM SEED. A document has 50,000 lists, no two alike, of which each lacks elements; how many is told by a formula. `need` is asked after
 random edits, undo and redo, and compared with the sum of the formula, and with what a fresh session tells. What is remembered is to take no more
-than a bound. Of a document whose lists are valid it is 0, also again after edits that are undone, and after offers and refused edits in two lists.
+than a bound. Of a document whose lists are valid it is 0, also again after edits that are undone, and after offers and refused edits in three lists, short or long.
 The last line tells how many passed.
 """
 import os
@@ -18,6 +18,8 @@ from lib.counting import Expecting
 
 DTD = "<!ELEMENT r (a*)><!ELEMENT a ((b, c)*, d)><!ELEMENT b EMPTY><!ELEMENT c EMPTY><!ELEMENT d EMPTY>"
 LISTS, KIDS, MOVES = 50_000, 16, 8
+# The pairs in a short list and in one whose word is long.
+PAIRS = (16, 150)
 # The most megabytes that the first `need` may add: what is remembered, and beside it what it walks by.
 MOST = 20
 
@@ -108,23 +110,29 @@ def tries(program: str, told: Expecting) -> None:
     fresh.end()
 
 
-def tries_whole(program: str, told: Expecting) -> None:
-    """Asks `need` of a document with two long lists that are valid but for some moves."""
-    Path("d.xml").write_text("<r>" + f"<a>{'<b/><c/>' * KIDS}<d/></a>" * 2 + "</r>", encoding="ascii")
+def offer(session: Asked, told: Expecting, line: str) -> None:
+    asked = session.ask(line)
+    told.expect(line, asked.startswith("offer "), asked)
+    for _ in range(int(asked.split()[1])):
+        session.read()
+
+
+def tries_whole(program: str, told: Expecting, pairs: int) -> None:
+    """Asks `need` of a document with three lists that are valid but for some moves."""
+    Path("d.xml").write_text("<r>" + f"<a>{'<b/><c/>' * pairs}<d/></a>" * 3 + "</r>", encoding="ascii")
     session = Asked(program)
     told.expect("need of a valid document", session.ask("need") == "need 0")
     for _ in range(MOVES * 8):
-        number, kid = random.randrange(2), random.choice("bcd")
-        at = random.randint(0, 2 * KIDS)
-        asked = session.ask(f"offer 0.{number} {at} {at}")
-        told.expect("an offer", asked.startswith("offer "), asked)
-        for _ in range(int(asked.split()[1])):
-            session.read()
-        told.expect("a refused edit", session.ask(f"wrap 0.{1 - number} 0 {at} b").startswith("no impossible" if at else "ok"))
+        number, other, kid = random.randrange(3), random.randrange(3), random.choice("bcd")
+        at = random.choice([0, 2 * pairs, random.randint(0, 2 * pairs)])
+        offer(session, told, f"offer 0.{number} {at} {at}")
+        for of in random.choice([[other], [other] * 3, [number, other, number]]) if at else []:
+            told.expect("a refused edit", session.ask(f"wrap 0.{of} 0 {at} b").startswith("no impossible"))
         if at == 0:
+            told.expect("an edit", session.ask(f"wrap 0.{other} 0 0 b").startswith("ok"))
             told.expect("need behind it", session.ask("need") == "need 1")
             told.expect("undo of it", session.ask("undo").startswith("ok"))
-        reply, word = session.ask(f"insert 0.{number} {at} {kid}"), "bc" * KIDS
+        reply, word = session.ask(f"insert 0.{number} {at} {kid}"), "bc" * pairs
         told.expect(f"insert {at} {kid}", reply.startswith("no impossible" if kid == "d" else "ok"), reply)
         if kid != "d":
             told.expect("need of it", session.ask("need") == f"need {missing(word[:at] + kid + word[at:]) - 1}")
@@ -140,7 +148,8 @@ def main() -> int:
         os.chdir(folder)
         Path("a.dtd").write_text(DTD, encoding="ascii")
         tries(program, told)
-        tries_whole(program, told)
+        for pairs in PAIRS:
+            tries_whole(program, told, pairs)
         os.chdir("/")
     return told.ended()
 
