@@ -18,7 +18,7 @@ use crate::deadlines::Deadline;
 use crate::errors::MakeError;
 use crate::known::KnownBounds;
 use crate::making::building::build;
-use crate::making::filling::{Filled, fill, fill_few, fill_short};
+use crate::making::filling::{Filled, fill, fill_ahead, fill_few, fill_short};
 use crate::making::known_columns::KnownColumns;
 use crate::making::windows::windowed;
 use pv_bounds::laws::below_sites_law;
@@ -100,6 +100,9 @@ fn word_bound(
     }
 }
 
+/// So far on all ends are told apart in the last of the ways in which few reaches are made.
+const FEW_AHEAD: u32 = 64;
+
 // Fronts that tell nothing.
 fn no_fronts(alloc: Global) -> Fronts {
     Fronts {
@@ -133,7 +136,16 @@ fn new_in(pieces: &[Piece]) -> usize {
         .count()
 }
 
-// The pieces of a completion of a list with many reaches: of few of these, and of more as long as
+// Those of two completions of a list that have fewer new elements.
+fn fewer_of(pieces: Vec<Piece>, others: Vec<Piece>) -> Vec<Piece> {
+    if new_in(others.as_slice()) < new_in(pieces.as_slice()) {
+        others
+    } else {
+        pieces
+    }
+}
+
+// The pieces of a completion of a list with many reaches, by few of these: by other ones as long as
 // more elements are new than are missing at least.
 fn few_pieces(
     alloc: Global,
@@ -144,18 +156,17 @@ fn few_pieces(
 ) -> Result<Vec<Piece>, MakeError> {
     let column = known.layout.column(site_at(of));
     let filled = fill_few(alloc, known, column, word, 1)?;
-    let mut best = pieces_by(alloc, known, of, word, &filled)?;
-    for near in [8, 64] {
-        if new_in(best.as_slice()) <= least as usize {
-            break;
-        }
-        let filled = fill_few(alloc, known, column, word, near)?;
-        let pieces = pieces_by(alloc, known, of, word, &filled)?;
-        if new_in(pieces.as_slice()) < new_in(best.as_slice()) {
-            best = pieces;
-        }
+    let pieces = pieces_by(alloc, known, of, word, &filled)?;
+    if new_in(pieces.as_slice()) <= least as usize {
+        return Ok(pieces);
     }
-    Ok(best)
+    let filled = fill_ahead(alloc, known, word)?;
+    let pieces = fewer_of(pieces, pieces_by(alloc, known, of, word, &filled)?);
+    if new_in(pieces.as_slice()) <= least as usize {
+        return Ok(pieces);
+    }
+    let filled = fill_few(alloc, known, column, word, FEW_AHEAD)?;
+    Ok(fewer_of(pieces, pieces_by(alloc, known, of, word, &filled)?))
 }
 
 // How many elements are missing in a list of this word at least, and the pieces of a completion, by

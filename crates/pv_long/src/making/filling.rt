@@ -58,7 +58,7 @@ const LEAST_ZEROS: u32 = 60;
 const GROWING: usize = 16;
 
 /// So many are looked at for each of these.
-const LOOKS: u64 = 16;
+const LOOKS: u64 = 64;
 
 impl Budget {
     // The budget of a list with so many fronts.
@@ -321,6 +321,32 @@ pub fn fill_few(
     let (fronts, derivations) = derive_fronts(alloc, known, &classes, column, word, few)?;
     Ok(Filled {
         fronts,
+        derived: None,
+        derivations,
+        classes,
+    })
+}
+
+/// How far ahead ends are told apart, where few others are.
+const AHEAD: u32 = 48;
+
+/// Fronts of a word that lead to a completion, of which those reaches are left out that are neither
+/// short nor go up to the end of the word.
+pub fn fill_ahead(
+    alloc: Global,
+    known: &KnownColumns<'_>,
+    word: &[Token],
+) -> Result<Filled, MakeError> {
+    let classes = Classes::of_word(alloc, known.layout.forms(), word)?;
+    let ahead = Grain {
+        near: AHEAD,
+        way: Way::Ahead,
+        ..all_ends(word)
+    };
+    let (made, _) = make_within(alloc, known, &classes, word, ahead)?;
+    let Rows { rows, derivations } = made;
+    Ok(Filled {
+        fronts: fronts_of(alloc, known, &classes, rows)?,
         derived: None,
         derivations,
         classes,

@@ -14,6 +14,8 @@ pub enum Way {
     Fewest,
     /// Each that goes further ends there.
     Window,
+    /// Each that goes further is left out, unless it goes up to the end of the list.
+    Ahead,
 }
 
 /// Ends that are up to so many places away are told apart; further on those at each second place,
@@ -49,20 +51,45 @@ impl Grain {
             Way::Further => self.tokens,
             Way::Fewer => self.tokens,
             Way::Fewest => self.tokens,
+            Way::Ahead => self.tokens,
         }
     }
 
-    /// Up to where a reach from a place goes that is offered up to an end.
+    /// The last cut that is tried from a place.
+    pub fn last_cut(&self, place: u32) -> u32 {
+        let last = u32::saturating_sub(self.tokens, 1);
+        match self.way {
+            Way::Ahead => u32::saturating_add(place, self.near).min(last),
+            _ => last,
+        }
+    }
+
+    /// Up to where a reach from a place goes that is offered up to an end; 0 where it is left out.
     pub fn end_of(&self, place: u32, end: u32) -> u32 {
         match self.way {
             Way::Further => self.told(place, end),
             Way::Fewer => end,
             Way::Fewest => end,
             Way::Window => end.min(self.limit(place)),
+            Way::Ahead => self.end_ahead(place, end),
         }
     }
 
-    /// Whether some reaches are left out.
+    // The end of a reach, or 0 where it is neither near nor that of the list.
+    fn end_ahead(&self, place: u32, end: u32) -> u32 {
+        if end >= self.tokens || end <= u32::saturating_add(place, self.near) {
+            end
+        } else {
+            0
+        }
+    }
+
+    /// Whether fronts may lack reaches that others lead to.
+    pub fn may_lack(&self) -> bool {
+        self.way == Way::Fewest || self.way == Way::Ahead
+    }
+
+    /// Whether reaches are taken off fronts.
     pub fn is_thin(&self) -> bool {
         self.way == Way::Fewer || self.way == Way::Fewest
     }

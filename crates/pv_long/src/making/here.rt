@@ -62,7 +62,7 @@ struct Column {
 #[derive(Drop)]
 pub struct Here {
     pub place: u32,
-    grain: Grain,
+    pub grain: Grain,
     /// How many reaches were looked at in all.
     pub work: u64,
     columns: Vec<Column>,
@@ -127,11 +127,13 @@ impl Here {
         })
     }
 
-    /// Goes to a place, where there is no reach so far.
+    /// Goes to a place, where there is no reach so far. Where no reach goes far, all cuts are tried
+    /// of the columns of which they were at the place before.
     pub fn go_to(&mut self, place: u32) {
         self.place = place;
+        let way = self.grain.way;
         for column in self.columns.iter_mut() {
-            column.all = false;
+            column.all = way == Way::Ahead || (column.all && way == Way::Window);
         }
         self.clear();
     }
@@ -156,11 +158,6 @@ impl Here {
     pub fn look(&mut self, reaches: usize) {
         let reaches = u64::try_from(reaches).unwrap_or(u64::MAX);
         self.work = u64::saturating_add(self.work, reaches);
-    }
-
-    /// Whether fronts may lack reaches that others lead to.
-    pub fn may_lack(&self) -> bool {
-        self.grain.way == Way::Fewest
     }
 
     /// Whether all cuts of a column are tried.

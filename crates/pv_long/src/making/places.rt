@@ -56,7 +56,7 @@ pub fn fill_place(
     'times: loop {
         offer_token(known, here, token)?;
         settle(known, here, derivations)?;
-        if here.may_lack() {
+        if here.grain.may_lack() {
             return Ok(());
         }
         try_lacking(known, here);

@@ -156,7 +156,7 @@ fn follow(
     rest: u32,
     step: Step,
 ) -> Result<(), NoMemory> {
-    let last = step.end.min(u32::saturating_sub(known.tokens, 1));
+    let last = step.end.min(here.grain.last_cut(here.place));
     let first = here.try_cuts(user, last);
     let near = if here.tries_all(user) {
         last
