@@ -100,6 +100,11 @@ fn word_bound(
     }
 }
 
+/// How many places windows go over, the small and the larger ones.
+const WINDOW: u32 = 24;
+
+const LARGER_WINDOW: u32 = 56;
+
 /// So far on all ends are told apart in the last of the ways in which few reaches are made.
 const FEW_AHEAD: u32 = 64;
 
@@ -189,8 +194,27 @@ fn bound_filled(
     Ok((least, pieces))
 }
 
-// A lower bound of a word by fronts that are made within windows: 0 where these aren't closed.
+// A lower bound of a word by fronts that are made within windows of so many places: 0 where these
+// aren't closed.
 fn bound_within(
+    alloc: Global,
+    known: &KnownColumns<'_>,
+    of: Of,
+    word: &[Token],
+    window: u32,
+) -> Result<u32, MakeError>
+    ensures { IfOk result (IsWordBound (dtd_of known.now.layout.now.grammar.now) of
+        (map plain_token word.now)) }
+{
+    match windowed(alloc, known, word, window)? {
+        Some(fronts) => Ok(word_bound(alloc, known.layout, of, word, &fronts)?),
+        None => Ok(word_bound(alloc, known.layout, of, word, &no_fronts(alloc))?),
+    }
+}
+
+// A lower bound of a word by fronts that are made within windows: within larger ones where those of
+// smaller ones aren't closed.
+fn bound_far(
     alloc: Global,
     known: &KnownColumns<'_>,
     of: Of,
@@ -199,10 +223,12 @@ fn bound_within(
     ensures { IfOk result (IsWordBound (dtd_of known.now.layout.now.grammar.now) of
         (map plain_token word.now)) }
 {
-    match windowed(alloc, known, word)? {
-        Some(fronts) => Ok(word_bound(alloc, known.layout, of, word, &fronts)?),
-        None => Ok(word_bound(alloc, known.layout, of, word, &no_fronts(alloc))?),
+    let least = bound_within(alloc, known, of, word, WINDOW)?;
+    if least > 0 {
+        return Ok(least);
     }
+    let least = bound_within(alloc, known, of, word, LARGER_WINDOW)?;
+    Ok(least)
 }
 
 // A bound of a word that says nothing, and the pieces of the first completion that is found.
@@ -236,7 +262,7 @@ fn bound_word(
     if let Some(filled) = fill_short(alloc, known, word)? {
         return bound_filled(alloc, known, of, word, &filled);
     }
-    let least = bound_within(alloc, known, of, word)?;
+    let least = bound_far(alloc, known, of, word)?;
     if least >= HEAVIEST {
         return Ok((least, Vec::new(alloc)));
     }
