@@ -1,4 +1,4 @@
-"""Tries what a session remembers of the weights of lists, where more lists differ than it remembers.
+"""Tries what a session remembers of the weights of lists, where many lists differ.
 
 Words: PROGRAM SEED. A document has 50,000 lists, no two alike, of which each lacks elements; how many is told by a formula. `need` is asked after
 random edits, undo and redo, and compared with the sum of the formula, and with what a fresh session tells. What is remembered is to take no more

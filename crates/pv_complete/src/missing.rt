@@ -5,5 +5,6 @@ pub mod lists;
 pub mod load;
 pub mod needing;
 pub mod remembering;
+pub mod slots;
 pub mod weighing;
 pub mod widths;

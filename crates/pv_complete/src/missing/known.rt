@@ -2,45 +2,42 @@
 
 ghost use Rattle.std.specs.Prelude.{◌≡◌, IsTrue};
 
+use crate::missing::slots::Slots;
 use pv_chars::List;
 use pv_missing::Of;
 use pv_model::Token;
+use pv_rules::HEAVIEST;
 use pv_span::{Entries, Entry};
 use pv_tree::Tokens;
 use pv_write::Piece;
 use std::alloc::Global;
 
-/// How many slots there are, a power of two.
-const SLOTS: usize = 32_768;
-
-/// How many bits of a hash don't tell the slot.
-const OTHER_BITS: u32 = 17;
-
 /// How many entries of a slot are looked at.
 const LOOKS: usize = 32;
 
-/// The number of no entry.
-const NO_ENTRY: u32 = u32::MAX;
-
-/// The most bytes that entries without pieces take, with their words.
+/// The most bytes that entries without pieces take, with their words, where a document has few
+/// lists.
 const MAX_BYTES: usize = 16_000_000;
 
-/// The most bytes that entries with pieces take, with these and their words.
+/// The most bytes that entries with pieces take, with these and their words, where a document has
+/// few lists.
 const MAX_PIECE_BYTES: usize = 64_000_000;
+
+/// The bytes for each list of a document: those of an entry whose word has eight tokens.
+const LIST_BYTES: u64 = 320;
 
 /// The most entries of tables that are kept; each takes 20 bytes.
 const MAX_TABLE_ENTRIES: u32 = 4_194_304;
 
 /// The bytes that an entry takes beside its tokens, pieces and table: its own, as many in reserve,
-/// and what the allocator takes for its word.
+/// its slot's, and what the allocator takes for its word.
 const ENTRY_BYTES: usize = 256;
 
 /// The bytes of a token, and of a piece.
 const TOKEN_BYTES: usize = 8;
 
 /// What a word weighs by its owner, and where they are kept the pieces of a completion with as many
-/// new elements, and the entries of its table. The entry of the same slot that was made before is
-/// told by its number.
+/// new elements, and the entries of its table.
 #[derive(Drop)]
 pub struct KnownWeight {
     pub of: Of,
@@ -48,11 +45,10 @@ pub struct KnownWeight {
     pub weight: u32,
     pub pieces: Option<List<Piece>>,
     pub table: Option<Entries>,
-    next: u32,
 }
 
-/// Weights that are remembered. A slot has the number of the last entry whose owner and word have
-/// the slot's hash. Where there are too many, all are forgotten.
+/// Weights that are remembered, in the order in which they were found. Where there are too many, the
+/// older half is forgotten.
 #[derive(Drop)]
 pub struct KnownWeights {
     pub entries: Vec<KnownWeight>,
@@ -60,7 +56,7 @@ pub struct KnownWeights {
     pub keeps_pieces: bool,
     /// How many entries of tables more may be kept.
     pub table_room: u32,
-    slots: Vec<u32>,
+    slots: Slots,
     held: usize,
     most: usize,
 }
@@ -78,8 +74,8 @@ fn number_of(token: Token) -> u32 {
     }
 }
 
-/// The slot of an owner and a word.
-fn slot_of(of: Of, word: &[Token]) -> usize {
+/// The hash of an owner and a word.
+fn hash_of(of: Of, word: &[Token]) -> u32 {
     let mut hash = match of {
         Of::Root(id) => mix_in(1, id.0),
         Of::Elem(id) => mix_in(2, id.0),
@@ -87,7 +83,7 @@ fn slot_of(of: Of, word: &[Token]) -> usize {
     for token in word {
         hash = mix_in(hash, number_of(*token));
     }
-    (hash.wrapping_mul(2_654_435_769) >> OTHER_BITS) as usize
+    hash
 }
 
 fn is_same_token(token: Token, other: Token) -> bool
@@ -135,12 +131,13 @@ fn entries_in(table: &Option<Entries>) -> u32 {
     }
 }
 
-/// The number of the last entry of a slot.
-fn first_of(slots: &[u32], slot: usize) -> u32 {
-    match slots.get(slot) {
-        Some(first) => *first,
-        None => NO_ENTRY,
+/// The bytes that these entries take.
+fn bytes_of(entries: &[KnownWeight]) -> usize {
+    let mut bytes = 0usize;
+    for entry in entries {
+        bytes = usize::saturating_add(bytes, bytes_for(entry.word.as_slice(), &entry.pieces));
     }
+    bytes
 }
 
 impl KnownWeight {
@@ -196,7 +193,7 @@ impl KnownWeights {
             entries: Vec::new(alloc),
             keeps_pieces,
             table_room,
-            slots: Vec::new(alloc),
+            slots: Slots::none(alloc),
             held: 0,
             most,
         }
@@ -229,26 +226,35 @@ impl KnownWeights {
             IsWeighedWord g (plain_of of) (map plain_token word.now) entry.now.weight
             entry.now.pieces entry.now.table) }
     {
-        let mut at = *self.slots.get(slot_of(of, word))?;
+        let hash = hash_of(of, word);
+        let mut at = self.slots.last_of(hash);
         for _look in 0..LOOKS {
+            let link = self.slots.link(at)?;
             let entry = self.entries.get(at as usize)?;
-            if entry.is_of(of, word) {
+            if link.hash == hash && entry.is_of(of, word) {
                 return Some(entry);
             }
-            at = entry.next;
+            at = link.next;
         }
         None
     }
 
-    /// What a word weighs by its owner, where it is known.
+    /// Whether pieces are to be kept for an entry that has none.
+    fn lacks_pieces(&self, entry: &KnownWeight) -> bool {
+        self.keeps_pieces && entry.pieces.is_none() && entry.weight < HEAVIEST
+    }
+
+    /// What a word weighs by its owner, where it is known, with its pieces where these are to be
+    /// kept.
     pub fn find(&self, of: Of, word: &[Token]) -> Option<u32>
         ensures { IfSome result (λ weight. (g : PlainDtd) → AreKnown g self.now →
             IsWordWeight g (plain_of of) (map plain_token word.now) weight) }
     {
-        match self.entry(of, word) {
-            Some(entry) => Some(entry.weight),
-            None => None,
+        let entry = self.entry(of, word)?;
+        if self.lacks_pieces(entry) {
+            return None;
         }
+        Some(entry.weight)
     }
 
     /// The pieces of a completion of a word by its owner, where they are kept.
@@ -276,37 +282,64 @@ impl KnownWeights {
         }
     }
 
+    /// Makes room for the weights of so many lists.
+    pub fn make_room(&mut self, lists: u64)
+        ensures { (g : PlainDtd) → AreKnown g self.old → AreKnown g self.new }
+    {
+        let bytes = u64::saturating_mul(lists, LIST_BYTES);
+        self.most = self.most.max(usize::try_from(bytes).unwrap_or(usize::MAX));
+    }
+
+    /// Keeps pieces beside the weights that are found from now on, or none.
+    pub fn keep_pieces(&mut self, wanted: bool)
+        ensures { (g : PlainDtd) → AreKnown g self.old → AreKnown g self.new }
+    {
+        self.keeps_pieces = wanted;
+        if wanted {
+            self.most = self.most.max(MAX_PIECE_BYTES);
+        }
+    }
+
     /// Forgets all weights.
     fn forget(&mut self)
         ensures { (g : PlainDtd) → AreKnown g self.new }
     {
         self.entries.truncate(0);
-        self.slots.fill(NO_ENTRY);
+        self.slots.keep_first(0);
         self.held = 0;
     }
 
-    /// Forgets all weights, where there is no room for so many bytes more.
+    /// Forgets the older half of the weights, and all where there is no memory for the others.
+    fn forget_older(&mut self)
+        ensures { (g : PlainDtd) → AreKnown g self.old → AreKnown g self.new }
+    {
+        let half = self.entries.len() - self.entries.len() / 2;
+        let Ok(younger) = self.entries.split_off(half) else {
+            self.forget();
+            return;
+        };
+        self.entries = younger;
+        self.slots.keep_from(half);
+        self.held = bytes_of(&self.entries);
+    }
+
+    fn has_room(&self, bytes: usize) -> bool {
+        usize::saturating_add(self.held, bytes) <= self.most
+    }
+
+    /// Forgets the older half of the weights where there is no room for so many bytes more, and all
+    /// where that isn't enough.
     fn forget_if_full(&mut self, bytes: usize)
         ensures { (g : PlainDtd) → AreKnown g self.old → AreKnown g self.new }
     {
-        if usize::saturating_add(self.held, bytes) <= self.most {
+        if self.has_room(bytes) {
+            return;
+        }
+        self.forget_older();
+        if self.has_room(bytes) {
             return;
         }
         self.forget();
-    }
-
-    /// Makes the slots, where there are none, and tells whether there is memory for them.
-    fn has_slots(&mut self, alloc: Global) -> bool
-        ensures { self.new.entries ≡ self.old.entries }
-    {
-        if !self.slots.is_empty() {
-            return true;
-        }
-        let Ok(slots) = vec![in alloc; NO_ENTRY; SLOTS] else {
-            return false;
-        };
-        self.slots = slots;
-        true
     }
 
     /// Adds an entry, and tells whether there is memory for it.
@@ -318,15 +351,20 @@ impl KnownWeights {
         self.entries.push(entry).is_ok()
     }
 
-    /// Makes a slot lead to an entry of so many bytes, with so many entries of a table.
-    fn lead(&mut self, slot: usize, number: usize, bytes: usize, taken: u32)
+    /// Counts an entry of so many bytes, with so many entries of a table.
+    fn count(&mut self, bytes: usize, taken: u32)
         ensures { self.new.entries ≡ self.old.entries }
     {
         self.held = usize::saturating_add(self.held, bytes);
         self.table_room = u32::saturating_sub(self.table_room, taken);
-        if let Some(first) = self.slots.get_mut(slot) {
-            *first = u32::try_from(number).unwrap_or(NO_ENTRY);
-        }
+    }
+
+    /// Makes the slot of a hash lead to the entry that comes next, and tells whether there is memory
+    /// for it.
+    fn lead(&mut self, alloc: Global, hash: u32) -> bool
+        ensures { self.new.entries ≡ self.old.entries }
+    {
+        self.slots.add(alloc, hash).is_ok()
     }
 
     /// Remembers what a word weighs by its owner, with these pieces and this table, as far as there
@@ -345,25 +383,22 @@ impl KnownWeights {
             AreKnown g self.new }
     {
         let bytes = bytes_for(word.as_slice(), &pieces);
-        if !self.has_slots(alloc) {
-            return;
-        }
         self.forget_if_full(bytes);
         let taken = entries_in(&table);
-        let slot = slot_of(of, word.as_slice());
-        let number = self.entries.len();
-        let next = first_of(&self.slots, slot);
+        if !self.lead(alloc, hash_of(of, word.as_slice())) {
+            return;
+        }
         let entry = KnownWeight {
             of,
             word,
             weight,
             pieces,
             table,
-            next,
         };
         if !self.add(entry) {
+            self.slots.keep_first(self.entries.len());
             return;
         }
-        self.lead(slot, number, bytes, taken);
+        self.count(bytes, taken);
     }
 }

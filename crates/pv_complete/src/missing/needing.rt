@@ -101,6 +101,7 @@ pub(crate) fn need_under(
         HasCause (dtd_of layout.now.grammar.now) root.now (plain_doc doc.now) error) }
     ensures known { AreKnown (dtd_of layout.now.grammar.now) known.new }
 {
+    known.make_room(verdicts.len());
     let total = total_weight(alloc, layout, root, doc, verdicts, known)?;
     if total < HEAVIEST {
         Ok(u64::from(total))
