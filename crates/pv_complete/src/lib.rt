@@ -26,6 +26,6 @@ mod writing;
 
 pub use errors::NeedError;
 pub use fixed::{complete, need, tables};
-pub use missing::remembering::{Remembered, need_remembering};
+pub use missing::remembering::{Remembered, complete_remembering, need_remembering};
 pub use tabled::{TabledCompletion, complete_with_tables};
 pub use writing::completion::{Completion, complete_by};

@@ -52,7 +52,7 @@ fn numbers_of(alloc: Global, marks: &[u64]) -> Result<Vec<u32>, NoMemory>
 }
 
 /// A least completion of a document under a grammar that is laid out, by the verdicts of its lists.
-fn complete_under(
+pub(crate) fn complete_under(
     alloc: Global,
     layout: &ColumnLayout<'_>,
     root: &[u8],
@@ -75,6 +75,7 @@ fn complete_under(
     ensures refused { IfErr result (λ error. AreLiveVerdicts (dtd_of layout.now.grammar.now)
         root.now (plain_doc doc.now) verdicts.now.verdicts →
         HasCause (dtd_of layout.now.grammar.now) root.now (plain_doc doc.now) error) }
+    ensures known { AreKnown (dtd_of layout.now.grammar.now) known.new }
 {
     let count = need_under(alloc, layout, root, doc, verdicts, known)?;
     let completion = completion_under(alloc, layout, root, doc, verdicts, known, count)?;
