@@ -14,7 +14,7 @@ ghost use Rattle.pv_tree.specs.Prolog.{IsProlog};
 use crate::answers::{Answer, completed, other};
 use crate::opened_session::OpenedSession;
 use pv_chars::NoMemory;
-use pv_complete::{Completion, NeedError, Remembered, complete_by, need_remembering};
+use pv_complete::{Completion, NeedError, Remembered, complete_remembering, need_remembering};
 use pv_dtd::laws::proper_dtd_law;
 use pv_missing::Verdicts;
 use pv_missing::laws::verdicts::{none_impossible_law, none_possible_law};
@@ -144,45 +144,56 @@ fn completion_reply_by(
     alloc: Global,
     session: &Session,
     verdicts: &Verdicts,
+    remembered: &mut Remembered,
 ) -> Result<Reply, NoMemory>
+    requires remembers { Remembers session.now.dtd remembered.old }
     requires prolog { IsProlog session.now.root session.now.doc.before }
     requires verdicts { TellVerdicts (stamped_document session.now) verdicts.now }
     requires possible { verdicts.now.first ≡ None }
     ensures tells { IfOk result (TellsCompletion session.now) }
     ensures not_done { IfOk result (λ told. done_of told ≡ None) }
+    ensures remembers { Remembers session.now.dtd remembered.new }
 {
     session_law(session);
     proper_dtd_law(session.grammar().dtd());
-    match complete_by(
+    match complete_remembering(
         alloc,
         session.grammar(),
         session.root(),
         session.doc(),
         verdicts,
+        remembered,
     ) {
         Ok(Completion { count, body, .. }) => Ok(Reply::Completed(count, body)),
         Err(error) => refusal_reply(session, error),
     }
 }
 
-// The document with the missing elements, or why it isn't told.
-fn completion_reply(alloc: Global, opened: &OpenedSession) -> Result<Reply, NoMemory>
-    ensures tells { IfOk result (TellsCompletion opened.now) }
+/// The document with the missing elements, or why it isn't told, by what is remembered.
+pub fn completion_reply(
+    alloc: Global,
+    session: &Session,
+    remembered: &mut Remembered,
+) -> Result<Reply, NoMemory>
+    requires remembers { Remembers session.now.dtd remembered.old }
+    requires prolog { IsProlog session.now.root session.now.doc.before }
+    ensures tells { IfOk result (TellsCompletion session.now) }
     ensures not_done { IfOk result (λ told. done_of told ≡ None) }
+    ensures remembers { Remembers session.now.dtd remembered.new }
 {
-    let session = opened.session();
     let verdicts = session.verdicts()?;
     match impossible(alloc, session, &verdicts)? {
         Some(reply) => Ok(reply),
-        None => completion_reply_by(alloc, session, &verdicts),
+        None => completion_reply_by(alloc, session, &verdicts, remembered),
     }
 }
 
 /// The reply to `complete`. The session's document stays as it is.
-pub fn complete(alloc: Global, session: &OpenedSession) -> Result<Answer, NoMemory>
-    ensures { IfOk result (IsReplyBy session.now Command.Complete session.now) }
+pub fn complete(alloc: Global, session: &mut OpenedSession) -> Result<Answer, NoMemory>
+    ensures replied { IfOk result (IsReplyBy session.old Command.Complete session.new) }
+    ensures same { session.new ≡ session.old }
 {
-    let reply = completion_reply(alloc, session)?;
+    let reply = session.complete(alloc)?;
     match reply {
         Reply::Completed(count, body) => completed(alloc, count, body),
         other_reply => other(alloc, &other_reply),

@@ -1,13 +1,13 @@
 //! A session on a document that was opened, and what it remembers of weights.
 
 ghost use Rattle.std.specs.Prelude.{◌≡◌, ◌≤◌, ◌+◌, IfOk, MatchOption, None};
-ghost use Rattle.pv_conversation.specs.MissingReplies.{TellsNeed};
+ghost use Rattle.pv_conversation.specs.MissingReplies.{TellsCompletion, TellsNeed};
 ghost use Rattle.pv_conversation.specs.Session.{done_of};
 ghost use Rattle.pv_session.specs.Answers.{back_answer, edit_answer};
 ghost use Rattle.pv_session.specs.Steps.{IsEditStep, IsRedoStep, IsUndoStep};
 ghost use Rattle.pv_tree.specs.Prolog.{IsProlog};
 
-use crate::missing::need_reply;
+use crate::missing::{completion_reply, need_reply};
 use pv_chars::NoMemory;
 use pv_complete::Remembered;
 use pv_edit::{Ask, Done, Edit, EditAnswer};
@@ -79,6 +79,17 @@ impl OpenedSession {
         ensures not_done { IfOk result (λ told. done_of told ≡ None) }
     {
         need_reply(alloc, &self.session, &mut self.remembered)
+    }
+
+    /// The document with the missing elements, or why it isn't told. Lists that were completed before
+    /// aren't completed again.
+    pub fn complete(&mut self, alloc: Global) -> Result<Reply, NoMemory>
+        ensures same { self.new ≡ self.old }
+        ensures tells { IfOk result (TellsCompletion self.old) }
+        ensures not_done { IfOk result (λ told. done_of told ≡ None) }
+    {
+        session_law(&self.session);
+        completion_reply(alloc, &self.session, &mut self.remembered)
     }
 
     /// Makes an edit, where it is accepted.
