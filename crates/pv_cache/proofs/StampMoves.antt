@@ -99,7 +99,7 @@ module _ (g : PlainDtd) (root : List ℕ) where
     abbrev c : Change Mark
     c = change_of blank_mark old.root edit
 
-    same_lists : lists_changed c ≡ changed_lists (makes edit)
+    pub same_lists : lists_changed c ≡ changed_lists (makes edit)
     same_lists = lists blank_mark old (doc_after c old) edit (is_given g root old edit given)
 
     count_after : IsKept old.root → NodesAreCounted Mark →

@@ -18,4 +18,5 @@ pub mod GrammarPlans
 pub mod PlainMarked
 pub mod PlainForms
 pub mod GroundLaws
+pub mod JudgedMoves
 pub mod MarkLaws

@@ -16,9 +16,7 @@ use Rattle.pv_tree.specs.declared.nodes.Verdict.{Verdict}
 abbrev mutual
   pub marks_in : {M : Type 0} → Tree M → List M
   marks_in (element x attrs ending kids mark) = mark ∷ marks_in_all kids
-  marks_in (text_node units) = []
-  marks_in (cdata_node bytes) = []
-  marks_in (misc_node bytes) = []
+  marks_in t = []
 
   pub marks_in_all : {M : Type 0} → Forest M → List M
   marks_in_all no_trees = []
@@ -36,6 +34,19 @@ pub record IsVerdictAt {M : Type 0} (g : PlainDtd) (root : List ℕ) (doc : Plai
   pub judged : ∥ IsVerdict g root (record
       { path = path; owner = owner_at path doc.root; kids = forest_of kids }) v ∥₁
 
+-- The rows tell of each list, in document order, its path, its verdict and its stamp.
+pub record AreRows (s : StampedDoc) (rows : List VerdictRow) : Type 0 where
+  pub paths : map (λ (row : VerdictRow). row.path) rows ≡
+      map (λ (list : Listed ℕ). list.path) (lists_of s.doc)
+  pub verdicts : ∥ AreVerdicts s.dtd s.root (lists_of s.doc)
+      (map (λ (row : VerdictRow). row.verdict) rows) ∥₁
+  pub stamps : map (λ (row : VerdictRow). row.stamp) rows ≡ marks_of s.doc
+
+-- these are the verdicts of its lists, and the path of its first Impossible list, if there is one
+abbrev pub TellVerdicts : StampedDoc → PlainVerdicts → Type 0
+TellVerdicts s vs = ∥ HaveVerdicts s.dtd s.root (lists_of s.doc) vs ∥₁
+
+-- ---- as the marks tell it
 abbrev pub path_of : {M : Type 0} → Listed M → List ℕ
 path_of list = list.path
 
@@ -48,17 +59,6 @@ row_verdict row = row.verdict
 abbrev pub row_stamp : VerdictRow → ℕ
 row_stamp row = row.stamp
 
--- The rows tell of each list, in document order, its path, its verdict and its stamp.
-pub record AreRows (s : StampedDoc) (rows : List VerdictRow) : Type 0 where
-  pub paths : map row_path rows ≡ map path_of (lists_of s.doc)
-  pub verdicts : ∥ AreVerdicts s.dtd s.root (lists_of s.doc) (map row_verdict rows) ∥₁
-  pub stamps : map row_stamp rows ≡ marks_of s.doc
-
--- these are the verdicts of its lists, and the path of its first Impossible list, if there is one
-abbrev pub TellVerdicts : StampedDoc → PlainVerdicts → Type 0
-TellVerdicts s vs = ∥ HaveVerdicts s.dtd s.root (lists_of s.doc) vs ∥₁
-
--- ---- as the marks tell it
 abbrev pub row_at : List ℕ → Mark → VerdictRow
 row_at path mark = record { path = path; verdict = mark.verdict; stamp = mark.stamp }
 

@@ -4,8 +4,7 @@ use Rattle.std.specs.Prelude.{List, None, Option, Some, [], ℕ, ◌++◌, ◌�
 use Rattle.pv_cache.specs.declared.updates.InnerVerdict.{InnerVerdict}
 use Rattle.pv_dtd.specs.Plain.{PlainDtd}
 use Rattle.pv_edit.specs.Changes.{change_below}
-use Rattle.pv_tree.specs.Plain.{PlainDoc, Tree, cdata_node, element, map_marks, misc_node}
-use Rattle.pv_tree.specs.Plain.{text_node}
+use Rattle.pv_tree.specs.Plain.{PlainDoc, Tree, element, map_marks}
 use Rattle.pv_tree.specs.declared.nodes.Mark.{Mark}
 
 -- A document for a DTD and a root's name. The mark of each list is its stamp.
@@ -33,9 +32,7 @@ stamps_of doc = doc_as stamp_of doc
 -- an element with another mark
 abbrev pub with_mark : {M : Type 0} → M → Tree M → Tree M
 with_mark m (element x attrs ending kids mark) = element x attrs ending kids m
-with_mark m (text_node units) = text_node units
-with_mark m (cdata_node bytes) = cdata_node bytes
-with_mark m (misc_node bytes) = misc_node bytes
+with_mark m t = t
 
 -- a document in which the list at a path has another mark
 abbrev pub with_mark_at : {M : Type 0} → M → List ℕ → PlainDoc M → PlainDoc M

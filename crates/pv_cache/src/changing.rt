@@ -101,6 +101,9 @@ impl WellMarked {
         ensures wide { IfErr result (λ e. e ≡ too_wide →
             ¬ AreNarrowAfter self.now.grammar (plain_task task.now)
             (kids_at task.now.list (plain_doc self.now.doc).root)) }
+        ensures each { IfOk result (λ verdicts.
+            steps.new ≡ steps.old + length (changed_by [] verdicts.inner)) }
+        ensures none { IfErr result (λ e. e ≡ too_wide → steps.new ≡ steps.old) }
         ensures steps { steps.new ≤ steps.old + 2 }
         ensures later { steps.old ≤ steps.new }
     {

@@ -1,12 +1,14 @@
 //! The decision on a change of one list, by the verdicts of the lists that it changes.
 
 ghost use Rattle.std.specs.Prelude.{◌≡◌, ◌≤◌, ◌+◌, true, IfErr, IfOk, IfSome, MatchOption, Some};
-ghost use Rattle.std.specs.Prelude.{false, None};
+ghost use Rattle.std.specs.Prelude.{false, length, None};
 ghost use Rattle.pv_cache.specs.BadLists.{bad_gained, bad_lost};
 ghost use Rattle.pv_cache.specs.VerdictsAfterChange.{AreJudged, IsFirstAmong, owner_at};
 ghost use Rattle.pv_cache.specs.MarkedTasks.{IsTaskFor, IsUnaccepted};
 ghost use Rattle.pv_cache.specs.ChangedWords.{AreListTokens, AreWords};
 ghost use Rattle.pv_cache.specs.declared.updates.InnerVerdict.{InnerVerdict};
+ghost use Rattle.pv_cache.specs.JudgedMoves.{CountsEdit};
+ghost use Rattle.pv_edit.specs.BroughtElements.{lists_changed};
 ghost use Rattle.pv_edit.specs.Changes.{list_after};
 ghost use Rattle.pv_edit.specs.FittingChanges.{plain_task};
 ghost use Rattle.pv_edit.specs.Reasons.{kids_at};
@@ -81,6 +83,8 @@ impl WellMarked {
             ≤ bad_lost (plain_task task.now) (plain_doc self.now.doc)) }
         ensures refused { IfErr result (IsUnaccepted self.now.grammar self.now.root
             (plain_doc self.now.doc) (plain_task task.now)) }
+        ensures each { CountsEdit (length (lists_changed (plain_task task.now))) steps.old
+            steps.new result }
         ensures steps { steps.new ≤ steps.old + 2 }
         ensures later { steps.old ≤ steps.new }
     {
@@ -118,6 +122,8 @@ impl WellMarked {
             (kids_at task.now.list (plain_doc self.now.doc).root))) found.1) }
         ensures refused { IfErr result (IsUnaccepted self.now.grammar self.now.root
             (plain_doc self.now.doc) (plain_task task.now)) }
+        ensures each { CountsEdit (length (lists_changed (plain_task task.now))) steps.old
+            steps.new result }
         ensures steps { steps.new ≤ steps.old + 2 }
         ensures later { steps.old ≤ steps.new }
     {

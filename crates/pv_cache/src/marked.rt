@@ -1,13 +1,15 @@
 //! A document whose marks tell the verdict of each list, whatever edits came before.
 
 ghost use Rattle.std.specs.Prelude.{◌≡◌, ◌≤◌, ◌+◌, ℕ, None, IfErr, IfOk, MatchOption};
-ghost use Rattle.std.specs.Prelude.{OnErr, OnOk};
+ghost use Rattle.std.specs.Prelude.{OnErr, OnOk, length};
 ghost use Rattle.std.specs.List.{AllByRecursion};
 ghost use Rattle.pv_cache.specs.AcceptedEdits.{IsAccepted, IsHoldable, MAX_EDITED_NODES};
+ghost use Rattle.pv_cache.specs.JudgedMoves.{CountsEdit};
 ghost use Rattle.pv_cache.specs.Moves.{HasBad, HasGround, HasOpen, IsEdited, IsReverted};
 ghost use Rattle.pv_cache.specs.Rows.{AreRows, IsVerdictAt, TellVerdicts};
 ghost use Rattle.pv_cache.specs.Stamps.{doc_as, stamps_of};
 ghost use Rattle.pv_cache.specs.WellMarked.{IsWellMarked};
+ghost use Rattle.pv_edit.specs.ChangedLists.{changed_lists, makes};
 ghost use Rattle.pv_edit.specs.Inverses.{IsKept, LeadsBack};
 ghost use Rattle.pv_missing.specs.Verdicts.{HaveVerdicts};
 ghost use Rattle.pv_missing.specs.Widths.{IsListForVerdict};
@@ -115,6 +117,8 @@ impl Marked {
             IsAccepted 0 self.now.dtd self.now.root self.now.doc edit.now edited) }
         ensures refused { IfErr result (HasGround 0 self.now.dtd self.now.root self.now.doc
             edit.now) }
+        ensures each { CountsEdit (length (changed_lists (makes edit.now))) steps.old steps.new
+            result }
         ensures steps { steps.new ≤ steps.old + 2 }
         ensures later { steps.old ≤ steps.new }
     {
@@ -145,6 +149,8 @@ impl Marked {
         ensures refused { IfErr result (HasGround 0 self.old.dtd self.old.root self.old.doc
             edit.now) }
         ensures unchanged { OnErr result (self.new ≡ self.old) }
+        ensures each { CountsEdit (length (changed_lists (makes edit.now))) steps.old steps.new
+            result }
         ensures steps { steps.new ≤ steps.old + 2 }
         ensures later { steps.old ≤ steps.new }
     {
@@ -168,6 +174,7 @@ impl Marked {
             IfOk result (λ done. IsReverted self.old inverse.now back.edit before stamp done
             self.new) }
         ensures unchanged { OnErr result (self.new ≡ self.old) }
+        ensures each { IfOk result (λ done. steps.new ≡ steps.old + done.checked) }
         ensures steps { steps.new ≤ steps.old + 2 }
         ensures later { steps.old ≤ steps.new }
     {

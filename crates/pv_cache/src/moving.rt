@@ -1,14 +1,17 @@
 //! Edits of a well marked document, and taking them back.
 
 ghost use Rattle.std.specs.Prelude.{◌≡◌, ◌≤◌, ◌+◌, nat_lt, IfErr, IfOk, None, OnErr, OnOk};
+ghost use Rattle.std.specs.Prelude.{[], length, ℕ};
 ghost use Rattle.pv_cache.specs.AcceptedEdits.{IsAccepted, IsHoldable, MAX_EDITED_NODES};
 ghost use Rattle.pv_cache.specs.VerdictsAfterChange.{AreJudged, owner_at};
 ghost use Rattle.pv_cache.specs.MarkedTasks.{AreNarrowAfter, IsReady, IsTaskFor, edited_doc};
 ghost use Rattle.pv_cache.specs.ChangedWords.{AreListTokens};
+ghost use Rattle.pv_cache.specs.JudgedMoves.{CountsEdit, CountsRefused};
 ghost use Rattle.pv_cache.specs.Moves.{HasGround, IsEdited, IsReverted};
 ghost use Rattle.pv_cache.specs.PlainForms.{stamped_doc};
 ghost use Rattle.pv_cache.specs.PlainMarked.{plain_marked};
-ghost use Rattle.pv_cache.specs.Stamps.{stamps_of};
+ghost use Rattle.pv_cache.specs.Stamps.{changed_by, stamps_of};
+ghost use Rattle.pv_edit.specs.ChangedLists.{changed_lists, makes};
 ghost use Rattle.pv_edit.specs.Changes.{list_after};
 ghost use Rattle.pv_edit.specs.Counts.{nodes_made, nodes_taken};
 ghost use Rattle.pv_edit.specs.FittingChanges.{plain_task};
@@ -62,6 +65,8 @@ impl WellMarked {
         ensures task { IfOk result (λ ready. IsTaskFor (plain_doc self.now.doc) ready.task) }
         ensures refused { IfErr result (HasGround 0 self.now.grammar self.now.root
             (stamps_of (plain_doc self.now.doc)) edit.now) }
+        ensures none { IfErr result (λ why. (lists count : ℕ) →
+            CountsRefused lists count count why) }
     {
         changed_lists_law::<Mark>();
         nodes_law::<Mark>();
@@ -82,6 +87,8 @@ impl WellMarked {
         ensures task { IfOk result (λ ready. IsTaskFor (plain_doc self.new.doc) ready.task) }
         ensures refused { IfErr result (HasGround 0 self.old.grammar self.old.root
             (stamps_of (plain_doc self.old.doc)) edit.now) }
+        ensures none { IfErr result (λ why. (lists count : ℕ) →
+            CountsRefused lists count count why) }
     {
         let ready = self.prepare_edit(edit)?;
         self.keep(&ready.task.list);
@@ -106,6 +113,8 @@ impl WellMarked {
             (stamps_of (edited_doc (plain_doc self.now.doc) _edit.now))) }
         ensures refused { IfErr result (HasGround 0 self.now.grammar self.now.root
             (stamps_of (plain_doc self.now.doc)) _edit.now) }
+        ensures each { CountsEdit (length (changed_lists (makes _edit.now))) steps.old steps.new
+            result }
         ensures steps { steps.new ≤ steps.old + 2 }
         ensures later { steps.old ≤ steps.new }
     {
@@ -133,6 +142,8 @@ impl WellMarked {
             (stamps_of (edited_doc (plain_doc self.now.doc) edit.now))) }
         ensures refused { IfErr result (HasGround 0 self.now.grammar self.now.root
             (stamps_of (plain_doc self.now.doc)) edit.now) }
+        ensures each { CountsEdit (length (changed_lists (makes edit.now))) steps.old steps.new
+            result }
         ensures steps { steps.new ≤ steps.old + 2 }
         ensures later { steps.old ≤ steps.new }
     {
@@ -153,6 +164,8 @@ impl WellMarked {
         ensures refused { IfErr result (HasGround 0 self.old.grammar self.old.root
             (stamps_of (plain_doc self.old.doc)) edit.now) }
         ensures unchanged { OnErr result (stamped_doc self.new ≡ stamped_doc self.old) }
+        ensures each { CountsEdit (length (changed_lists (makes edit.now))) steps.old steps.new
+            result }
         ensures steps { steps.new ≤ steps.old + 2 }
         ensures later { steps.old ≤ steps.new }
     {
@@ -176,6 +189,8 @@ impl WellMarked {
         ensures refused { IfErr result (HasGround 0 self.old.grammar self.old.root
             (stamps_of (plain_doc self.old.doc)) edit.now) }
         ensures unchanged { OnErr result (stamped_doc self.new ≡ stamped_doc self.old) }
+        ensures each { CountsEdit (length (changed_lists (makes edit.now))) steps.old steps.new
+            result }
         ensures steps { steps.new ≤ steps.old + 2 }
         ensures later { steps.old ≤ steps.new }
     {
@@ -210,6 +225,8 @@ impl WellMarked {
         ensures tokens { IfOk result (λ found. AreListTokens self.now.grammar
             (forest_of (list_after (plain_task task.now)
             (kids_at task.now.list (plain_doc self.now.doc).root))) found.1) }
+        ensures each { IfOk result (λ found.
+            steps.new ≡ steps.old + length (changed_by [] found.0.inner)) }
         ensures steps { steps.new ≤ steps.old + 2 }
         ensures later { steps.old ≤ steps.new }
     {
@@ -237,6 +254,7 @@ impl WellMarked {
             IfOk result (λ done. IsReverted (stamped_doc self.old) inverse.now back.edit before
             stamp done (stamped_doc self.new)) }
         ensures unchanged { OnErr result (stamped_doc self.new ≡ stamped_doc self.old) }
+        ensures each { IfOk result (λ done. steps.new ≡ steps.old + done.checked) }
         ensures steps { steps.new ≤ steps.old + 2 }
         ensures later { steps.old ≤ steps.new }
     {

@@ -1,9 +1,11 @@
-use Rattle.std.proofs.Common.{ap, subst}
+use Rattle.std.proofs.Common.{ap, length, subst}
 use Rattle.std.specs.Prelude.{IfErr, IfOk, OnErr, ◌≡◌}
 use Rattle.pv_cache.specs.Moves.{HasGround, IsEdited}
 use Rattle.pv_cache.specs.PlainForms.{stamped_doc}
 use Rattle.pv_cache.specs.PlainMarked.{PlainMarked}
 use Rattle.pv_cache.specs.Stamps.{StampedDoc, stamped_doc_of}
+use Rattle.pv_edit.specs.ChangedLists.{changed_lists, makes}
+use Rattle.std.proofs.lemmas.Result.{err_from_is_err_and}
 use Rattle.pv_cache.proofs.well_marked.WellMarked.edit.Goals as goal
 
 -- the document with its stamps
@@ -29,3 +31,9 @@ returns-clause-unchanged g c =
     subst (λ (s : StampedDoc).
     OnErr c.edit_prepared.result (stamped_doc c.edit_prepared.new.self ≡ s))
     (ap stamped c.in_ok-ready.ensures.same) c.edit_prepared.ensures.unchanged
+
+pub returns-in_err-ready-clause-each : goal.returns-in_err-ready-clause-each
+returns-in_err-ready-clause-each g c =
+    let p = err_from_is_err_and c.from_residual.result c.from_residual.ensures.1 in
+    rw (p.1, p.2)
+    (c.in_err-ready.ensures.none (length (changed_lists (makes c.args.edit.now))) c.args.steps.now)

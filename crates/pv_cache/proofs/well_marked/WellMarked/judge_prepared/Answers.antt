@@ -1,12 +1,14 @@
-use Rattle.std.proofs.Common.{◌≤◌, subst}
+use Rattle.std.proofs.Common.{ap, length, List, subst, ℕ, ◌∙◌, ◌≤◌}
 use Rattle.std.proofs.lemmas.Result.{err_from_is_err_and}
+use Rattle.pv_edit.specs.BroughtElements.{lists_changed}
 use Rattle.pv_edit.specs.Changes.{Change, root_after}
 use Rattle.pv_edit.specs.FittingChanges.{plain_task}
 use Rattle.pv_tree.specs.Plain.{nodes_in}
 use Rattle.pv_tree.specs.PlainDocs.{plain_doc}
 use Rattle.pv_tree.specs.declared.nodes.Mark.{Mark}
 use Rattle.pv_cache.specs.AcceptedEdits.{MAX_EDITED_NODES}
-use Rattle.pv_cache.proofs.StampMoves.{edit_accepted, edit_refused}
+use Rattle.pv_cache.specs.JudgedMoves.{CountsRefused}
+use Rattle.pv_cache.proofs.StampMoves.{edit_accepted, edit_refused, same_lists}
 use Rattle.pv_cache.proofs.well_marked.WellMarked.judge_prepared.Goals as goal
 
 pub returns-in_err-verdicts-clause-refused : goal.returns-in_err-verdicts-clause-refused
@@ -51,3 +53,15 @@ returns-clause-ready g c =
       no_more = c.in_ok-verdicts.ensures.no_more;
       tokens = c.in_ok-verdicts.ensures.tokens;
     }
+
+pub returns-in_err-verdicts-clause-each : goal.returns-in_err-verdicts-clause-each
+returns-in_err-verdicts-clause-each g c =
+    let p = err_from_is_err_and c.from_residual.result c.from_residual.ensures.1 in
+    let lists =
+    ap lists_changed c.requires.prepared.change
+    ∙ same_lists c.args.self.now.grammar c.args.self.now.root (plain_doc c.args.self.now.doc)
+    c.args._edit.now c.requires.given c.changed_lists_law.ensures.made in
+    rw (p.1, p.2)
+    (subst (λ (paths : List (List ℕ)).
+    CountsRefused (length paths) c.args.steps.now c.judge_change.new.steps
+    c.in_err-verdicts.field-0.0) lists c.in_err-verdicts.ensures.each)
