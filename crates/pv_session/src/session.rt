@@ -1,13 +1,15 @@
 //! A session on a document.
 
-ghost use Rattle.std.specs.Prelude.{◌≡◌, ◌≤◌, ◌<◌, ◌+◌, None, IfOk, MatchOption, OnOk};
-ghost use Rattle.std.specs.Prelude.{vec_capacity, vec_len};
+ghost use Rattle.std.specs.Prelude.{◌≡◌, ◌≤◌, ◌<◌, ◌+◌, None, IfErr, IfOk, MatchOption, OnOk};
+ghost use Rattle.std.specs.Prelude.{length, vec_capacity, vec_len};
 ghost use Rattle.std.specs.List.{AllByRecursion};
 ghost use Rattle.pv_cache.specs.AcceptedEdits.{MAX_EDITED_NODES};
+ghost use Rattle.pv_cache.specs.JudgedMoves.{CountsEdit};
 ghost use Rattle.pv_cache.specs.Moves.{HasBad, HasOpen};
 ghost use Rattle.pv_cache.specs.Rows.{AreRows, IsVerdictAt, TellVerdicts};
 ghost use Rattle.pv_cache.specs.Stamps.{stamps_of};
 ghost use Rattle.pv_cache.specs.WellMarked.{IsWellMarked};
+ghost use Rattle.pv_edit.specs.ChangedLists.{changed_lists, makes};
 ghost use Rattle.pv_missing.specs.Verdicts.{HaveVerdicts};
 ghost use Rattle.pv_missing.specs.Widths.{IsListForVerdict};
 ghost use Rattle.pv_productive.specs.PlainForms.{dtd_of};
@@ -15,6 +17,7 @@ ghost use Rattle.pv_session.specs.Answers.{back_answer, edit_answer};
 ghost use Rattle.pv_session.specs.SessionFacts.{IsSession};
 ghost use Rattle.pv_session.specs.Sessions.{session_on, next_move, stamped_document};
 ghost use Rattle.pv_session.specs.Steps.{IsEditStep, IsRedoStep, IsUndoStep};
+ghost use Rattle.pv_session.specs.declared.answers.BackAnswer.TheVariants.{NoHistory};
 ghost use Rattle.pv_tree.specs.Lists.{lists_of};
 ghost use Rattle.pv_tree.specs.Marks.{unmarked_doc};
 ghost use Rattle.pv_tree.specs.Places.{list_at};
@@ -168,6 +171,8 @@ impl Session {
     pub fn edit<L: Ledger>(&mut self, edit: &Edit, steps: &mut Steps<L>) -> Result<Done, EditAnswer>
         ensures stepped { MatchOption (edit_answer result) (self.new ≡ self.old)
             (λ answer. IsEditStep self.old edit.now answer self.new) }
+        ensures each { CountsEdit (length (changed_lists (makes edit.now))) steps.old steps.new
+            result }
         ensures steps { steps.new ≤ steps.old + 2 }
         ensures later { steps.old ≤ steps.new }
     {
@@ -197,6 +202,8 @@ impl Session {
     pub fn undo<L: Ledger>(&mut self, steps: &mut Steps<L>) -> Result<Done, BackAnswer>
         ensures stepped { MatchOption (back_answer result) (self.new ≡ self.old)
             (λ answer. IsUndoStep self.old answer self.new) }
+        ensures each { IfOk result (λ done. steps.new ≡ steps.old + done.checked) }
+        ensures none { IfErr result (λ why. why ≡ NoHistory → steps.new ≡ steps.old) }
         ensures steps { steps.new ≤ steps.old + 2 }
         ensures later { steps.old ≤ steps.new }
     {
@@ -229,6 +236,8 @@ impl Session {
     pub fn redo<L: Ledger>(&mut self, steps: &mut Steps<L>) -> Result<Done, BackAnswer>
         ensures stepped { MatchOption (back_answer result) (self.new ≡ self.old)
             (λ answer. IsRedoStep self.old answer self.new) }
+        ensures each { IfOk result (λ done. steps.new ≡ steps.old + done.checked) }
+        ensures none { IfErr result (λ why. why ≡ NoHistory → steps.new ≡ steps.old) }
         ensures steps { steps.new ≤ steps.old + 2 }
         ensures later { steps.old ≤ steps.new }
     {
