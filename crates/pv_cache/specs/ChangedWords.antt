@@ -63,6 +63,7 @@ AreKeptTokens g doc kept =
 abbrev pub AreKeptLists : PlainDtd → PlainDoc Mark → KeptLists → Type 0
 AreKeptLists g doc kept =
     ForSome kept.last (AreKeptTokens g doc) × ForSome kept.asked (AreKeptTokens g doc)
+    × ForSome kept.older (AreKeptTokens g doc)
 
 -- these nodes come, or an element of this name
 abbrev pub IsComing : List (Tree Mark) → Coming → Type 0

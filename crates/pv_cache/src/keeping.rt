@@ -9,7 +9,7 @@ ghost use Rattle.pv_tree.specs.Plain.{forest_of};
 ghost use Rattle.pv_tree.specs.PlainDocs.{plain_doc};
 
 use crate::kept_lists::{KEPT_KIDS, KeptTokens};
-use crate::planned::Again;
+use crate::planned::{Again, REMEMBERED_TOKENS};
 use crate::well_marked::WellMarked;
 use crate::words::{ListTokens, number_shown, tokens_of};
 use pv_edit::{Ask, Task};
@@ -62,6 +62,36 @@ impl WellMarked {
         if let Some(tokens) = self.kept.at(list) {
             let word = &tokens.word.tokens;
             self.grammar.remember_asked(self.alloc, owner, word);
+        }
+    }
+
+    /// Keeps the tokens of the list in which an edit is tried. Where the edit before was tried there
+    /// too, and refused, the list's word is remembered as well.
+    pub(crate) fn keep_tried(&mut self, list: &Path)
+        ensures { plain_marked self.new ≡ plain_marked self.old }
+    {
+        if self.kept.was_tried_in(list) {
+            self.keep_asked(list);
+            return;
+        }
+        self.keep(list);
+        self.note_tried(list);
+    }
+
+    // Notes the list in which an edit is tried, if its word is long.
+    fn note_tried(&mut self, list: &Path)
+        ensures { plain_marked self.new ≡ plain_marked self.old }
+    {
+        if self.has_long_word(list) {
+            self.kept.try_in(Path::new(self.alloc, list.places()).ok());
+        }
+    }
+
+    // Whether the tokens of the list at a path are kept, and its word is one to remember.
+    fn has_long_word(&self, list: &Path) -> bool {
+        match self.kept.at(list) {
+            Some(tokens) => tokens.word.tokens.len() >= REMEMBERED_TOKENS,
+            None => false,
         }
     }
 

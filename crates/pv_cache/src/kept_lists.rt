@@ -1,5 +1,5 @@
-//! The tokens of two lists, which are kept: of the one that was changed last, and of one that an
-//! edit was asked of or that was changed before.
+//! The tokens of three lists, which are kept: of the one that was changed last, and of two that an
+//! edit was asked of or that were changed before.
 
 ghost use Rattle.std.specs.Prelude.{◌≡◌, IfSome, IsTrue};
 ghost use Rattle.std.specs.Option.{ForSome};
@@ -25,11 +25,14 @@ pub struct KeptTokens {
     pub tokens: ListTokens,
 }
 
-/// The tokens of the list that was changed last, and of another one.
+/// The tokens of the list that was changed last, and of two others; and the path of the list in
+/// which an edit was tried last, if nothing was changed since.
 #[derive(Drop)]
 pub struct KeptLists {
     pub last: Option<KeptTokens>,
     pub asked: Option<KeptTokens>,
+    pub older: Option<KeptTokens>,
+    pub tried: Option<Path>,
 }
 
 // Whether a list isn't the one at a path, and isn't below it.
@@ -65,27 +68,35 @@ impl KeptTokens {
     }
 }
 
-// Of two lists whose tokens are kept, one whose tokens stay right where the list at a path changes.
-fn lasting(
-    changed: &[u32],
+// What is kept of a list, where its tokens stay right once the list at a path changes.
+fn lasting(changed: &[u32], kept: Option<KeptTokens>) -> Option<KeptTokens>
+    ensures held { (g : PlainDtd) (doc : PlainDoc Mark) → ForSome kept (AreKeptTokens g doc) →
+        ForSome result (AreKeptTokens g doc) }
+    ensures apart { ForSome result (λ tokens. IsTrue (is_apart changed.now tokens.list)) }
+{
+    let kept = kept?;
+    if kept.outlast(changed) {
+        Some(kept)
+    } else {
+        None
+    }
+}
+
+// What is kept of the first two of some lists, of which each may be missing.
+fn first_two(
     last: Option<KeptTokens>,
     asked: Option<KeptTokens>,
-) -> Option<KeptTokens>
-    ensures held { (g : PlainDtd) (doc : PlainDoc Mark) → ForSome last (AreKeptTokens g doc) →
-        ForSome asked (AreKeptTokens g doc) → ForSome result (AreKeptTokens g doc) }
-    ensures apart { ForSome result (λ kept. IsTrue (is_apart changed.now kept.list)) }
+    older: Option<KeptTokens>,
+) -> (Option<KeptTokens>, Option<KeptTokens>)
+    ensures { (g : PlainDtd) (doc : PlainDoc Mark) → ForSome last (AreKeptTokens g doc) →
+        ForSome asked (AreKeptTokens g doc) → ForSome older (AreKeptTokens g doc) →
+        ForSome result.0 (AreKeptTokens g doc) × ForSome result.1 (AreKeptTokens g doc) }
 {
-    if let Some(last) = last {
-        if last.outlast(changed) {
-            return Some(last);
-        }
+    match (last, asked) {
+        (None, asked) => (asked, older),
+        (last, None) => (last, older),
+        (last, asked) => (last, asked),
     }
-    if let Some(asked) = asked {
-        if asked.outlast(changed) {
-            return Some(asked);
-        }
-    }
-    None
 }
 
 impl KeptLists {
@@ -96,6 +107,8 @@ impl KeptLists {
         KeptLists {
             last: None,
             asked: None,
+            older: None,
+            tried: None,
         }
     }
 
@@ -115,7 +128,28 @@ impl KeptLists {
                 return Some(tokens);
             }
         }
+        if let Some(older) = &self.older {
+            if let Some(tokens) = older.of_list(list) {
+                return Some(tokens);
+            }
+        }
         None
+    }
+
+    /// Whether an edit was tried last in the list at a path, and nothing was changed since.
+    pub(crate) fn was_tried_in(&self, list: &Path) -> bool {
+        match &self.tried {
+            Some(tried) => tried.places() == list.places(),
+            None => false,
+        }
+    }
+
+    /// Notes the list in which an edit is tried.
+    pub(crate) fn try_in(&mut self, list: Option<Path>)
+        ensures { (g : PlainDtd) (doc : PlainDoc Mark) → AreKeptLists g doc self.old →
+            AreKeptLists g doc self.new }
+    {
+        self.tried = list;
     }
 
     /// Keeps the tokens of a list that an edit is asked of.
@@ -123,6 +157,7 @@ impl KeptLists {
         ensures { (g : PlainDtd) (doc : PlainDoc Mark) → AreKeptLists g doc self.old →
             AreKeptTokens g doc asked → AreKeptLists g doc self.new }
     {
+        self.older = self.asked.take();
         self.asked = Some(asked);
     }
 
@@ -135,9 +170,14 @@ impl KeptLists {
             AreListTokens g (forest_of (kids_at list after.root)) tokens →
             AreKeptLists g after self.new }
     {
-        let last = self.last.take();
-        let asked = self.asked.take();
-        self.asked = lasting(list.places(), last, asked);
+        let changed = list.places();
+        let last = lasting(changed, self.last.take());
+        let asked = lasting(changed, self.asked.take());
+        let older = lasting(changed, self.older.take());
+        self.tried = None;
+        let (asked, older) = first_two(last, asked, older);
+        self.asked = asked;
+        self.older = older;
         self.last = Some(KeptTokens { list, tokens });
     }
 }

@@ -9,11 +9,12 @@
 //! none of them is too wide, and no more of them are Impossible than of the lists that they stand
 //! for (`bad_lost`, `bad_gained` in specs/BadLists.antt), the change is made and the marks are told
 //! again, at the changed lists and above them. The changed lists get the stamp of the move, and all
-//! others keep theirs (`IsEdited`, `IsReverted` in specs/Moves.antt). The tokens of two lists are
-//! kept, of the one that was changed last and of one that an edit was asked of, so that the next
-//! edit in either looks up the names alone of what comes, also where it is refused; and beside the
+//! others keep theirs (`IsEdited`, `IsReverted` in specs/Moves.antt). The tokens of three lists are
+//! kept, of the one that was changed last and of two that an edit was asked of, so that the next
+//! edit in each looks up the names alone of what comes, also where it is refused; and beside the
 //! grammar a long word that was judged last is remembered, so that the next one is judged by where
-//! it differs.
+//! it differs. Edits that are tried in one list again and again are judged so too, though they are
+//! refused.
 #![tactic(auto)]
 
 mod bad_lists;

@@ -91,7 +91,7 @@ impl WellMarked {
             CountsRefused lists count count why) }
     {
         let ready = self.prepare_edit(edit)?;
-        self.keep(&ready.task.list);
+        self.keep_tried(&ready.task.list);
         Ok(ready)
     }
 

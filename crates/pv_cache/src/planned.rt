@@ -26,7 +26,7 @@ use std::sync::ledger::Ledger;
 
 /// A word of so many tokens is judged by the last one, where that is remembered: it takes longer to
 /// go over it than to find where it differs.
-const REMEMBERED_TOKENS: usize = 256;
+pub(crate) const REMEMBERED_TOKENS: usize = 256;
 
 /// A grammar, and its rules laid out for all words, once for whoever judges by it. A long word that
 /// was judged last is remembered, since the next one mostly differs from it by a token. Contracts

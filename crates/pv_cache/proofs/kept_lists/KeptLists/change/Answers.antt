@@ -9,19 +9,34 @@ use Rattle.pv_cache.proofs.kept_lists.KeptLists.change.Goals as goal
 
 pub returns : goal.returns
 returns c = λ g before after held stays tokens.
-    let list : c.places.result.now ≡ c.args.list = search rules in
+    let list : c.places-changed.result.now ≡ c.args.list = search rules in
     let last : KeptTokens = record { list = c.args.list; tokens = c.args.tokens } in
-    let stayed =
-    c.lasting.ensures.held g before
+    let two =
+    c.first_two-asked.ensures g after
+    (λ kept e.
+    stays kept
+    (subst (λ (q : List ℕ). IsTrue (is_apart q kept.list)) list
+    (c.lasting-last.ensures.apart kept e))
+    (c.lasting-last.ensures.held g before
     (subst (λ (o : Option KeptTokens). ForSome o (AreKeptTokens g before))
-    (sym c.take-last.ensures.value) held.0)
+    (sym c.take.ensures.value) held.0) kept e))
+    (λ kept e.
+    stays kept
+    (subst (λ (q : List ℕ). IsTrue (is_apart q kept.list)) list
+    (c.lasting-asked.ensures.apart kept e))
+    (c.lasting-asked.ensures.held g before
     (subst (λ (o : Option KeptTokens). ForSome o (AreKeptTokens g before))
-    (sym c.take-asked.ensures.value) held.1) in (
+    (sym c.take-2.ensures.value) held.1) kept e))
+    (λ kept e.
+    stays kept
+    (subst (λ (q : List ℕ). IsTrue (is_apart q kept.list)) list
+    (c.lasting-older.ensures.apart kept e))
+    (c.lasting-older.ensures.held g before
+    (subst (λ (o : Option KeptTokens). ForSome o (AreKeptTokens g before))
+    (sym c.take-3.ensures.value) held.2) kept e)) in (
       λ kept e.
           let same : last ≡ kept = cc in
           subst (AreKeptTokens g after) same (some-kept g after last tokens),
-      λ kept e.
-          stays kept
-          (subst (λ (q : List ℕ). IsTrue (is_apart q kept.list)) list
-          (c.lasting.ensures.apart kept e)) (stayed kept e),
+      two.0,
+      two.1,
     )
