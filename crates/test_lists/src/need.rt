@@ -2,7 +2,6 @@
 //! `list_verdict`, and of the least number of missing elements, of completions and of the tables of
 //! weights, through `need`, `complete` and `tables`; of fronts, and of `missing` by two bounds.
 
-mod calls;
 mod completions;
 mod fronts;
 mod long;

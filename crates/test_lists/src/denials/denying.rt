@@ -1,6 +1,7 @@
 //! What denies documents, as text.
 
-use crate::denials::calls::{PAIR, TURNED, Texts, grammar_of, judged};
+use crate::calls::{Texts, grammar_of};
+use crate::denials::calls::{PAIR, TURNED, judged};
 use pv_denial::{Denial, Judged};
 use pv_denial_text::write_denial;
 use pv_deny::{DenyError, denial_by, deny};
@@ -102,6 +103,15 @@ fn outcomes(rt: HostRuntime) -> Result<(), Fail> {
 
 /// The denial of a document by the plan of its grammar, made after a check that found its first
 /// impossible list.
+fn denied_by_judge(judge: &Judge<'_>, root: &[u8], doc: &Doc) -> Result<Denial, Fail> {
+    match possible_verdicts(judge.alloc(), judge.grammar(), root, doc) {
+        Err(PossibleError::Impossible(path)) => Ok(denial_by(judge, root, doc, path)?),
+        Err(PossibleError::TooWide(_path)) => Err(Fail::new("too wide")),
+        Err(PossibleError::NoMemory) => Err(Fail::new("no memory")),
+        Ok(_verdicts) => Err(Fail::new("possible")),
+    }
+}
+
 fn denied_by_plan(
     alloc: Global,
     grammar: &Grammar,
@@ -110,12 +120,7 @@ fn denied_by_plan(
 ) -> Result<Denial, Fail> {
     let plan = Plan::of(alloc, grammar)?;
     let judge = Judge::new(alloc, grammar, &plan);
-    match possible_verdicts(alloc, grammar, root, doc) {
-        Err(PossibleError::Impossible(path)) => Ok(denial_by(&judge, root, doc, path)?),
-        Err(PossibleError::TooWide(_path)) => Err(Fail::new("too wide")),
-        Err(PossibleError::NoMemory) => Err(Fail::new("no memory")),
-        Ok(_verdicts) => Err(Fail::new("possible")),
-    }
+    denied_by_judge(&judge, root, doc)
 }
 
 fn is_denied_by_plan(alloc: Global, texts: Texts, text: &str) -> Result<bool, Fail> {

@@ -1,6 +1,7 @@
 //! The furthest places of sites.
 
-use crate::denials::calls::{PAIR, grammar_of};
+use crate::calls::grammar_of;
+use crate::denials::calls::PAIR;
 use pv_missing::are_productive;
 use pv_model::{NameId, Token};
 use pv_productive::Grammar;

@@ -2,9 +2,10 @@
 
 ghost use Rattle.std.specs.Prelude.{◌≡◌, ◌<◌};
 
+use crate::calls::Texts;
 use crate::games::comparing::{expect_fresh, expect_same, expect_stamped};
 use crate::games::random::{Random, random_move};
-use crate::games::sessions::{Texts, begin, make};
+use crate::games::sessions::{begin, make};
 use pv_edit::Done;
 use pv_script::{Command, read_command};
 use pv_session::Session;

@@ -52,11 +52,11 @@ fn marked<L: Ledger>(
     is_planned: bool,
     steps: &mut Steps<L>,
 ) -> Result<Marked, Fail> {
-    let grammar = build(alloc, dtd_of(alloc, ARTICLE)?)?;
     let doc = read_doc(alloc, text.as_bytes(), b"doc")?;
     if doc.nodes() > MAX_NODES {
         return Err(Fail::new("too many nodes"));
     }
+    let grammar = build(alloc, dtd_of(alloc, ARTICLE)?)?;
     marked_on(alloc, grammar, b"doc", doc, is_planned, steps)
 }
 

@@ -5,6 +5,7 @@ ghost use Rattle.pv_cache.specs.AcceptedEdits.{MAX_EDITED_NODES};
 ghost use Rattle.pv_tree.specs.Plain.{nodes_in};
 ghost use Rattle.pv_tree.specs.PlainDocs.{plain_doc};
 
+use crate::calls::Texts;
 use pv_chars::bytes_of;
 use pv_edit::{Done, EditAnswer};
 use pv_fresh::check_doc;
@@ -22,9 +23,6 @@ use test_fixture::documents::dtd_of;
 /// The greatest number of nodes of a document in a session.
 const MAX_NODES: u64 = 33_554_432;
 
-/// A DTD, a root and a document.
-pub type Texts = (&'static str, &'static str, &'static str);
-
 /// A session on the document.
 pub fn begin<L: Ledger>(
     alloc: Global,
@@ -32,11 +30,11 @@ pub fn begin<L: Ledger>(
     steps: &mut Steps<L>,
 ) -> Result<Session, Fail> {
     let (dtd, root, text) = texts;
-    let grammar = build(alloc, dtd_of(alloc, dtd)?)?;
     let doc = read_doc(alloc, text.as_bytes(), root.as_bytes())?;
     if doc.nodes() > MAX_NODES {
         return Err(Fail::new("too many nodes"));
     }
+    let grammar = build(alloc, dtd_of(alloc, dtd)?)?;
     begin_on(alloc, grammar, root.as_bytes(), doc, steps)
 }
 

@@ -1,6 +1,6 @@
 //! Least completions of documents.
 
-use crate::need::calls::{Texts, grammar_of};
+use crate::calls::{Texts, grammar_of};
 use pv_complete::{Completion, complete};
 use pv_productive::Grammar;
 use pv_read::read_doc;

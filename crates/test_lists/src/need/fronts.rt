@@ -1,6 +1,6 @@
 //! Columns of a grammar, fronts over a word of them, whether they are closed, and their bounds.
 
-use crate::need::calls::grammar_of;
+use crate::calls::grammar_of;
 use pv_bounds::laws::below_sites_law;
 use pv_bounds::{Far, Fronts, Reach, Row, are_closed, bound};
 use pv_chars::NoMemory;
@@ -96,11 +96,15 @@ fn has_forms(alloc: Global) -> Result<bool, Fail> {
 }
 
 // The column of a site, and what it costs at least over the word.
+fn found_of(alloc: Global, layout: &ColumnLayout<'_>, site: Site) -> Result<(u32, u32), Fail> {
+    let fronts = fronts_over(alloc, 1)?;
+    Ok((layout.column(site), bound(layout, &fronts, site, 1)))
+}
+
 fn column_and_bound(alloc: Global, site: Site) -> Result<(u32, u32), Fail> {
     let grammar = grammar_of(alloc, PAIR)?;
     let layout = lay_out(alloc, &grammar)?;
-    let fronts = fronts_over(alloc, 1)?;
-    Ok((layout.column(site), bound(&layout, &fronts, site, 1)))
+    found_of(alloc, &layout, site)
 }
 
 #[test]

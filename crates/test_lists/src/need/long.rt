@@ -1,6 +1,6 @@
 //! How many elements are missing in documents, by two bounds, against `need` and `complete`.
 
-use crate::need::calls::grammar_of;
+use crate::calls::grammar_of;
 use crate::need::completions::COMPLETED;
 use crate::need::needs::{NEEDS, REFUSED, document, need_of};
 use pv_long::laws::one_least_law;

@@ -1,6 +1,6 @@
 //! How many elements are missing in documents, and why nothing is told of some.
 
-use crate::need::calls::{Texts, grammar_of};
+use crate::calls::{Texts, grammar_of};
 use pv_complete::{NeedError, need};
 use std::alloc::{AllocError, Global};
 use std::test::Fail;

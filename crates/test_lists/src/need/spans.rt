@@ -2,7 +2,7 @@
 
 ghost use Rattle.std.specs.Prelude.{◌≡◌, ◌<◌};
 
-use crate::need::calls::grammar_of;
+use crate::calls::grammar_of;
 use pv_chars::{NoMemory, bytes_of};
 use pv_missing::{Of, live_word};
 use pv_model::NameId;

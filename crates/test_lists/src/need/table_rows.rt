@@ -1,6 +1,6 @@
 //! Tables of weights of documents.
 
-use crate::need::calls::grammar_of;
+use crate::calls::grammar_of;
 use pv_complete::{NeedError, tables};
 use pv_model::NameId;
 use pv_rules::Site;

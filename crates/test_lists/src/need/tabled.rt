@@ -1,6 +1,6 @@
 //! Completions with their tables, against each of both made alone.
 
-use crate::need::calls::{Texts, grammar_of};
+use crate::calls::{Texts, grammar_of};
 use crate::need::completions::{COMPLETED, completion_of};
 use pv_complete::{Completion, TabledCompletion, complete_with_tables, tables};
 use pv_productive::Grammar;
@@ -54,12 +54,22 @@ fn are_tables_of(alloc: Global, texts: Texts, found: &Tables) -> Result<bool, Fa
     Ok(are_same_tables(found, &alone))
 }
 
+// Whether the completion is this one, and its tables those of the document.
+fn is_each(
+    alloc: Global,
+    texts: Texts,
+    both: &TabledCompletion,
+    alone: &Completion,
+) -> Result<bool, Fail> {
+    Ok(is_same_completion(&both.completion, alone) && are_tables_of(alloc, texts, &both.tables)?)
+}
+
 fn is_both(alloc: Global, texts: Texts) -> Result<bool, Fail> {
     let (dtd, root, text) = texts;
     let grammar = grammar_of(alloc, dtd)?;
     let both = tabled_of(alloc, &grammar, root, text)?;
     let alone = completion_of(alloc, &grammar, root, text)?;
-    Ok(is_same_completion(&both.completion, &alone) && are_tables_of(alloc, texts, &both.tables)?)
+    is_each(alloc, texts, &both, &alone)
 }
 
 #[test]

@@ -36,11 +36,11 @@ fn tables_of(alloc: Global, lines: &str) -> Result<Tables, Fail> {
     Ok(read_pack(alloc, pack.as_bytes())?.tables)
 }
 
-fn case_of(alloc: Global, tables: &str) -> Result<Case, Fail> {
+fn case_of(alloc: Global, tables: &str) -> Result<Box<Case>, Fail> {
     let tables = tables_of(alloc, tables)?;
     let dtd = read_dtd(alloc, PAIR)?;
     let doc = read_doc(alloc, b"<a/>", b"a")?;
-    Ok(Case { dtd, doc, tables })
+    Ok(Box::new(alloc, Case { dtd, doc, tables })?)
 }
 
 fn are_closed(alloc: Global, tables: &str) -> Result<bool, Fail> {

@@ -1,7 +1,7 @@
 //! Packs verified.
 
 use pv_cert::{Pack, read_pack};
-use pv_dtd::read_dtd;
+use pv_dtd::{Dtd, read_dtd};
 use pv_read::{DocError, read_doc};
 use pv_verify::{Answer, VerifyError, Why, verify, verify_read};
 use std::alloc::Global;
@@ -28,17 +28,22 @@ fn pack_of(alloc: Global, head: &str, body: &str, tables: &str) -> Result<Pack, 
 // A DTD, a root and a document.
 type Texts = (&'static [u8], &'static [u8], &'static [u8]);
 
+// The DTD that the text is, in a box.
+fn dtd_of(alloc: Global, text: &[u8]) -> Result<Box<Dtd>, Fail> {
+    Ok(Box::new(alloc, read_dtd(alloc, text)?)?)
+}
+
 // What a pack is answered against a document.
 fn answer_to(alloc: Global, texts: Texts, pack: &Pack) -> Result<Answer, Fail> {
     let (dtd, root, doc) = texts;
-    let dtd = read_dtd(alloc, dtd)?;
+    let dtd = dtd_of(alloc, dtd)?;
     Ok(verify(alloc, &dtd, root, doc, pack)?)
 }
 
 // What a pack is answered against the tree of a document.
 fn answer_to_read(alloc: Global, texts: Texts, pack: &Pack) -> Result<Answer, Fail> {
     let (dtd, root, doc) = texts;
-    let dtd = read_dtd(alloc, dtd)?;
+    let dtd = dtd_of(alloc, dtd)?;
     let doc = read_doc(alloc, doc, root)?;
     Ok(verify_read(alloc, &dtd, root, &doc, pack)?)
 }
@@ -146,7 +151,7 @@ fn is_deep_rejected(alloc: Global) -> Result<bool, Fail> {
 }
 
 fn is_document_refused(alloc: Global) -> Result<bool, Fail> {
-    let dtd = read_dtd(alloc, PAIR)?;
+    let dtd = dtd_of(alloc, PAIR)?;
     let pack = pack_of(alloc, HEAD, BODY, TABLE)?;
     Ok(matches!(
         verify(alloc, &dtd, b"a", b"<a>", &pack),

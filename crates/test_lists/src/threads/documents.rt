@@ -116,8 +116,9 @@ pub fn first_difference(verdicts: &Verdicts, others: &Verdicts) -> Option<u64> {
 }
 
 /// The grammar of a drill's DTD.
-pub fn drill_grammar(alloc: Global) -> Result<Grammar, Fail> {
-    Ok(build(alloc, read_dtd(alloc, drill_dtd())?)?)
+pub fn drill_grammar(alloc: Global) -> Result<Box<Grammar>, Fail> {
+    let grammar = build(alloc, read_dtd(alloc, drill_dtd())?)?;
+    Ok(Box::new(alloc, grammar)?)
 }
 
 fn drill_document(alloc: Global) -> Result<Doc, Fail> {
@@ -133,43 +134,100 @@ fn counts_of(alloc: Global, count: u32) -> Result<Vec<AtomicU64>, AllocError> {
     Ok(counts)
 }
 
-#[test]
-fn threads_give_the_answer_of_one(rt: HostRuntime) -> Result<(), Fail> {
-    let alloc = rt.alloc();
-    let grammar = drill_grammar(alloc)?;
-    let doc = drill_document(alloc)?;
-    let wanted = one_thread::<Brand>(alloc, &grammar, &doc, Blank::new(1))?;
+// What several threads find of a document, beside what one thread finds.
+#[derive(Clone, Copy)]
+struct Findings {
+    is_each_told_once: bool,
+    lists: u64,
+    left: u64,
+    is_possible: bool,
+    lists_of_one: u64,
+    difference: Option<u64>,
+}
+
+fn findings_in(gate: &Told, found: &Verdicts, wanted: &Verdicts) -> Findings {
+    Findings {
+        is_each_told_once: gate
+            .counts
+            .iter()
+            .all(|count| count.load(Ordering::SeqCst) == 1),
+        lists: found.len(),
+        left: found.left(),
+        is_possible: found.first_impossible().is_none(),
+        lists_of_one: wanted.len(),
+        difference: first_difference(found, wanted),
+    }
+}
+
+fn findings_beside(
+    rt: &(impl Threads + Sync),
+    alloc: Global,
+    grammar: &Grammar,
+    doc: &Doc,
+    wanted: &Verdicts,
+) -> Result<Findings, Fail> {
     let gate = Told {
         counts: counts_of(alloc, 20_003)?,
     };
-    let found = by_threads::<Told, Brand>(&rt, alloc, &grammar, &doc, &gate, Blank::new(1))?;
-    assert!(rt;
-        gate.counts
-            .iter()
-            .all(|count| count.load(Ordering::SeqCst) == 1)
-    );
-    assert_eq!(rt; found.len(), 20_003);
-    assert_eq!(rt; found.left(), 20_000);
-    assert!(rt; found.first_impossible().is_none());
-    assert_eq!(rt; wanted.len(), 20_003);
-    assert_eq!(rt; first_difference(&found, &wanted), None);
-    Ok(())
+    let found = by_threads::<Told, Brand>(rt, alloc, grammar, doc, &gate, Blank::new(1))?;
+    Ok(findings_in(&gate, &found, wanted))
+}
+
+fn findings_of(rt: &(impl Threads + Sync), alloc: Global) -> Result<Findings, Fail> {
+    let grammar = drill_grammar(alloc)?;
+    let doc = drill_document(alloc)?;
+    let wanted = one_thread::<Brand>(alloc, &grammar, &doc, Blank::new(1))?;
+    findings_beside(rt, alloc, &grammar, &doc, &wanted)
 }
 
 #[test]
-fn a_second_thread_enters(rt: HostRuntime) -> Result<(), Fail> {
-    let alloc = rt.alloc();
-    let grammar = drill_grammar(alloc)?;
-    let doc = drill_document(alloc)?;
+fn threads_give_the_answer_of_one(rt: HostRuntime) -> Result<(), Fail> {
+    let found = findings_of(&rt, rt.alloc())?;
+    assert!(rt; found.is_each_told_once);
+    assert_eq!(rt; found.lists, 20_003);
+    assert_eq!(rt; found.left, 20_000);
+    assert!(rt; found.is_possible);
+    assert_eq!(rt; found.lists_of_one, 20_003);
+    assert_eq!(rt; found.difference, None);
+    Ok(())
+}
+
+// The lists that are left, the number of those that were entered, and 1 where a second thread
+// entered one in time.
+fn entered_by(
+    rt: &(impl Threads + Sync),
+    judge: &Judge<'_>,
+    doc: &Doc,
+) -> Result<(u64, u64, u64), Fail> {
     let gate = Second {
         entered: AtomicU64::new(0),
         met: AtomicU64::new(0),
     };
+    let found = by_plan::<Second, Brand>(rt, judge, doc, &gate, Blank::new(1))?;
+    let entered = gate.entered.load(Ordering::SeqCst);
+    Ok((found.left(), entered, gate.met.load(Ordering::SeqCst)))
+}
+
+fn entered_in_drill(
+    rt: &(impl Threads + Sync),
+    judge: &Judge<'_>,
+) -> Result<(u64, u64, u64), Fail> {
+    let doc = drill_document(judge.alloc())?;
+    entered_by(rt, judge, &doc)
+}
+
+fn entered_of(rt: &(impl Threads + Sync), alloc: Global) -> Result<(u64, u64, u64), Fail> {
+    let grammar = drill_grammar(alloc)?;
     let plan = Plan::of(alloc, &grammar)?;
     let judge = Judge::new(alloc, &grammar, &plan);
-    let found = by_plan::<Second, Brand>(&rt, &judge, &doc, &gate, Blank::new(1))?;
-    assert_eq!(rt; found.left(), 20_000);
-    assert_eq!(rt; gate.entered.load(Ordering::SeqCst), 20_003);
-    assert_eq!(rt; gate.met.load(Ordering::SeqCst), 1);
+    entered_in_drill(rt, &judge)
+}
+
+#[test]
+fn a_second_thread_enters(rt: HostRuntime) -> Result<(), Fail> {
+    let (left, entered, met) = entered_of(&rt, rt.alloc())?;
+    assert_eq!(rt; left, 20_000);
+    assert_eq!(rt; entered, 20_003);
+    assert_eq!(rt; met, 1);
     Ok(())
 }

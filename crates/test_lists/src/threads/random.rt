@@ -199,6 +199,19 @@ fn compare<R: AllocGlobal + Threads + Sync, L: Ledger>(
     Ok(())
 }
 
+// The same for each way in which they are held up.
+fn compare_each<R: AllocGlobal + Threads + Sync>(
+    rt: &R,
+    grammar: &Grammar,
+    doc: &Doc,
+    wanted: &Verdicts,
+) -> Result<(), Fail> {
+    for how in [How::Waits, How::Spins, How::Yields] {
+        compare::<R, Brand>(rt, grammar, doc, wanted, how, Blank::new(1))?;
+    }
+    Ok(())
+}
+
 fn try_document<R: AllocGlobal + Threads + Sync>(
     rt: &R,
     grammar: &Grammar,
@@ -206,9 +219,7 @@ fn try_document<R: AllocGlobal + Threads + Sync>(
 ) -> Result<(), Fail> {
     let doc = read_doc(rt.alloc(), text, b"doc")?;
     let wanted = one_thread::<Brand>(rt.alloc(), grammar, &doc, Blank::new(1))?;
-    compare::<R, Brand>(rt, grammar, &doc, &wanted, How::Waits, Blank::new(1))?;
-    compare::<R, Brand>(rt, grammar, &doc, &wanted, How::Spins, Blank::new(1))?;
-    compare::<R, Brand>(rt, grammar, &doc, &wanted, How::Yields, Blank::new(1))
+    compare_each(rt, grammar, &doc, &wanted)
 }
 
 #[test]

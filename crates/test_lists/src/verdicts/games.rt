@@ -2,12 +2,13 @@
 
 ghost use Rattle.std.specs.Prelude.{◌≡◌, ◌<◌};
 
+use crate::calls::grammar_of;
 use crate::verdicts::changing::{make_change, spliced};
 use crate::verdicts::last::judge_by;
 use crate::verdicts::random::Random;
 use pv_missing::Of;
 use pv_model::{NameId, Token};
-use pv_productive::{Grammar, build};
+use pv_productive::Grammar;
 use pv_reach::{Judge, Plan};
 use pv_rematch::WordChange;
 use pv_steps::Steps;
@@ -16,7 +17,6 @@ use std::alloc::{AllocError, Global};
 use std::marker::Brand;
 use std::sync::ledger::{Blank, Ledger};
 use std::test::Fail;
-use test_fixture::documents::dtd_of;
 use test_fixture::dtds::{ANY_OR_ENDLESS, ARTICLE, LEADING_BACK, MIXED, NESTED};
 
 /// A token, mostly a name.
@@ -112,7 +112,7 @@ fn play_by<L: Ledger>(alloc: Global, grammar: &Grammar, blank: Blank) -> Result<
 }
 
 fn play_dtd(alloc: Global, dtd: &str) -> Result<(), Fail> {
-    let grammar = build(alloc, dtd_of(alloc, dtd)?)?;
+    let grammar = grammar_of(alloc, dtd)?;
     play_by::<Brand>(alloc, &grammar, Blank::new(1))
 }
 

@@ -2,10 +2,10 @@
 
 ghost use Rattle.std.specs.Prelude.{◌≡◌, ◌<◌};
 
+use crate::calls::grammar_of;
 use crate::verdicts::changing::{make_change, spliced};
 use pv_missing::Of;
 use pv_model::{NameId, Token};
-use pv_productive::build;
 use pv_reach::{Judge, Plan};
 use pv_rematch::WordChange;
 use pv_steps::Steps;
@@ -15,7 +15,6 @@ use std::alloc::Global;
 use std::marker::Brand;
 use std::sync::ledger::{Blank, Ledger};
 use std::test::Fail;
-use test_fixture::documents::dtd_of;
 use test_fixture::dtds::ARTICLE;
 
 const HEAD: Token = Token::Name(NameId(1));
@@ -50,30 +49,39 @@ static ROWS: [Row; 8] = [
     (2, &[TITLE, P], 1, 1, &[Token::Other], Verdict::Impossible),
 ];
 
-// The verdict after the change of a row.
-fn verdict_of<L: Ledger>(alloc: Global, row: &Row, blank: Blank) -> Result<Verdict, Fail>
-    requires name { blank.name ≡ L.name }
-    requires parts { blank.parts ≡ L.parts }
-    requires some { 0 < L.parts }
-{
+// The verdict after the change of a row, as the judge finds it.
+fn verdict_by<L: Ledger>(
+    judge: &Judge<'_>,
+    row: &Row,
+    steps: &mut Steps<L>,
+) -> Result<Verdict, Fail> {
     let (owner, word, from, to, came, _) = row;
     if from > to || *to > word.len() {
         return Err(Fail::new("no such places"));
     }
-    let mut steps = Steps::<L>::start(blank);
-    let grammar = build(alloc, dtd_of(alloc, ARTICLE)?)?;
-    let plan = Plan::of(alloc, &grammar)?;
-    let judge = Judge::new(alloc, &grammar, &plan);
     let owner = Some(Of::Elem(NameId(*owner)));
-    let mut judged = Judged::of(&judge, owner, *word)?;
-    let after = spliced(alloc, *word, *from, *to, *came)?;
+    let mut judged = Judged::of(judge, owner, *word)?;
+    let after = spliced(judge.alloc(), *word, *from, *to, *came)?;
     let change = WordChange {
         word: after.as_slice(),
         from: *from,
         gone: &word[*from..*to],
         came: came.len(),
     };
-    make_change(&judge, owner, &mut judged, &change, false, &mut steps)
+    make_change(judge, owner, &mut judged, &change, false, steps)
+}
+
+// The same by the article's grammar.
+fn verdict_of<L: Ledger>(alloc: Global, row: &Row, blank: Blank) -> Result<Verdict, Fail>
+    requires name { blank.name ≡ L.name }
+    requires parts { blank.parts ≡ L.parts }
+    requires some { 0 < L.parts }
+{
+    let mut steps = Steps::<L>::start(blank);
+    let grammar = grammar_of(alloc, ARTICLE)?;
+    let plan = Plan::of(alloc, &grammar)?;
+    let judge = Judge::new(alloc, &grammar, &plan);
+    verdict_by(&judge, row, &mut steps)
 }
 
 #[test]

@@ -2,6 +2,3 @@ use Rattle.test_lists.proofs.threads.random.try_document.Given as goal
 
 abbrev pub ghosts-one_thread : goal.ghosts-one_thread
 ghosts-one_thread g a = record { name = a.blank.name; parts = a.blank.parts }
-
-abbrev pub ghosts-compare : goal.ghosts-compare
-ghosts-compare g a = record { name = a.blank.name; parts = a.blank.parts }
