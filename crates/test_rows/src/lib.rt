@@ -8,6 +8,8 @@ mod certificates;
 #[cfg(test)]
 mod check;
 #[cfg(test)]
+mod grammars;
+#[cfg(test)]
 mod offers;
 #[cfg(test)]
 mod runs;

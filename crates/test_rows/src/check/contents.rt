@@ -1,12 +1,12 @@
 //! Contents that are free, the tokens that they take, and the words that contents derive.
 
+use crate::grammars::grammar_of;
 use pv_missing::{are_productive, is_narrow};
 use pv_model::{NameId, Token};
-use pv_productive::build;
+use pv_productive::Grammar;
 use pv_reach::{Judge, Plan, content_derives};
 use std::alloc::Global;
 use std::test::Fail;
-use test_fixture::documents::dtd_of;
 use test_fixture::dtds::{ANY, ARTICLE};
 
 // A DTD, the number of a name, a token, and whether the name's content takes it, where it is free.
@@ -39,14 +39,15 @@ static ROWS: [Row; 13] = [
     (ANY, 0, Token::Other, Some(false)),
 ];
 
+fn taken_by(judge: &Judge<'_>, id: u32, token: Token) -> Option<bool> {
+    let content = judge.free_content(NameId(id))?;
+    Some(content.takes(token))
+}
+
 fn taken(alloc: Global, dtd: &str, id: u32, token: Token) -> Result<Option<bool>, Fail> {
-    let grammar = build(alloc, dtd_of(alloc, dtd)?)?;
+    let grammar = grammar_of(alloc, dtd)?;
     let plan = Plan::of(alloc, &grammar)?;
-    let judge = Judge::new(alloc, &grammar, &plan);
-    let Some(content) = judge.free_content(NameId(id)) else {
-        return Ok(None);
-    };
-    Ok(Some(content.takes(token)))
+    Ok(taken_by(&Judge::new(alloc, &grammar, &plan), id, token))
 }
 
 #[test]
@@ -67,6 +68,16 @@ fn derives(judge: &Judge<'_>, id: u32, word: &[Token]) -> Result<Option<bool>, F
     Ok(Some(content_derives(judge, NameId(id), word)?))
 }
 
+fn derives_by_plan(
+    alloc: Global,
+    grammar: &Grammar,
+    id: u32,
+    word: &[Token],
+) -> Result<Option<bool>, Fail> {
+    let plan = Plan::of(alloc, grammar)?;
+    derives(&Judge::new(alloc, grammar, &plan), id, word)
+}
+
 /// Whether the content derives the two tokens, with a plan and without one.
 fn derives_pair(
     alloc: Global,
@@ -74,9 +85,8 @@ fn derives_pair(
     first: Token,
     second: Token,
 ) -> Result<[Option<bool>; 2], Fail> {
-    let grammar = build(alloc, dtd_of(alloc, ARTICLE)?)?;
-    let plan = Plan::of(alloc, &grammar)?;
-    let planned = derives(&Judge::new(alloc, &grammar, &plan), id, &[first, second])?;
+    let grammar = grammar_of(alloc, ARTICLE)?;
+    let planned = derives_by_plan(alloc, &grammar, id, &[first, second])?;
     let laid_anew = derives(&Judge::without_plan(alloc, &grammar), id, &[first, second])?;
     Ok([planned, laid_anew])
 }

@@ -2,9 +2,10 @@
 
 ghost use Rattle.std.specs.Prelude.{◌≡◌, ◌<◌};
 
+use crate::grammars::grammar_of;
 use pv_missing::Of;
 use pv_model::NameId;
-use pv_productive::{Grammar, build};
+use pv_productive::Grammar;
 use pv_reach::{ReachError, list_verdict};
 use pv_steps::Steps;
 use pv_tree::{Node, Verdict};
@@ -12,7 +13,7 @@ use std::alloc::Global;
 use std::marker::Brand;
 use std::sync::ledger::{Blank, Ledger};
 use std::test::Fail;
-use test_fixture::documents::{document_of, dtd_of, kids_of};
+use test_fixture::documents::{document_of, kids_of};
 use test_fixture::dtds::ARTICLE;
 
 /// The verdict of a list, where the DTD has the owner's name.
@@ -45,7 +46,7 @@ static ROWS: [(u32, &str, Verdict); 7] = [
 ];
 
 fn verdict_of(alloc: Global, owner: u32, text: &str) -> Result<Verdict, Fail> {
-    let grammar = build(alloc, dtd_of(alloc, ARTICLE)?)?;
+    let grammar = grammar_of(alloc, ARTICLE)?;
     let doc = document_of(alloc, text, "x")?;
     Ok(verdict::<Brand>(alloc, &grammar, owner, kids_of(&doc)?, Blank::new(1))?)
 }

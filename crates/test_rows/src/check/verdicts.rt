@@ -2,17 +2,17 @@
 
 ghost use Rattle.std.specs.Prelude.{◌≡◌, ◌<◌};
 
+use crate::grammars::grammar_of;
 use pv_fresh::check_doc;
 use pv_missing::{Verdicts, live_word};
 use pv_model::{NameId, Token};
-use pv_productive::build;
 use pv_steps::Steps;
 use pv_tree::{Doc, Verdict};
 use std::alloc::Global;
 use std::marker::Brand;
 use std::sync::ledger::{Blank, Ledger};
 use std::test::Fail;
-use test_fixture::documents::{document_of, dtd_of, kids_of};
+use test_fixture::documents::{document_of, kids_of};
 use test_fixture::dtds::{ANY_OR_ENDLESS, ARTICLE};
 
 // The verdicts of a document by the article's DTD.
@@ -21,7 +21,7 @@ fn verdicts_of<L: Ledger>(alloc: Global, doc: &Doc, blank: Blank) -> Result<Verd
     requires parts { blank.parts ≡ L.parts }
     requires some { 0 < L.parts }
 {
-    let grammar = build(alloc, dtd_of(alloc, ARTICLE)?)?;
+    let grammar = grammar_of(alloc, ARTICLE)?;
     let mut steps = Steps::<L>::start(blank);
     Ok(check_doc(alloc, &grammar, b"doc", doc, &mut steps)?)
 }
@@ -75,7 +75,7 @@ static LIVE: [Token; 4] = [
 ];
 
 fn has_live_word(alloc: Global, text: &str, live: &[Token]) -> Result<bool, Fail> {
-    let grammar = build(alloc, dtd_of(alloc, ANY_OR_ENDLESS)?)?;
+    let grammar = grammar_of(alloc, ANY_OR_ENDLESS)?;
     let doc = document_of(alloc, text, "a")?;
     Ok(live_word(alloc, &grammar, kids_of(&doc)?)?.as_slice() == live)
 }

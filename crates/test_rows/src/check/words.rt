@@ -2,16 +2,16 @@
 
 ghost use Rattle.std.specs.Prelude.{◌≡◌, ◌<◌};
 
+use crate::grammars::grammar_of;
 use pv_missing::{Of, are_productive};
 use pv_model::{NameId, Token};
-use pv_productive::{Grammar, build};
+use pv_productive::Grammar;
 use pv_reach::{ReachError, possible};
 use pv_steps::Steps;
 use std::alloc::Global;
 use std::marker::Brand;
 use std::sync::ledger::{Blank, Ledger};
 use std::test::Fail;
-use test_fixture::documents::dtd_of;
 use test_fixture::dtds::{ANY_OR_OPTIONAL, ARTICLE, ENDLESS, LEADING_BACK, NESTED};
 
 /// What `possible` answers, where its names are productive and the DTD has the owner's.
@@ -74,7 +74,7 @@ static WORDS: [Row; 9] = [
 ];
 
 fn answer_by(alloc: Global, dtd: &str, of: Of, word: &[Token]) -> Result<Option<bool>, Fail> {
-    let grammar = build(alloc, dtd_of(alloc, dtd)?)?;
+    let grammar = grammar_of(alloc, dtd)?;
     Ok(answer::<Brand>(alloc, &grammar, of, word, Blank::new(1))?)
 }
 

@@ -87,11 +87,11 @@ fn begin_on<L: Ledger>(
 // A session on the document of these texts.
 fn begin<L: Ledger>(alloc: Global, texts: Texts, steps: &mut Steps<L>) -> Result<Session, Fail> {
     let (dtd, root, text) = texts;
-    let grammar = build(alloc, dtd_of(alloc, dtd)?)?;
     let doc = read_doc(alloc, text.as_bytes(), root.as_bytes())?;
     if doc.nodes() > MAX_NODES {
         return Err(Fail::new("too many nodes"));
     }
+    let grammar = build(alloc, dtd_of(alloc, dtd)?)?;
     begin_on(alloc, grammar, root.as_bytes(), doc, steps)
 }
 
