@@ -83,11 +83,11 @@ fn check_words(
 }
 
 // The DTD in which `m` has the model, and `a`, `b` and `c` are declared.
-fn with_model(alloc: Global, model: &str) -> Result<Dtd, Fail> {
+fn with_model(alloc: Global, model: &str) -> Result<Box<Dtd>, Fail> {
     let text = format!(in alloc;
         "<!ELEMENT m {model}><!ELEMENT a ANY><!ELEMENT b ANY><!ELEMENT c ANY>"
     )?;
-    Ok(read_dtd(alloc, text.as_bytes())?)
+    Ok(Box::new(alloc, read_dtd(alloc, text.as_bytes())?)?)
 }
 
 #[test]

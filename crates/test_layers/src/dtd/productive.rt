@@ -8,9 +8,10 @@ use std::alloc::Global;
 use std::process::Abort;
 use std::test::Fail;
 
-fn grammar_of(alloc: Global, text: &str) -> Result<Grammar, Fail> {
+// The grammar of a DTD, in a box, which one call drops.
+fn grammar_of(alloc: Global, text: &str) -> Result<Box<Grammar>, Fail> {
     let dtd = read_dtd(alloc, text.as_bytes())?;
-    Ok(build(alloc, dtd)?)
+    Ok(Box::new(alloc, build(alloc, dtd)?)?)
 }
 
 // Whether the least tree of the name has this size; none where it isn't productive.

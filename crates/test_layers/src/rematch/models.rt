@@ -72,12 +72,13 @@ pub static BOARDS: [Board; 10] = [
     },
 ];
 
-/// The DTD in which `m`, its first name, has the model, and `a`, `b` and `c` are declared.
-pub fn with_model(alloc: Global, model: &str) -> Result<Dtd, Fail> {
+/// The DTD in which `m`, its first name, has the model, and `a`, `b` and `c` are declared. It is in a
+/// box, so that each caller drops it by one call.
+pub fn with_model(alloc: Global, model: &str) -> Result<Box<Dtd>, Fail> {
     let text = format!(in alloc;
         "<!ELEMENT m {model}><!ELEMENT a ANY><!ELEMENT b ANY><!ELEMENT c ANY>"
     )?;
-    Ok(read_dtd(alloc, text.as_bytes())?)
+    Ok(Box::new(alloc, read_dtd(alloc, text.as_bytes())?)?)
 }
 
 /// The model of `m`.

@@ -60,6 +60,49 @@ fn find(
     Ok(Found { turn, after, gone })
 }
 
+// Changes a word back.
+fn take_back(
+    alloc: Global,
+    model: &LaidModel,
+    word_match: &mut WordMatch,
+    word: &mut Vec<Token>,
+    back: &Change,
+) -> Result<(), Fail> {
+    let found = find(alloc, model, word_match, word, back)?;
+    word_match.make(found.turn);
+    *word = found.after;
+    expect_allowed(alloc, model, word, word_match.is_allowed())
+}
+
+// Changes a word once, or finds what a change makes of it and leaves it.
+fn change_once(
+    alloc: Global,
+    random: &mut Random,
+    board: &Board,
+    model: &LaidModel,
+    word_match: &mut WordMatch,
+    word: &mut Vec<Token>,
+) -> Result<(), Fail> {
+    let change = random_change(alloc, random, board, word.len())?;
+    let found = find(alloc, model, word_match, word, &change)?;
+    let kind = random.below(4);
+    if kind == 0 {
+        return Ok(());
+    }
+    word_match.make(found.turn);
+    *word = found.after;
+    expect_allowed(alloc, model, word, word_match.is_allowed())?;
+    if kind != 1 {
+        return Ok(());
+    }
+    let back = Change {
+        from: change.from,
+        gone: change.came.len(),
+        came: found.gone,
+    };
+    take_back(alloc, model, word_match, word, &back)
+}
+
 // Changes a word, or finds what a change makes of it and leaves it; some changes are taken back.
 fn play(
     alloc: Global,
@@ -71,26 +114,7 @@ fn play(
     let mut word_match = WordMatch::of(alloc, model, DECLARED, &word)?;
     expect_allowed(alloc, model, &word, word_match.is_allowed())?;
     for _ in 0..ROUNDS {
-        let change = random_change(alloc, random, board, word.len())?;
-        let found = find(alloc, model, &word_match, &word, &change)?;
-        let kind = random.below(4);
-        if kind == 0 {
-            continue;
-        }
-        word_match.make(found.turn);
-        word = found.after;
-        expect_allowed(alloc, model, &word, word_match.is_allowed())?;
-        if kind == 1 {
-            let back = Change {
-                from: change.from,
-                gone: change.came.len(),
-                came: found.gone,
-            };
-            let found = find(alloc, model, &word_match, &word, &back)?;
-            word_match.make(found.turn);
-            word = found.after;
-            expect_allowed(alloc, model, &word, word_match.is_allowed())?;
-        }
+        change_once(alloc, random, board, model, &mut word_match, &mut word)?;
     }
     Ok(())
 }
@@ -127,28 +151,55 @@ fn changes_of_long_words(rt: HostRuntime) -> Result<(), Fail> {
     Ok(())
 }
 
-// Each change at the front of a word that grows is found.
-#[test]
-fn many_at_the_front(rt: HostRuntime) -> Result<(), Fail> {
-    let alloc = rt.alloc();
-    let dtd = with_model(alloc, "(c?, (a | b)*)")?;
-    let model = model_of(&dtd)?;
+fn tokens_of(alloc: Global, piece: &str) -> Result<Vec<Token>, Fail> {
+    let mut tokens = Vec::new(alloc);
+    push_tokens(&mut tokens, piece)?;
+    Ok(tokens)
+}
+
+// Puts a piece at the front of a word, which is allowed or not.
+fn put_at_the_front(
+    alloc: Global,
+    model: &LaidModel,
+    word_match: &mut WordMatch,
+    word: &mut Vec<Token>,
+    piece: &str,
+    allowed: bool,
+) -> Result<(), Fail> {
+    let change = Change {
+        from: 0,
+        gone: 0,
+        came: tokens_of(alloc, piece)?,
+    };
+    let found = find(alloc, model, word_match, word, &change)?;
+    if found.turn.is_allowed() != allowed {
+        return Err(Fail::new("allowed though `c` isn't first, or not though it is"));
+    }
+    word_match.make(found.turn);
+    *word = found.after;
+    Ok(())
+}
+
+fn put_many_at_the_front(alloc: Global, model: &LaidModel) -> Result<(), Fail> {
     let mut word: Vec<Token> = Vec::new(alloc);
     let mut word_match = WordMatch::of(alloc, model, DECLARED, &word)?;
     for number in 0..1500 {
-        let mut came = Vec::new(alloc);
-        push_tokens(&mut came, if number == 700 { "c" } else { "b" })?;
-        let change = Change {
-            from: 0,
-            gone: 0,
-            came,
-        };
-        let found = find(alloc, model, &word_match, &word, &change)?;
-        if found.turn.is_allowed() != (number < 701) {
-            return Err(Fail::new("allowed though `c` isn't first, or not though it is"));
-        }
-        word_match.make(found.turn);
-        word = found.after;
+        let piece = if number == 700 { "c" } else { "b" };
+        put_at_the_front(
+            alloc,
+            model,
+            &mut word_match,
+            &mut word,
+            piece,
+            number < 701,
+        )?;
     }
     Ok(())
+}
+
+// Each change at the front of a word that grows is found.
+#[test]
+fn many_at_the_front(rt: HostRuntime) -> Result<(), Fail> {
+    let dtd = with_model(rt.alloc(), "(c?, (a | b)*)")?;
+    put_many_at_the_front(rt.alloc(), model_of(&dtd)?)
 }
