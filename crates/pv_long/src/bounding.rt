@@ -231,22 +231,6 @@ fn bound_far(
     Ok(least)
 }
 
-// A bound of a word that says nothing, and the pieces of the first completion that is found.
-fn bound_at_once(
-    alloc: Global,
-    known: &KnownColumns<'_>,
-    of: Of,
-    word: &[Token],
-) -> Result<(u32, Vec<Piece>), MakeError>
-    ensures { IfOk result (λ found. IsWordBound (dtd_of known.now.layout.now.grammar.now) of
-        (map plain_token word.now) found.0) }
-{
-    let least = word_bound(alloc, known.layout, of, word, &no_fronts(alloc))?;
-    let filled = fill_few(alloc, known, known.layout.column(site_at(of)), word, 1)?;
-    let pieces = pieces_by(alloc, known, of, word, &filled)?;
-    Ok((least, pieces))
-}
-
 // A lower bound of a word, and pieces, by whatever is made of it: of a short one all, of a longer
 // one what is seen within windows, and else as much as there is room for. There are no pieces where
 // more than 1,000,000 elements are missing.
@@ -274,8 +258,47 @@ fn bound_word(
     bound_filled(alloc, known, of, word, &filled)
 }
 
-// A lower bound of a word, and pieces: at once where it is late. What is remembered gives back its
-// memory where there is too little.
+// A bound of a word that says nothing, and the pieces of the first completion that is found. Where
+// there is none, more than 1,000,000 elements may be missing, which a bound tells.
+fn bound_at_once(
+    alloc: Global,
+    known: &KnownColumns<'_>,
+    of: Of,
+    word: &[Token],
+) -> Result<(u32, Vec<Piece>), MakeError>
+    ensures { IfOk result (λ found. IsWordBound (dtd_of known.now.layout.now.grammar.now) of
+        (map plain_token word.now) found.0) }
+{
+    let least = word_bound(alloc, known.layout, of, word, &no_fronts(alloc))?;
+    let filled = fill_few(alloc, known, known.layout.column(site_at(of)), word, 1)?;
+    match pieces_by(alloc, known, of, word, &filled) {
+        Ok(pieces) => Ok((least, pieces)),
+        Err(MakeError::Unproved) => bound_word(alloc, known, of, word),
+        Err(error) => Err(error),
+    }
+}
+
+// A lower bound of a word, and pieces: the first that are found where it is late, and otherwise as
+// bounds that meet ask for.
+fn bound_by(
+    alloc: Global,
+    known: &KnownColumns<'_>,
+    of: Of,
+    word: &[Token],
+    is_late: bool,
+) -> Result<(u32, Vec<Piece>), MakeError>
+    ensures { IfOk result (λ found. IsWordBound (dtd_of known.now.layout.now.grammar.now) of
+        (map plain_token word.now) found.0) }
+{
+    if is_late {
+        bound_at_once(alloc, known, of, word)
+    } else {
+        bound_word(alloc, known, of, word)
+    }
+}
+
+// A lower bound of a word, and pieces. What is remembered gives back its memory where there is too
+// little.
 fn bound_with_room(
     alloc: Global,
     known: &KnownColumns<'_>,
@@ -289,13 +312,10 @@ fn bound_with_room(
         (map plain_token word.now) found.0) }
     ensures known { AreWordBounds (dtd_of known.now.layout.now.grammar.now) bounds.new }
 {
-    if is_late {
-        return bound_at_once(alloc, known, of, word);
-    }
-    match bound_word(alloc, known, of, word) {
+    match bound_by(alloc, known, of, word, is_late) {
         Err(MakeError::NoMemory) if !bounds.is_empty() => {
             bounds.forget(alloc);
-            bound_word(alloc, known, of, word)
+            bound_by(alloc, known, of, word, is_late)
         }
         found => found,
     }

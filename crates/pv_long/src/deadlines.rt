@@ -1,7 +1,7 @@
-//! Until when bounds are sought that meet.
+//! When the search for bounds ends.
 
-/// Tells whether the time is over in which the bounds of a list are to meet. What is told of a
-/// document is right whatever it returns, and whenever.
+/// Says whether the time for bounds is over. What is told of a document is right whatever it
+/// returns, and whenever.
 pub trait Deadline {
     /// Whether the time is over. It is asked for each list, before anything is made of it.
     fn is_past(&self) -> bool;

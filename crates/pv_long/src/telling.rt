@@ -227,8 +227,8 @@ fn missing_by<D: Deadline>(
 /// from above and a completion that inserts more. The bound is at least the number of the Possible
 /// lists, and a valid document is its own completion. The document stays as it is.
 ///
-/// After the deadline, of each list that is left no bound is sought, and a completion at once: the
-/// numbers may be further apart then, and both are right. A list that was begun is ended.
+/// After the deadline, no bound is sought for the lists that are left, and each is completed at
+/// once: the numbers may be further apart then, and both are right. A list that was begun is ended.
 ///
 /// A list may be as wide as a verdict allows. New elements are written as `complete` of pv_complete
 /// writes them. That something is told isn't promised: see `LongError`.

@@ -23,9 +23,10 @@ ghost use Rattle.pvlong.specs.Exits.{exit_code};
 
 use crate::exits::Exit;
 use crate::program::pvlong;
-use crate::seconds::Seconds;
+use crate::seconds::{Seconds, SecondsError};
 use pv_io::{FolderShelf, Shelf, Sink, WriteSink};
 use pv_long::Deadline;
+use pv_opening::Status;
 use std::alloc::Global;
 use std::process::ExitCode;
 use std::rt::{Env, Files};
@@ -83,8 +84,9 @@ fn main(rt: HostRuntime) -> ExitCode {
         return ExitCode::from(NO_WORDS);
     };
     match Seconds::from_now(&rt) {
-        Some(seconds) => run_here(&rt, &words, &seconds),
+        Ok(seconds) => run_here(&rt, &words, &seconds),
         // No words are no request.
-        None => run_here(&rt, &[], &Seconds::without_end(&rt)),
+        Err(SecondsError::NoNumber) => run_here(&rt, &[], &Seconds::without_end(&rt)),
+        Err(SecondsError::NoMemory) => ExitCode::from(Status::NoMemory.code()),
     }
 }
