@@ -381,6 +381,7 @@ def try_late(both: Programs) -> None:
                 try_example(both, dtd, root, name, "late")
         for row in ROWS:
             try_late_row(both, *row)
+        try_heavy(both)
     for seconds in ("", "x", "01", "+1", "1.5", "4294967296"):
         with within(seconds):
             both.case("late", lambda: same(both.long("need", "good.dtd", "a", "good.xml"), (2, b"usage\n"), "no seconds") or "no seconds",
