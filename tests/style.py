@@ -156,12 +156,11 @@ def choices() -> Iterator[tuple[str, str]]:
 
 
 def edits() -> Iterator[tuple[str, str]]:
-    """Each edit that `tests/edits.sh` tries, and which of its texts isn't once in the file that it names: the others are tried by the gate. Of these a
-    crate has only so many."""
+    """Each edit, and which of its texts isn't once in the file that it names. Of those that the gate tries a crate has only so many."""
     for folder in sorted(TOP.glob("crates/*/must-fail")):
         count = len(list(folder.glob("*.edit")))
         yield str(folder), f"{folder.relative_to(TOP)}: {count} edits, and at most {MOST_EDITS} are tried by the gate" if count > MOST_EDITS else ""
-    for edit in sorted(TOP.glob("crates/*/edits/*")):
+    for edit in sorted([*TOP.glob("crates/*/edits/*"), *TOP.glob("crates/*/must-fail/*")]):
         file, what = edit.parent.parent, ""
         for line in edit.read_text(encoding="utf-8").splitlines():
             kind, _, text = line.partition(": ")
