@@ -65,8 +65,8 @@ impl WellMarked {
         }
     }
 
-    /// Keeps the tokens of the list in which an edit is tried. Where the edit before was tried there
-    /// too, and refused, the list's word is remembered as well.
+    /// Keeps the tokens of the list in which an edit is tried. Where the edit before was tried
+    /// there too, and refused, the list's word is remembered as well.
     pub(crate) fn keep_tried(&mut self, list: &Path)
         ensures { plain_marked self.new ≡ plain_marked self.old }
     {

@@ -112,7 +112,8 @@ unit_cut u rest (inr (inl (inl is))) = by_inner u (35 ∷ is.digits) rest is.who
 unit_cut u rest (inr (inl (inr is))) = by_inner u (35 ∷ 120 ∷ is.digits) rest is.whole (digits_hold_none 16 is.digits (omega arith) is.are_digits)
 unit_cut u rest (inr (inr is)) = by_inner u is.name rest is.is_reference.whole (names_hold_none is.name is.is_predefined)
 
-pub units_cut : (units : List (List ℕ)) → AllUnits units → ◌≡◌ {A = List ℕ × List (List ℕ)} (cut_units false (joined units)) ([], units)
+pub units_cut : (units : List (List ℕ)) → AllUnits units →
+    ◌≡◌ {A = List ℕ × List (List ℕ)} (cut_units false (joined units)) ([], units)
 units_cut [] all = refl
 units_cut (u ∷ us) all =
     let below = units_cut us all.1 in

@@ -1,5 +1,7 @@
 -- Weights that are remembered with pieces, and one more.
-use Rattle.std.proofs.Common.{Bool, List, Option, Some, [], arith, false, inl, inr, length, map, refl, slice_get, subst, suc, true, zero, ℕ, drop, ◌+◌, ◌++◌, ◌<◌, ◌∷◌, ◌≡◌, ◌⊎◌}
+use Rattle.std.proofs.Common.{Bool, List, Option, Some, [], arith, false, inl, inr, length, map}
+use Rattle.std.proofs.Common.{refl, slice_get, subst, suc, true, zero, ℕ, drop, ◌+◌, ◌++◌, ◌<◌, ◌∷◌}
+use Rattle.std.proofs.Common.{◌≡◌, ◌⊎◌}
 use Rattle.std.specs.Prelude.{if◌then◌else◌}
 use Rattle.pv_dtd.specs.Plain.{PlainDtd}
 use Rattle.pv_missing.specs.PlainForms.{plain_of}
@@ -53,7 +55,8 @@ right_pushed g old new e true is all one = right_one_more g old new e is all one
 right_pushed g old new e false is all one = rw is all
 
 -- an element after the first n is one of all
-later : {X : Type 0} (xs : List X) (n k : ℕ) (x : X) → slice_get (drop n xs) k ≡ Some x → slice_get xs (n + k) ≡ Some x
+later : {X : Type 0} (xs : List X) (n k : ℕ) (x : X) → slice_get (drop n xs) k ≡ Some x →
+    slice_get xs (n + k) ≡ Some x
 later xs zero k x h =
     let e : zero + k ≡ k = omega arith in
     rw e h
@@ -63,7 +66,8 @@ later (y ∷ ys) (suc n) k x h =
     rw e (later ys n k x h)
 
 -- those after the first n are right
-pub right_younger : (g : PlainDtd) (old new : List KnownWeight) (n : ℕ) → new ≡ drop n old → AreRight g old → AreRight g new
+pub right_younger : (g : PlainDtd) (old new : List KnownWeight) (n : ℕ) → new ≡ drop n old →
+    AreRight g old → AreRight g new
 right_younger g old new n is all k x h = all (n + k) x (later old n k x (rw is at h))
 
 -- the pieces that are kept are of a completion with as many new elements as the word weighs

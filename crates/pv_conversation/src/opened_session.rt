@@ -81,8 +81,8 @@ impl OpenedSession {
         need_reply(alloc, &self.session, &mut self.remembered)
     }
 
-    /// The document with the missing elements, or why it isn't told. Lists that were completed before
-    /// aren't completed again.
+    /// The document with the missing elements, or why it isn't told. Lists that were completed
+    /// before aren't completed again.
     pub fn complete(&mut self, alloc: Global) -> Result<Reply, NoMemory>
         ensures same { self.new ≡ self.old }
         ensures tells { IfOk result (TellsCompletion self.old) }

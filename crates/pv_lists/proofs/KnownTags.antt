@@ -1,12 +1,16 @@
--- Tags of known names, with nothing after the name, stand in an element without fault: its end tag, and those that open elements where it isn't too deep.
-use Rattle.std.proofs.Common.{Option, Some, ◌≡◌, ℕ, List, [], ◌∷◌, ◌++◌, codes, false, true, inl, inr, refl, sym, ap, subst, ◌∙◌, append_assoc}
+-- Tags of known names, with nothing after the name, stand in an element without fault: its end tag,
+-- and those that open elements where it isn't too deep.
+use Rattle.std.proofs.Common.{Option, Some, ◌≡◌, ℕ, List, [], ◌∷◌, ◌++◌, codes, false, true, inl}
+use Rattle.std.proofs.Common.{inr, refl, sym, ap, subst, ◌∙◌, append_assoc}
 use Rattle.pv_chars.specs.Names.{IsName}
 use Rattle.pv_tree.specs.Attributes.{IsAttributes}
 use Rattle.pv_tree.specs.Marks.{blank_mark}
 use Rattle.pv_tree.specs.declared.nodes.Mark.{Mark}
-use Rattle.pv_read.specs.Items.{Item, end_tag, bytes_of, HasForm, HasKnownReferences, EndsWell, BeginsItem}
+use Rattle.pv_read.specs.Items.{Item, end_tag, bytes_of, HasForm, HasKnownReferences, EndsWell}
+use Rattle.pv_read.specs.Items.{BeginsItem}
 use Rattle.pv_read.specs.Kinds.{IsMismatch, IsOtherDoctype}
-use Rattle.pv_read.specs.Left.{Left, Open, in_prolog, in_content, in_epilog, left_by, joined_to, just_opened, with_kid, empty_element, closed_element}
+use Rattle.pv_read.specs.Left.{Left, Open, in_prolog, in_content, in_epilog, left_by, joined_to}
+use Rattle.pv_read.specs.Left.{just_opened, with_kid, empty_element, closed_element}
 use Rattle.pv_read.specs.Limits.{IsDeepest}
 use Rattle.pv_read.specs.Places.{place_reached, content, open_at}
 use Rattle.pv_read.specs.Steps.{TakesItem}
@@ -58,7 +62,8 @@ bare_stands before name inner outer item (inl is) =
 bare_stands before name inner outer item (inr is) =
     rw is (in_content before (with_kid inner (empty_element blank_mark name [])) outer, refl)
 
-no_mismatch : (left : Left Mark) (name : List ℕ) (item : Item) → IsBareTag name item → IsMismatch left item → ⊥
+no_mismatch : (left : Left Mark) (name : List ℕ) (item : Item) → IsBareTag name item →
+    IsMismatch left item → ⊥
 no_mismatch left name item (inl is) = rw is (λ h. h)
 no_mismatch left name item (inr is) = rw is (λ h. h)
 
@@ -67,7 +72,8 @@ no_doctype : (root name : List ℕ) (item : Item) → IsBareTag name item
 no_doctype root name item (inl is) = rw is (λ h. h)
 no_doctype root name item (inr is) = rw is (λ h. h)
 
-pub bare_tag_taken : (most : Option ℕ) (root rest more around name : List ℕ) (item : Item) (many : ℕ)
+pub bare_tag_taken : (most : Option ℕ) (root rest more around name : List ℕ) (item : Item)
+    (many : ℕ)
     (left : Left Mark) → place_reached left ≡ content around many → IsName name
     → (IsDeepest most many → ⊥) → IsBareTag name item → rest ≡ bytes_of item ++ more
     → TakesItem most blank_mark root left rest item more
@@ -78,8 +84,14 @@ bare_tag_taken most root rest more around name item many (in_content before inne
     let left = in_content before inner outer in
     let stands = bare_stands before name inner outer item bare in
     let begins : BeginsItem item rest more =
-    record { has_form = bare_form name item bare named; whole = whole; ends_well = bare_ends name more item bare } in
-    takes one_item most blank_mark root left rest (λ h. no_such h.0) item more begins stands.0 stands.1
+    record {
+      has_form = bare_form name item bare named;
+      whole = whole;
+      ends_well =
+          bare_ends name more item bare;
+    } in
+    takes one_item most blank_mark root left rest (λ h. no_such h.0) item more begins stands.0
+    stands.1
     (bare_known name item bare) (no_mismatch left name item bare) (no_doctype root name item bare)
     (λ h. shallow (subst (IsDeepest most) (ap open_at at) h.1))
 bare_tag_taken most root rest more around name item many (in_epilog before t after) at named shallow

@@ -47,8 +47,8 @@ pub struct KnownWeight {
     pub table: Option<Entries>,
 }
 
-/// Weights that are remembered, in the order in which they were found. Where there are too many, the
-/// older half is forgotten.
+/// Weights that are remembered, in the order in which they were found. Where there are too many,
+/// the older half is forgotten.
 #[derive(Drop)]
 pub struct KnownWeights {
     pub entries: Vec<KnownWeight>,
@@ -359,8 +359,8 @@ impl KnownWeights {
         self.table_room = u32::saturating_sub(self.table_room, taken);
     }
 
-    /// Makes the slot of a hash lead to the entry that comes next, and tells whether there is memory
-    /// for it.
+    /// Makes the slot of a hash lead to the entry that comes next, and tells whether there is
+    /// memory for it.
     fn lead(&mut self, alloc: Global, hash: u32) -> bool
         ensures { self.new.entries ≡ self.old.entries }
     {

@@ -22,8 +22,8 @@ use pv_tree::Doc;
 use std::alloc::Global;
 
 /// What is remembered of a grammar from one `need_remembering` or `complete_remembering` to the
-/// next: its columns, and the weights of words that were weighed, by owner, with the pieces of those
-/// that were completed. It speaks of no document.
+/// next: its columns, and the weights of words that were weighed, by owner, with the pieces of
+/// those that were completed. It speaks of no document.
 #[derive(Drop)]
 pub struct Remembered {
     columns: Option<Columns>,

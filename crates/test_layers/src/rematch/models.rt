@@ -72,8 +72,8 @@ pub static BOARDS: [Board; 10] = [
     },
 ];
 
-/// The DTD in which `m`, its first name, has the model, and `a`, `b` and `c` are declared. It is in a
-/// box, so that each caller drops it by one call.
+/// The DTD in which `m`, its first name, has the model, and `a`, `b` and `c` are declared. It is in
+/// a box, so that each caller drops it by one call.
 pub fn with_model(alloc: Global, model: &str) -> Result<Box<Dtd>, Fail> {
     let text = format!(in alloc;
         "<!ELEMENT m {model}><!ELEMENT a ANY><!ELEMENT b ANY><!ELEMENT c ANY>"

@@ -199,7 +199,7 @@ fn compare<R: AllocGlobal + Threads + Sync, L: Ledger>(
     Ok(())
 }
 
-// The same for each way in which they are held up.
+// Compares them so in each way in which they are held up.
 fn compare_each<R: AllocGlobal + Threads + Sync>(
     rt: &R,
     grammar: &Grammar,

@@ -71,7 +71,7 @@ fn verdict_by<L: Ledger>(
     make_change(judge, owner, &mut judged, &change, false, steps)
 }
 
-// The same by the article's grammar.
+// The verdict of a row by the article's grammar.
 fn verdict_of<L: Ledger>(alloc: Global, row: &Row, blank: Blank) -> Result<Verdict, Fail>
     requires name { blank.name ≡ L.name }
     requires parts { blank.parts ≡ L.parts }

@@ -22,7 +22,8 @@ returns-in_ok-possible_line-in-Possible-clause-tells c = λ root opened tells.
     let d = opened.dtd in
     let doc = opened.doc in
     let result : Result Response Stop = Ok c.in_ok-possible_line-in-Possible.field-0 in
-    let told : TellsPossibility root d doc (plain_response c.in_ok-possible_line-in-Possible.field-0) =
+    let told : TellsPossibility root d doc
+    (plain_response c.in_ok-possible_line-in-Possible.field-0) =
     is_possible c.in-Possible.left h.possible h.count c.in_ok-possible_line-in-Possible.ensures in
     found_behind (width_stage d doc) (λ _. Responds (TellsPossibility root d doc)) tt result
     (h.narrow, refl) (tells_found (TellsPossibility root d doc) result told)

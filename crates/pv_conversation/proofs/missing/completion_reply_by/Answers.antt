@@ -9,9 +9,12 @@ use Rattle.pv_conversation.proofs.MissingElements.{cause_told, live_verdicts}
 use Rattle.pv_conversation.proofs.missing.completion_reply_by.Goals as goal
 
 pub complete_remembering-requires-clause-names : goal.complete_remembering-requires-clause-names
-complete_remembering-requires-clause-names c = rw c.root.ensures (subst (λ (d : PlainDoc ℕ). IsProlog c.args.session.now.root d.before) (sym c.doc.ensures.doc) c.requires.prolog)
+complete_remembering-requires-clause-names c =
+    rw c.root.ensures (subst (λ (d : PlainDoc ℕ). IsProlog c.args.session.now.root d.before)
+    (sym c.doc.ensures.doc) c.requires.prolog)
 
-pub complete_remembering-requires-clause-verdicts : goal.complete_remembering-requires-clause-verdicts
+pub complete_remembering-requires-clause-verdicts :
+    goal.complete_remembering-requires-clause-verdicts
 complete_remembering-requires-clause-verdicts c =
     live_verdicts c.args.session.now (dtd_of c.grammar-2.result.now) c.root.result.now
     (plain_doc c.doc.result.now) c.args.verdicts.now c.grammar-2.ensures c.root.ensures
@@ -44,7 +47,8 @@ refusal_reply-requires c =
 pub returns-clause-tells : goal.returns-clause-tells
 returns-clause-tells c = not_completed c.args.session.now c.refusal_reply.result c.refusal_reply.ensures.withholds
 
-pub complete_remembering-requires-clause-remembers : goal.complete_remembering-requires-clause-remembers
+pub complete_remembering-requires-clause-remembers :
+    goal.complete_remembering-requires-clause-remembers
 complete_remembering-requires-clause-remembers c = rw c.grammar-2.ensures c.requires.remembers
 
 pub returns-in-Ok-clause-remembers : goal.returns-in-Ok-clause-remembers

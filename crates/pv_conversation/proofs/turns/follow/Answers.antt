@@ -7,7 +7,8 @@ pub returns-in_ok-need-in-Need-clause-followed : goal.returns-in_ok-need-in-Need
 returns-in_ok-need-in-Need-clause-followed g c = rw c.in-Need.is c.in_ok-need-in-Need.ensures.replied
 
 pub returns-in_ok-complete-in-Complete-clause-followed : goal.returns-in_ok-complete-in-Complete-clause-followed
-returns-in_ok-complete-in-Complete-clause-followed g c = rw c.in-Complete.is c.in_ok-complete-in-Complete.ensures.replied
+returns-in_ok-complete-in-Complete-clause-followed g c =
+    rw c.in-Complete.is c.in_ok-complete-in-Complete.ensures.replied
 
 pub returns-in_ok-offer-in-Offer-clause-followed : goal.returns-in_ok-offer-in-Offer-clause-followed
 returns-in_ok-offer-in-Offer-clause-followed g c =

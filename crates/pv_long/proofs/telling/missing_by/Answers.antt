@@ -14,8 +14,11 @@ returns-then-left-eq0-clause-told g c =
     let root = c.args.root.now in
     let doc = plain_doc c.args.doc.now in
     let none : possible_in c.args.verdicts.now.verdicts ≡ 0 = omega arith in
-    own_exact c.wider_limits_law.ensures c.agreement_law.ensures c.spelled_is_written_law.ensures c.extensions_complete_law.ensures d root doc c.args.bytes.now c.in_ok-own_text.field-0 c.requires.text
-    (is_valid d root doc c.none_possible_law.ensures c.args.verdicts.now (proper c.args.grammar.now.layout.dtd) c.proper_doc_law.ensures c.requires.possible none)
+    own_exact c.wider_limits_law.ensures c.agreement_law.ensures c.spelled_is_written_law.ensures
+    c.extensions_complete_law.ensures d root doc c.args.bytes.now c.in_ok-own_text.field-0
+    c.requires.text
+    (is_valid d root doc c.none_possible_law.ensures c.args.verdicts.now
+    (proper c.args.grammar.now.layout.dtd) c.proper_doc_law.ensures c.requires.possible none)
     c.in_ok-own_text.ensures
 
 pub returns-then-least-completion-clause-told : goal.returns-then-least-completion-clause-told
@@ -30,8 +33,11 @@ returns-else-least-completion-clause-told g c =
     let root = c.args.root.now in
     let doc = plain_doc c.args.doc.now in
     let some : 0 < possible_in c.args.verdicts.now.verdicts = omega arith in
-    is_exact d root doc c.args.bytes.now c.in_ok-least.least c.in_ok-least.completion c.in_ok-least.ensures.least c.in_ok-least.ensures.completion c.if-least-completion.false
-    (not_valid d root doc c.none_possible_law.ensures c.args.verdicts.now.verdicts (proper c.args.grammar.now.layout.dtd) c.proper_doc_law.ensures c.requires.possible.verdicts.are_verdicts some)
+    is_exact d root doc c.args.bytes.now c.in_ok-least.least c.in_ok-least.completion
+    c.in_ok-least.ensures.least c.in_ok-least.ensures.completion c.if-least-completion.false
+    (not_valid d root doc c.none_possible_law.ensures c.args.verdicts.now.verdicts
+    (proper c.args.grammar.now.layout.dtd) c.proper_doc_law.ensures
+    c.requires.possible.verdicts.are_verdicts some)
 
 pub returns-in_err-own_text-clause-refused : goal.returns-in_err-own_text-clause-refused
 returns-in_err-own_text-clause-refused g c =
