@@ -96,6 +96,7 @@ def main():
     top, rounds, part = sys.argv[1], int(sys.argv[2]), "".join(sys.argv[3:4])
     program = os.path.abspath(os.environ.get("PVLONG", f"{top}/build/pvlong"))
     os.environ["XML_CATALOG_FILES"] = published.CATALOGS
+    os.environ.pop("PVLONG_SECONDS", None)
     print("| On | Printed | Took | Memory |\n|---|---|---|---|")
     with tempfile.TemporaryDirectory() as folder:
         os.chdir(folder)

@@ -374,7 +374,7 @@ def try_late_row(both: Programs, dtd: str, root: str, kids: str, least: int) -> 
 
 
 def try_late(both: Programs) -> None:
-    """Where no time is left: bounds and completions of the examples and of long lists, which may be further apart; and what are no seconds."""
+    """Where no time is left: bounds and completions of the examples and of long lists, which may be further apart; and what are seconds."""
     with within("0"):
         for dtd, (root, names) in EXAMPLES.items():
             for name in names:
@@ -382,9 +382,10 @@ def try_late(both: Programs) -> None:
         for row in ROWS:
             try_late_row(both, *row)
         try_heavy(both)
-    for seconds in ("", "x", "01", "+1", "1.5", "4294967296"):
+    for seconds in ("4294967295", "", "x", "01", "+1", "1.5", "4294967296"):
+        wanted = (0, b"need 1\n") if seconds == "4294967295" else (2, b"usage\n")
         with within(seconds):
-            both.case("late", lambda: same(both.long("need", "good.dtd", "a", "good.xml"), (2, b"usage\n"), "no seconds") or "no seconds",
+            both.case("seconds", lambda wanted=wanted: same(both.long("need", "good.dtd", "a", "good.xml"), wanted, "need") or "as told",
                       lambda seconds=seconds: seconds)
 
 
@@ -402,6 +403,7 @@ def main() -> int:
     random.seed(int(sys.argv[3]))
     share = float(sys.argv[4]) / 3
     os.environ["XML_CATALOG_FILES"] = published.CATALOGS
+    os.environ.pop("PVLONG_SECONDS", None)
     both = Programs(pvlong, pvtag)
     with tempfile.TemporaryDirectory() as folder:
         os.chdir(folder)
