@@ -332,7 +332,7 @@ def try_telling(trial: Trial) -> None:
         trial.expect(f"the answer to {words}", said.endswith(f" {status}\n") and run.returncode == status, (said, run.returncode))
         trial.expect(f"what is said of {words}", errors == (f"{name}: {wanted}\n" if wanted else ""), errors)
         trial.expect(f"one process for {words}", is_same == (not wanted and words != "pvtag no words"), said)
-    no_seconds = "PVLONG_SECONDS is to be a number of seconds, and `x` is none"
+    no_seconds = "PVLONG_SECONDS is to be a whole number from 0 to 4294967295, and `x` is none"
     for seconds, root, wanted in (("x", "r", no_seconds), ("4294967295", "-a", "ROOT is to be a name, and `-a` is none")):
         _, _, errors = trial.run("pvlong", "need", there, root, there, STATUS="2", PATH="/nowhere", PVLONG_SECONDS=seconds)
         trial.expect(f"what is said of {seconds} seconds", errors == f"pvlong: {wanted}\n", errors)

@@ -139,7 +139,7 @@ case $status.$name.$command in
     ;;
 2.pvlong.check | 2.pvlong.need | 2.pvlong.complete)
     if ! is_seconds "${PVLONG_SECONDS-0}"; then
-        say "PVLONG_SECONDS is to be a number of seconds, and \`$PVLONG_SECONDS\` is none"
+        say "PVLONG_SECONDS is to be a whole number from 0 to 4294967295, and \`$PVLONG_SECONDS\` is none"
     else
         say_words 3 'DTD ROOT DOC' && say "ROOT is to be a name, and \`$3\` is none"
     fi
