@@ -10,6 +10,7 @@ use Rattle.pv_opening.specs.declared.status.Status.TheVariants.{Done}
 use Rattle.pv_tree.specs.Plain.{PlainDoc}
 use Rattle.pv_tree.specs.View.{view}
 use Rattle.pv_tree.specs.declared.nodes.Mark.{Mark}
+use Rattle.pv_opening.specs.Possibility.{TellsPossibility}
 use Rattle.pv_opening.specs.Returns.{TellsBy}
 use Rattle.pv_opening.specs.declared.stop.Stop.{Stop}
 use Rattle.pv_opening.proofs.Stages.{stops_as}
