@@ -1,6 +1,7 @@
 //! Whether columns cost no more than their rules lead to that cut no span.
 
-ghost use Rattle.std.specs.Prelude.{◌≡◌, ◌≤◌, ◌<◌, ℕ, IsTrue, Some, length, map, slice_get, suc};
+ghost use Rattle.std.specs.Prelude.{◌≡◌, ◌≤◌, ◌<◌, ◌-◌, ℕ, IsTrue, Some, length, map, slice_get};
+ghost use Rattle.std.specs.Prelude.{slice_index_or, suc};
 ghost use Rattle.pv_model.specs.Plain.{named};
 ghost use Rattle.pv_model.specs.PlainForms.{plain_token};
 ghost use Rattle.pv_layout.specs.ColumnRules.{IsOneOf};
@@ -12,6 +13,7 @@ ghost use Rattle.pv_bounds.specs.HoldingForms.{ColumnHolds, CostsNoMore, TextsHo
 
 use crate::claim::Claim;
 use crate::covers::covers;
+use crate::fronts::Fronts;
 use pv_layout::Form;
 use pv_model::{NameId, is_element_over, is_text_at};
 
@@ -36,6 +38,16 @@ fn kept_holds(claim: &Claim<'_>, column: u32, id: NameId, place: u32) -> bool
         || claim.fronts.cost(column, place, place + 1) == 0
 }
 
+// Whether a member has the class of the one before it, and so its reaches.
+fn is_as_before(fronts: &Fronts, members: &[u32], index: usize) -> bool
+    requires { index < length members.now }
+    ensures { IsTrue result → (0 < index) × ((i j : ℕ) →
+        cost_from fronts.now (slice_index_or members.now index 0) i j ≡
+        cost_from fronts.now (slice_index_or members.now (index - 1) 0) i j) }
+{
+    index > 0 && fronts.class_of(members[index]) == fronts.class_of(members[index - 1])
+}
+
 // Whether a column costs no more at a place than each of some columns.
 fn members_hold(claim: &Claim<'_>, column: u32, members: &[u32], place: u32) -> bool
     ensures { IsTrue result → (d : ℕ) → IsOneOf d members.now →
@@ -45,7 +57,9 @@ fn members_hold(claim: &Claim<'_>, column: u32, members: &[u32], place: u32) -> 
 {
     let here = claim.fronts.at(column, place);
     for index in 0..members.len() {
-        if !covers(&here, &claim.fronts.at(members[index], place), 0) {
+        if !is_as_before(claim.fronts, members, index)
+            && !covers(&here, &claim.fronts.at(members[index], place), 0)
+        {
             return false;
         }
     }

@@ -20,7 +20,7 @@ use pv_layout::Form;
 use std::alloc::Global;
 
 /// How many places are looked at by which the cuts at one before them may hold.
-const NEAR: u32 = 5;
+const NEAR: u32 = 33;
 
 /// A column that may have a first one, and a second one after it.
 #[derive(Clone, Copy)]

@@ -125,12 +125,25 @@ impl Level {
     }
 }
 
-// The number of the first level of a cost, or how many levels there are.
+// Where the level of a cost stands, or is to stand, where the costs of levels grow.
+fn place_of(levels: &[Level], cost: u32) -> usize {
+    levels.partition_point(|level| level.cost < cost)
+}
+
+// The number of a level of a cost, or how many levels there are. They mostly come in the order of
+// their costs.
 fn level_of(levels: &[Level], cost: u32) -> usize
     ensures within { result ≤ length levels.now }
     ensures cost { (d : Level) → result < length levels.now →
         (slice_index_or levels.now result d).cost ≡ cost }
 {
+    let place = place_of(levels, cost);
+    if place >= levels.len() {
+        return levels.len();
+    }
+    if levels[place].cost == cost {
+        return place;
+    }
     for index in 0..levels.len() {
         if levels[index].cost == cost {
             return index;
