@@ -58,6 +58,8 @@ ROWS = [
     (OPERATIONS, "expr", "<num/>" * 70, 138),
     (OPERATIONS, "expr", "<num/>" + "<op/><num/>" * 69, 138),
     ("<!ELEMENT a (b*)><!ELEMENT b (c|d)+><!ELEMENT c EMPTY><!ELEMENT d (e,c)><!ELEMENT e EMPTY>", "a", "<e/><c/><b><c/></b>" * 60, 120),
+    # One missing element has 1,200 of the kids, and another one the others.
+    ("<!ELEMENT r (x,y)><!ELEMENT x (s+)><!ELEMENT y (b+)><!ELEMENT s (a,a)><!ELEMENT a EMPTY><!ELEMENT b EMPTY>", "r", "<a/>" * 1_200 + "<b/>" * 900, 602),
 ]
 
 

@@ -21,6 +21,7 @@ pub mod laws;
 mod making;
 mod tags;
 mod telling;
+mod word_bounds;
 
 pub use answers::{Completion, Missing};
 pub use deadlines::{Deadline, NoDeadline};

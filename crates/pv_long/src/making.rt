@@ -16,5 +16,6 @@ pub mod places;
 pub mod shared;
 pub mod spreading;
 pub mod tails;
+pub mod told;
 pub mod whole;
 pub mod windows;

@@ -9,11 +9,12 @@ use crate::making::derivations::{Derivations, Rule};
 use crate::making::empties::{cheapest_of, cost_at};
 use crate::making::filling::Filled;
 use crate::making::fronts::reach_to;
-use crate::making::goals::{Span, Wanted};
+use crate::making::goals::{Parts, Span, Wanted};
+use crate::making::told::Told;
 use pv_bounds::Fronts;
 use pv_chars::NoMemory;
 use pv_layout::Form;
-use pv_model::NameId;
+use pv_model::Token;
 use pv_rules::HEAVIEST;
 use pv_write::Piece;
 use std::alloc::Global;
@@ -25,14 +26,6 @@ struct Goal {
     rank: u64,
 }
 
-/// What a goal is built of: a piece, and what is wanted after it, the second after the first.
-#[derive(Clone, Copy, Debug)]
-struct Parts {
-    piece: Option<Piece>,
-    first: Option<Wanted>,
-    second: Option<Wanted>,
-}
-
 /// The pieces of a list so far, and the goals that are left, the next at the end.
 #[derive(Drop)]
 struct Built {
@@ -40,47 +33,21 @@ struct Built {
     goals: Vec<Goal>,
 }
 
+/// What tells of what a column over some tokens is built.
+#[derive(Clone, Copy)]
+enum Lead<'a> {
+    /// The derivations of reaches of classes.
+    Derivations(&'a Derivations, &'a Classes),
+    /// What fronts tell of this word, within the number of a span.
+    Fronts(&'a [Token]),
+}
+
 /// What stands in columns, and what was made of a list.
 #[derive(Clone, Copy)]
 struct Ground<'a> {
     forms: &'a [Form],
     fronts: &'a Fronts,
-    derivations: &'a Derivations,
-    classes: &'a Classes,
-}
-
-impl Parts {
-    // A piece alone.
-    fn piece(piece: Piece) -> Parts {
-        Parts {
-            piece: Some(piece),
-            first: None,
-            second: None,
-        }
-    }
-
-    // What stands in a new element, with its tags.
-    fn element(id: NameId, content: Wanted) -> Parts {
-        Parts {
-            piece: Some(Piece::Start(id)),
-            first: Some(content),
-            second: Some(Wanted::End(id)),
-        }
-    }
-
-    // What may be wanted, one after the other.
-    fn wanted(first: Option<Wanted>, second: Option<Wanted>) -> Parts {
-        Parts {
-            piece: None,
-            first,
-            second,
-        }
-    }
-
-    // What is wanted alone.
-    fn one(wanted: Wanted) -> Parts {
-        Parts::wanted(Some(wanted), None)
-    }
+    lead: Lead<'a>,
 }
 
 impl<'a> Ground<'a> {
@@ -105,7 +72,24 @@ impl<'a> Ground<'a> {
             Wanted::Empty(column) => self.rank_of_empty(self.empty(column), column),
             Wanted::Tokens(span) => {
                 let first = self.rank_of_empty(HEAVIEST, 0);
-                u64::saturating_add(first, u64::from(span.number))
+                u64::saturating_add(first, self.rank_of_span(span))
+            }
+        }
+    }
+
+    // The rank of a column over some tokens, among such. Where fronts lead, what stands in an
+    // element costs less, what a span is cut into is shorter, and else columns have smaller
+    // numbers.
+    fn rank_of_span(&self, span: Span) -> u64 {
+        match self.lead {
+            Lead::Derivations(_, _) => u64::from(span.number),
+            Lead::Fronts(word) => {
+                let columns = u64::try_from(self.forms.len()).unwrap_or(u64::MAX);
+                let tokens = u64::try_from(word.len()).unwrap_or(u64::MAX);
+                let length = u64::from(u32::saturating_sub(span.to, span.from));
+                let cost = u64::saturating_mul(u64::from(span.number), tokens);
+                let rank = u64::saturating_mul(u64::saturating_add(cost, length), columns);
+                u64::saturating_add(rank, u64::from(span.column))
             }
         }
     }
@@ -134,7 +118,13 @@ impl<'a> Ground<'a> {
     }
 
     // What a column is built of, where a part of a class alone has tokens.
-    fn parts_of_one(&self, form: &Form, span: Span, (part, class): (u32, u32)) -> Option<Parts> {
+    fn parts_of_one(
+        &self,
+        form: &Form,
+        span: Span,
+        (part, class): (u32, u32),
+        classes: &Classes,
+    ) -> Option<Parts> {
         let inner = |column| {
             Wanted::Tokens(Span {
                 column,
@@ -147,14 +137,14 @@ impl<'a> Ground<'a> {
             Form::Nothing => None,
             Form::Element(id, content) => Some(Parts::element(*id, inner(*content))),
             Form::OneOf(members) => {
-                let member = member_of(self.classes, members.as_slice(), class)?;
+                let member = member_of(classes, members.as_slice(), class)?;
                 Some(Parts::one(inner(member)))
             }
             Form::Opt(one) => Some(Parts::one(inner(*one))),
             Form::Star(one, _) => Some(Parts::one(inner(*one))),
             Form::Plus(one) => Some(Parts::one(inner(*one))),
             Form::Then(first, rest) => {
-                let both = if self.classes.of(*first) == class {
+                let both = if classes.of(*first) == class {
                     (inner(*first), Wanted::Empty(*rest))
                 } else {
                     (Wanted::Empty(*first), inner(*rest))
@@ -164,20 +154,40 @@ impl<'a> Ground<'a> {
         }
     }
 
-    // What a column over some tokens is built of, where it can be. Where the span is shorter than
-    // the derivation, a cheaper reach may go far enough, by an earlier one.
-    fn parts_of_span(&self, wanted: Span) -> Option<Parts> {
+    // What a column over some tokens is built of by a derivation, where it can be. Where the span
+    // is shorter than the derivation, a cheaper reach may go far enough, by an earlier one.
+    fn parts_by_derivation(
+        &self,
+        wanted: Span,
+        derivations: &Derivations,
+        classes: &Classes,
+    ) -> Option<Parts> {
         let form = self.forms.get(wanted.column as usize)?;
         let front = self.fronts.at(wanted.column, wanted.from).near;
         let mut span = wanted;
         if let Some(reach) = reach_to(front, wanted.to) {
             span.number = reach.via.min(wanted.number);
         }
-        match self.derivations.get(span.number)?.rule {
+        match derivations.get(span.number)?.rule {
             Rule::Token => Some(Parts::piece(Piece::Kept)),
             Rule::Text { rest } => Some(parts_of_text(span, rest)),
-            Rule::One { part, column } => self.parts_of_one(form, span, (part, column)),
+            Rule::One { part, column } => self.parts_of_one(form, span, (part, column), classes),
             Rule::Two { first, cut, second } => parts_of_two(form, span, cut, (first, second)),
+        }
+    }
+
+    // What a column over some tokens is built of, where it can be.
+    fn parts_of_span(&self, wanted: Span) -> Option<Parts> {
+        match self.lead {
+            Lead::Derivations(derivations, classes) => {
+                self.parts_by_derivation(wanted, derivations, classes)
+            }
+            Lead::Fronts(word) => Told {
+                forms: self.forms,
+                fronts: self.fronts,
+                word,
+            }
+            .parts_of(wanted),
         }
     }
 
@@ -342,11 +352,38 @@ pub fn build(
     let ground = Ground {
         forms,
         fronts,
-        derivations: &filled.derivations,
-        classes: &filled.classes,
+        lead: Lead::Derivations(&filled.derivations, &filled.classes),
     };
     match first_wanted(fronts, column, tokens) {
         Some(wanted) => pieces_of(alloc, ground, wanted),
         None => Err(MakeError::Unproved),
+    }
+}
+
+/// The pieces of a column over a whole word by fronts alone, if these lead to such in which no more
+/// than so many elements are new.
+pub fn build_by_fronts(
+    alloc: Global,
+    forms: &[Form],
+    fronts: &Fronts,
+    column: u32,
+    word: &[Token],
+    most: u32,
+) -> Result<Option<Vec<Piece>>, MakeError> {
+    let ground = Ground {
+        forms,
+        fronts,
+        lead: Lead::Fronts(word),
+    };
+    let wanted = Wanted::Tokens(Span {
+        column,
+        number: most,
+        from: 0,
+        to: u32::try_from(word.len()).unwrap_or(u32::MAX),
+    });
+    match pieces_of(alloc, ground, wanted) {
+        Ok(pieces) => Ok(Some(pieces)),
+        Err(MakeError::Unproved) => Ok(None),
+        Err(error) => Err(error),
     }
 }

@@ -127,8 +127,9 @@ impl Here {
         })
     }
 
-    /// Goes to a place, where there is no reach so far. Where no reach goes far, all cuts are tried
-    /// of the columns of which they were at the place before.
+    /// Goes to a place, where there is no reach so far. All cuts are tried of all columns where only
+    /// near reaches and those up to the end of the list are made, and of those of which they were
+    /// tried at the place before where reaches end with windows.
     pub fn go_to(&mut self, place: u32) {
         self.place = place;
         let way = self.grain.way;

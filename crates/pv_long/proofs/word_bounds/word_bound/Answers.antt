@@ -6,7 +6,7 @@ use Rattle.pv_productive.specs.PlainForms.{dtd_of}
 use Rattle.pv_missing.specs.PlainForms.{plain_of}
 use Rattle.pv_bounds.specs.Fronts.{front_value}
 use Rattle.pv_long.proofs.BoundSums.{bound_told}
-use Rattle.pv_long.proofs.bounding.word_bound.Goals as goal
+use Rattle.pv_long.proofs.word_bounds.word_bound.Goals as goal
 
 pub returns-then-branch : goal.returns-then-branch
 returns-then-branch c = λ root list words site.
