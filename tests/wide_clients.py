@@ -1,5 +1,5 @@
 """Tries what clients say of a document with a list that is too wide for `pvtag` to count: the page, the language server, reports and `clients/complete` ask `pvlong`, a
-stand-in for which tells a number, a range or nothing, or takes its time.
+stand-in for which tells a number, a range or nothing, or takes as long as it may.
 
 Words: the program, and `pvlong`, which is then asked too. Prints each difference, and how many cases passed; ends with 1 where one failed.
 """
@@ -23,6 +23,10 @@ sys.path.insert(0, os.path.dirname(FOLDER))
 from annotate.completions import Completions  # noqa: E402
 from annotate.editor import Editor  # noqa: E402
 from annotate.script import Script  # noqa: E402
+from pvtag.long import environment  # noqa: E402
+
+# What says for how many seconds `pvlong` looks for bounds, and what is said of bounds that don't meet.
+SECONDS, RANGE = "PVLONG_SECONDS", "1 to 2 elements are missing"
 
 
 @contextlib.contextmanager
@@ -117,11 +121,64 @@ def reports_tell(program, other=None):
         path = os.path.join(beside.folder, "doc.xml")
         with open(path, "w", encoding="utf-8") as file:
             file.write(WIDE)
-        for count, told in (("0 need 2", (2, None)), ("0 need 1 to 2", (1, "1 to 2 elements are missing")), ("8 no limit", (None, None)))[:1 if other else 3]:
+        for count, told in (("0 need 2", (2, None)), ("0 need 1 to 2", (1, RANGE)), ("8 no limit", (None, None)))[:1 if other else 3]:
             if other is None:
                 beside.tells(count, "0 ")
             row, = rows_of(beside, ARTICLE, "doc", path)
             same((row["verdict"], row.get("missing"), row.get("sentence")), ("possible", *told), "a row")
+
+
+@contextlib.contextmanager
+def given(seconds):
+    """The environment of a user who says how long `pvlong` looks for bounds."""
+    os.environ[SECONDS] = seconds
+    try:
+        yield
+    finally:
+        del os.environ[SECONDS]
+
+
+def ranges_in_time(program):
+    """Where `pvlong` looks for bounds as long as it may, a range comes in time: it is told how long that is, a third of the most, or what the user says."""
+    with Beside(program) as beside:
+        path = os.path.join(beside.folder, "doc.xml")
+        with open(path, "w", encoding="utf-8") as file:
+            file.write(WIDE)
+        beside.tells("0 need 1 to 2", "11 ")
+        with beside.slow():
+            with asked_on(beside) as (completions, editor):
+                same(completions.wide.need(editor.version), {"version": editor.version, "least": 1, "most": 2}, "on the page")
+                same(beside.seconds(), "20", "its seconds")
+            with Client(beside.program) as client:
+                uri = uri_of("late.xml")
+                client.open(uri, f"<!DOCTYPE doc SYSTEM 'article.dtd'>\n{WIDE}\n")
+                (message,) = [each["message"] for each in client.diagnostics(uri, finished) if each["code"] == "missing"]
+                need(message.endswith(f": {RANGE}."), message)
+                same(beside.seconds(), "20", "its seconds")
+            row, = rows_of(beside, "--most", "60", ARTICLE, "doc", path)
+            same((row.get("missing"), row.get("sentence"), beside.seconds()), (1, RANGE, "20"), "in a report")
+            words = [sys.executable, os.path.join(TOP, "clients", "complete"), "--program", beside.program, ARTICLE, "doc", path]
+            ran = subprocess.run(words, capture_output=True, text=True, timeout=PATIENCE)
+            same((ran.returncode, ran.stdout, beside.seconds()), (0, VALID, "20"), "a completion")
+        for words, seconds in (((), "200"), (("--most", "2147483647"), "715827")):
+            rows_of(beside, *words, ARTICLE, "doc", path)
+            same(beside.seconds(), seconds, f"the seconds of a report {words}")
+        same(environment(2)[SECONDS], "1", "at least one")
+        with given("7"), asked_on(beside) as (completions, editor):
+            need("least" in completions.wide.need(editor.version), "on the page")
+            same(beside.seconds(), "7", "the user's seconds")
+            rows_of(beside, ARTICLE, "doc", path)
+            same(beside.seconds(), "7", "the user's seconds in a report")
+
+
+def ranges_of_pvlong(program, other):
+    """What `pvlong` itself answers where no time is left."""
+    with Beside(program, other) as beside, given("0"):
+        path = os.path.join(beside.folder, "doc.xml")
+        with open(path, "w", encoding="utf-8") as file:
+            file.write(WIDE)
+        row, = rows_of(beside, ARTICLE, "doc", path)
+        need((row.get("missing"), row.get("sentence")) in ((1, RANGE), (2, None)), f"in a report: {row}")
 
 
 def rows_of(beside, *words):
@@ -205,12 +262,14 @@ def sessions_refuse(program, other=None):
             need(ran.returncode == 1 and ran.stderr.endswith(f"this list has too many kids under this DTD; {told}\n"), f"the page isn't opened: {ran}")
 
 
-CASES = [page_asks, page_tells_ranges, moves_end_it, server_tells, server_ends_it, reports_tell, command_completes, sessions_refuse, reports_judge]
-OF_BOTH = [page_asks, server_tells, reports_tell, command_completes, sessions_refuse, reports_judge]
+CASES = [page_asks, page_tells_ranges, moves_end_it, server_tells, server_ends_it, reports_tell, ranges_in_time, command_completes,
+         sessions_refuse, reports_judge]
+OF_BOTH = [page_asks, server_tells, reports_tell, ranges_of_pvlong, command_completes, sessions_refuse, reports_judge]
 
 
 def main():
     program = os.path.abspath(sys.argv[1])
+    os.environ.pop(SECONDS, None)
     cases = [functools.update_wrapper(functools.partial(case, program), case) for case in CASES]
     for other in map(os.path.abspath, sys.argv[2:3]):
         cases += [functools.update_wrapper(functools.partial(case, program, other), case) for case in OF_BOTH]

@@ -1,8 +1,10 @@
 """The program `pvlong`, which is asked where a list is too wide: how many elements are missing, or between which numbers, a
 document with so many inserted, and whether the document is valid or can be made so.
 
-Where it isn't there, can't be run, takes too long or tells nothing, the answer is none.
+Where it isn't there, can't be run, takes too long or tells nothing, the answer is none. It looks for bounds for a third of
+the time that it may take, so that two numbers come of a list for which there is too little time.
 """
+import os
 import threading
 from typing import NamedTuple
 
@@ -13,6 +15,8 @@ __all__ = ("Checked", "Counted", "Inserted")
 
 # The most that a run may take, in seconds.
 MOST = 60.0
+# The variable that says for how many seconds it looks for bounds.
+SECONDS = "PVLONG_SECONDS"
 # The status of a document to which fewer insertions might lead.
 NOT_LEAST = 11
 # One run at a time.
@@ -114,8 +118,14 @@ def asked(program: list[str], runs: Running, *words: str) -> Answer | None:
         if runs.stopped:
             raise Stopped
     try:
-        return run(found, *words, most=MOST, runs=runs)
+        return run(found, *words, most=MOST, runs=runs, env=environment(MOST))
     except Trouble:
         return None
     finally:
         TURN.release()
+
+
+def environment(most: float) -> dict[str, str]:
+    """The environment of a run that may take so many seconds. It looks for bounds for a third of them, unless the user's
+    environment says how long: the rest is for the list that it is at then, and for those after it."""
+    return {SECONDS: str(max(1, int(most) // 3)), **os.environ}

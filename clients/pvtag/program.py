@@ -9,7 +9,7 @@ import shutil
 import subprocess
 import sys
 import threading
-from collections.abc import Callable, Iterator, Sequence
+from collections.abc import Callable, Iterator, Mapping, Sequence
 from typing import IO, Any, NamedTuple
 
 # What other tools may use; each has an example.
@@ -183,11 +183,11 @@ class Running:
         self.lock, self.runs, self.stopped = threading.Lock(), set[subprocess.Popen[bytes]](), False
         self.most = most
 
-    def begin(self, words: list[str], files: Sequence[int]) -> subprocess.Popen[bytes]:
+    def begin(self, words: list[str], files: Sequence[int], env: Mapping[str, str] | None = None) -> subprocess.Popen[bytes]:
         """Begins one, unless all have been ended."""
         try:
             with handed_over(words) as (given, more):
-                return self.start(given, pass_fds=[*files, *more])
+                return self.start(given, pass_fds=[*files, *more], env=env)
         except OSError as fault:
             raise Trouble(f"{words[0]} can't be run: {fault.strerror}") from None
 
@@ -215,16 +215,17 @@ RUNNING = Running()
 
 
 def run(program: list[str], *words: str, given: bytes = b"", files: Sequence[int] = (), most: float | None = None,
-        runs: Running = RUNNING) -> Answer:
+        runs: Running = RUNNING, env: Mapping[str, str] | None = None) -> Answer:
     r"""Runs one command to its end, or for at most so many seconds: past them the status is -1. `given` is its input,
-    `files` are handed over open; it ends with these `runs`. A run that takes longer than these allow is a trouble.
+    `files` are handed over open; it ends with these `runs`. A run that takes longer than these allow is a trouble. `env`
+    is its environment, that of the caller if there is none.
 
     >>> run(find(), "check", "examples/letter.dtd", "letter", "examples/letter-draft.xml").output
     b'possible 1\n'
     >>> run(find(), "session", "examples/letter.dtd", "letter", "examples/letter-draft.xml", given=b"need\n").line
     'need 1'
     """
-    return ended(runs.begin([*program, *words], files), words, given, most, runs)
+    return ended(runs.begin([*program, *words], files, env), words, given, most, runs)
 
 
 def run_tool(*words: str, runs: Running = RUNNING) -> Answer:

@@ -8,10 +8,17 @@ MANY_PARTS = f"<!ELEMENT r (a*, b)><!ELEMENT a EMPTY><!ELEMENT b EMPTY><!ELEMENT
 TOO_MANY = "<a/>" * 4500
 WIDE = f"<doc>{'<p>words</p>' * 3000}</doc>"
 VALID = WIDE.replace("<doc>", "<doc><head></head><sec>").replace("</doc>", "</sec></doc>")
-# It keeps a line for each run, and inserts what a wide document lacks. One that is held waits.
+# It keeps a line for each run, and the seconds that it is given, and inserts what a wide document lacks. One that is held waits; one that is slow
+# waits a tenth of a second for each that it is given, and six minutes where it is given none.
 STAND_IN = r"""#!/bin/sh
 echo "$1" >>"$0.runs"
+echo "$PVLONG_SECONDS" >"$0.seconds"
 while [ -e "$0.held" ]; do sleep 0.05; done
+left=${PVLONG_SECONDS:-3600}
+while [ -e "$0.slow" ] && [ "$left" -gt 0 ]; do
+    sleep 0.1
+    left=$((left - 1))
+done
 read -r status line <"$0.$1"
 case $line in
 "") sed 's|<doc\([^>]*\)>|<doc\1><head></head><sec>|; s|</doc>|</sec></doc>|' "$4" ;;
@@ -52,6 +59,19 @@ class Beside:
         yield
         with contextlib.suppress(FileNotFoundError):
             os.unlink(f"{self.other}.held")
+
+    @contextlib.contextmanager
+    def slow(self):
+        """It looks as long as it may."""
+        with open(f"{self.other}.slow", "w", encoding="utf-8"):
+            pass
+        yield
+        os.unlink(f"{self.other}.slow")
+
+    def seconds(self):
+        """How many seconds it was given, in its last run."""
+        with open(f"{self.other}.seconds", encoding="utf-8") as file:
+            return file.read().strip()
 
     def is_running(self):
         return os.path.getsize(f"{self.other}.runs") > 0

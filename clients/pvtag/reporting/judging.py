@@ -6,13 +6,13 @@ import os
 import re
 import shutil
 import threading
-from collections.abc import Iterator
+from collections.abc import Iterator, Mapping
 from typing import TYPE_CHECKING, NamedTuple
 
 from pvtag.attributes import MISSING, Attributes, python_with_lxml
 from pvtag.dtd import Dtd
 from pvtag.finder import NAME as NAME_OF, Finder, Named, Plain, Told, names_in
-from pvtag.long import Counted, counted
+from pvtag.long import Counted, counted, environment
 from pvtag.masks import Masked, MaskedSource, mask
 from pvtag.places import Place, Source, Span
 from pvtag.program import Answer, Stopped, Trouble, file_of, find_long, is_utf_8, read_file, run, seen_of
@@ -161,12 +161,12 @@ class Judge:
             return False
         return (row.dtd_sum, row.root) == (under.sum, under.root)
 
-    def run(self, *words: str, given: bytes = b"", program: list[str] | None = None) -> Answer:
+    def run(self, *words: str, given: bytes = b"", program: list[str] | None = None, env: Mapping[str, str] | None = None) -> Answer:
         """One run of the program, or of another. It takes no words that aren't UTF-8, so that such a name is handed over as an open file."""
         with contextlib.ExitStack() as files:
             named = [files.enter_context(utf_8(word)) for word in words]
             handed = [it for _, it in named if it is not None]
-            answer = run(program or self.program, *[word for word, _ in named], given=given, files=handed, most=self.most)
+            answer = run(program or self.program, *[word for word, _ in named], given=given, files=handed, most=self.most, env=env)
         return answer
 
     def answer(self, question: str, given: Given) -> Answer:
@@ -246,7 +246,9 @@ class Judge:
 
     def long_answer(self, question: str, given: Given) -> Answer | None:
         """What `pvlong` answers for a document, if it is there."""
-        return self.run(question, given.under.path, given.under.root, given.path, program=self.long) if self.long is not None else None
+        if self.long is None:
+            return None
+        return self.run(question, given.under.path, given.under.root, given.path, program=self.long, env=environment(self.most))
 
     def is_open(self, row: Row) -> bool:
         """Whether it is still to be asked how many elements are missing. Of a document that is too wide for that `sentence` says so."""
