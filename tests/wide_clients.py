@@ -21,9 +21,11 @@ from lib.waiting import PATIENCE, until  # noqa: E402
 sys.path.insert(0, os.path.dirname(FOLDER))
 
 from annotate.completions import Completions  # noqa: E402
+from annotate.drawer import told_of  # noqa: E402
 from annotate.editor import Editor  # noqa: E402
 from annotate.script import Script  # noqa: E402
 from pvtag.long import environment  # noqa: E402
+from pvtag.reporting.rows import Row  # noqa: E402
 
 # What says for how many seconds `pvlong` looks for bounds, and what is said of bounds that don't meet.
 SECONDS, RANGE = "PVLONG_SECONDS", "1 to 2 elements are missing"
@@ -126,6 +128,21 @@ def reports_tell(program, other=None):
                 beside.tells(count, "0 ")
             row, = rows_of(beside, ARTICLE, "doc", path)
             same((row["verdict"], row.get("missing"), row.get("sentence")), ("possible", *told), "a row")
+
+
+def pages_tell_ranges(program):
+    """A range in the page of a report, and in the list of a folder."""
+    with Beside(program) as beside:
+        path, page = (os.path.join(beside.folder, name) for name in ("doc.xml", "page.html"))
+        with open(path, "w", encoding="utf-8") as file:
+            file.write(WIDE)
+        beside.tells("0 need 1 to 2", "11 ")
+        row, = rows_of(beside, "--html", page, ARTICLE, "doc", path)
+        with open(page, encoding="utf-8") as file:
+            text = file.read()
+        need("<td class=number>1 to 2<td>" in text and "elements that are missing: at least 1;" in text, "the page of a report")
+        same(told_of(Row(**row))["missing"], "1 to 2", "the list of a folder")
+        same(told_of(Row("a.xml", missing=3))["missing"], 3, "a number in it")
 
 
 @contextlib.contextmanager
@@ -262,7 +279,7 @@ def sessions_refuse(program, other=None):
             need(ran.returncode == 1 and ran.stderr.endswith(f"this list has too many kids under this DTD; {told}\n"), f"the page isn't opened: {ran}")
 
 
-CASES = [page_asks, page_tells_ranges, moves_end_it, server_tells, server_ends_it, reports_tell, ranges_in_time, command_completes,
+CASES = [page_asks, page_tells_ranges, moves_end_it, server_tells, server_ends_it, reports_tell, pages_tell_ranges, ranges_in_time, command_completes,
          sessions_refuse, reports_judge]
 OF_BOTH = [page_asks, server_tells, reports_tell, ranges_of_pvlong, command_completes, sessions_refuse, reports_judge]
 

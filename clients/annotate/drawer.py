@@ -243,7 +243,7 @@ def address_of(name: str) -> str:
 def told_of(row: Row) -> Told:
     """What a document comes to, as the page shows it."""
     place = f"{row.line}:{row.column}: " if row.line is not None else ""
-    return {"verdict": row.verdict, "missing": row.missing, "faults": row.faults, "sentence": shown(place + (row.sentence or ""))}
+    return {"verdict": row.verdict, "missing": row.range or row.missing, "faults": row.faults, "sentence": shown(place + (row.sentence or ""))}
 
 
 def answered(call: Callable[[], Told]) -> Told:

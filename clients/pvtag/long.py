@@ -38,7 +38,7 @@ class Counted(NamedTuple):
 
     @property
     def sentence(self) -> str:
-        return "1 element is missing" if self.most == 1 else f"{self} elements are missing"
+        return "1 element is missing" if self.least == self.most == 1 else f"{self} elements are missing"
 
 
 class Checked(NamedTuple):

@@ -1,7 +1,6 @@
 """A report as one HTML page: counts, and a table that can be sorted. It asks for nothing from the network."""
 import html
 import os
-import re
 import urllib.parse
 from collections import Counter
 from collections.abc import Callable, Iterable, Iterator
@@ -11,8 +10,6 @@ from .summary import documents
 
 TITLES = (("Document", "text"), ("DTD", "text"), ("Bytes", "number"), ("Verdict", "text"), ("Open", "number"), ("Missing", "number"), ("Place", "place"),
           ("What stands there", "text"), ("Seconds", "number"), ("Attributes", "text"), ("Faults", "number"))
-# What is said where `missing` is the least number of a range.
-RANGE = re.compile(r"\d+ to \d+ elements are missing")
 STYLE = """
 :root { color-scheme: light dark; }
 body { font: 15px/1.45 system-ui, sans-serif; margin: 1.5rem; }
@@ -33,7 +30,7 @@ const body = document.querySelector("tbody");
 const value = (row, at, kind) => {
   const text = row.cells[at].textContent;
   if (kind === "text") return text;
-  const [line, column] = text === "" ? [-1] : text.split(":").map(Number);
+  const [line, column] = text === "" ? [-1] : text.split(":").map(parseFloat);
   return kind === "place" ? line * 2 ** 27 + (column ?? 0) : line;
 };
 document.querySelectorAll("th button").forEach((button, at) => button.addEventListener("click", () => {
@@ -58,7 +55,7 @@ def parts(head: Head, rows: Callable[[], Iterable[Row]], folder: str = ".") -> I
         missing += row.missing or 0
         attributes[row.attributes] += 1
         faults += row.faults or 0
-        is_exact = is_exact and (row.verdict != "possible" or row.missing is not None and RANGE.match(row.sentence or "") is None)
+        is_exact = is_exact and (row.verdict != "possible" or row.missing is not None and not row.range)
     told = ", ".join(f"{count} {verdict}" for verdict, count in counts.most_common()) or "no documents"
     yield "<!DOCTYPE html>\n<html lang=en><meta charset=utf-8><meta name=viewport content='width=device-width'><title>Report</title>"
     yield f"<style>{STYLE}</style>\n<h1>{documents(sum(counts.values()))}</h1>\n<p>{told}"
@@ -90,10 +87,10 @@ def row_of(row: Row, folder: str) -> str:
     dtd = f"{row.dtd} ({row.root})" if row.dtd is not None else ""
     link = f'<a href="{link_to(row.path, folder)}">{html.escape(shown(row.path))}</a>'
     cells = [f"<td class=path>{link}", f"<td>{html.escape(shown(dtd))}", number(row.size), f"<td class={row.verdict}>{row.verdict}", number(row.open),
-             number(row.missing), f"<td>{place}", f"<td>{html.escape(shown(row.sentence or ''))}", number(row.seconds),
+             number(row.range or row.missing), f"<td>{place}", f"<td>{html.escape(shown(row.sentence or ''))}", number(row.seconds),
              f"<td class={row.attributes or 'none'}>{row.attributes or ''}", number(row.faults)]
     return "<tr>" + "".join(cells) + "\n"
 
 
-def number(value: float | None) -> str:
+def number(value: float | str | None) -> str:
     return f"<td class=number>{'' if value is None else value}"

@@ -18,6 +18,8 @@ ESCAPED = re.compile(rf"[\\{CONTROLS}]|[\udc80-\udcff]")
 UNESCAPED = re.compile(r"\\(?:([\\tnr])|x([0-9a-f]{2})|u([0-9a-f]{4}))")
 # What a head begins with, and the version of a report's form.
 MARK, VERSION = "pvtag-report", 2
+# How a sentence says between which numbers `missing` is.
+RANGE = re.compile(r"(\d+ to \d+) elements are missing")
 LETTERS = {"\\": "\\", "\t": "t", "\n": "n", "\r": "r"}
 PLAIN = {letter: char for char, letter in LETTERS.items()}
 
@@ -70,6 +72,12 @@ class Row(NamedTuple):
     dtd: str | None = None
     root: str | None = None
     dtd_sum: str | None = None
+
+    @property
+    def range(self) -> str:
+        """Between which numbers `missing` is, as "7 to 9"; "" where it is one number, or none is told."""
+        found = RANGE.match(self.sentence or "")
+        return found[1] if found else ""
 
     def text(self, form: str) -> str:
         """The line, without its end."""
