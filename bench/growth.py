@@ -33,7 +33,7 @@ class Took(NamedTuple):
 
 def command_of(shape: Shape) -> str:
     """The program's command; a session where it is none."""
-    found = re.fullmatch("`(dtd|valid|check|why|deny|complete|verify|standoff|drill)`", shape.command)
+    found = re.fullmatch("`(?:pvlong )?(dtd|valid|check|why|deny|need|complete|verify|standoff|drill)`", shape.command)
     return found[1] if found and shape.script is None else "session"
 
 
@@ -51,7 +51,8 @@ def work_of(program: str, shape: Shape, size: int, folder: str) -> Work:
         pack.write_bytes(shape.changed(made, size) if shape.changed else made)
         names.append(str(pack))
     limit = ["prlimit", f"--as={shape.addresses * 1_000_000}"] if shape.addresses else []
-    return Work([*limit, program, command, dtd, doc.root, *names], script)
+    within = ["env", f"PVLONG_SECONDS={shape.seconds}"] if shape.seconds is not None else []
+    return Work([*limit, *within, program, command, dtd, doc.root, *names], script)
 
 
 def took(work: Work) -> Took:

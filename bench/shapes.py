@@ -23,7 +23,8 @@ class Doc(NamedTuple):
 
 class Shape(NamedTuple):
     """What is run: a command, or a session with a script; on what, in how many of which unit; what else it is given, which may be made of the
-    document's by another command; and the most addresses in MB, where there is a limit on them."""
+    document's by another command; the most addresses in MB, where there is a limit on them; and how many seconds `pvlong` looks for bounds, where
+    that is told."""
     command: str
     title: str
     size: int
@@ -34,10 +35,16 @@ class Shape(NamedTuple):
     by: str = ""
     changed: Callable[[bytes, int], bytes] | None = None
     addresses: int | None = None
+    seconds: int | None = None
 
     @property
     def name(self) -> str:
         return f"{self.command}, {self.title}"
+
+    @property
+    def program(self) -> str:
+        """Which program is run."""
+        return "pvlong" if self.command.startswith("`pvlong ") else "pvtag"
 
 
 def on(commands: str, title: str, size: int, unit: str, made: Callable[[int], Doc]) -> Iterator[Shape]:
@@ -376,6 +383,42 @@ def of_packs() -> Iterator[Shape]:
     yield Shape("`deny`", "an EMPTY element at the end", 50_000, "elements", blank, by="why")
 
 
+# ---- wide lists ----
+
+PAIRS = "<!ELEMENT t ((t, t)?)>"
+OPERATIONS = "<!ELEMENT expr (num|(expr, op?, expr))><!ELEMENT num EMPTY><!ELEMENT op EMPTY>"
+
+
+def in_turn(root: str, dtd: str, *kids: str) -> Callable[[int], Doc]:
+    """So many kids, these in turn."""
+    return lambda size: Doc(dtd, root, f"<{root}>{''.join(kids[at % len(kids)] for at in range(size))}</{root}>")
+
+
+def nest_of_groups(size: int) -> Doc:
+    """Thirty optional groups, each in the one before it, which begin with a name each; the names aren't in that order."""
+    names, model = names_of(30), ""
+    for name in reversed(names):
+        model = f"({name}?, {model}?)" if model else f"({name}?)"
+    declared = "".join(f"<!ELEMENT {name} EMPTY>" for name in names)
+    return Doc(f"<!ELEMENT a (g*)><!ELEMENT g {model}>{declared}", "a", f"<a>{''.join(f'<{names[at * 7 % 30]}/>' for at in range(size))}</a>")
+
+
+def of_wide_lists() -> Iterator[Shape]:
+    """What `pvlong` counts and judges; where it may take long, also if it has a second to look for bounds, and none."""
+    left, turns = in_turn("a", LEFT, "<c/>"), in_turn("doc", ARTICLE.read_text(encoding="utf-8"), "<item/>", "<p/>")
+    for title, made in (("right recursion", in_turn("a", RIGHT, "<c/>")), ("recursion in the middle", in_turn("a", MIDDLE, "<c/>")),
+                        ("pairs of pairs", in_turn("t", PAIRS, "<t/>")), ("operations", in_turn("expr", OPERATIONS, "<num/>"))):
+        yield Shape("`pvlong need`", title, 1_000, "kids", made)
+    yield Shape("`pvlong need`", "left recursion", 200, "kids", left)
+    yield Shape("`pvlong need`", "two names in turn", 100, "kids", turns)
+    yield Shape("`pvlong need`", "a nest of optional groups", 200, "kids", nest_of_groups)
+    for seconds, told in ((1, "a second"), (0, "no time")):
+        yield Shape("`pvlong need`", f"left recursion, in {told}", 200, "kids", left, seconds=seconds)
+        yield Shape("`pvlong need`", f"two names in turn, in {told}", 200, "kids", turns, seconds=seconds)
+    yield Shape("`pvlong check`", "every other kid missing, (b, c)*", 20_000, "kids", wide("<b/>", ROW))
+    yield Shape("`pvlong check`", "left recursion", 20_000, "kids", wide("<c/>", LEFT))
+
+
 def catalogue() -> list[Shape]:
     """All shapes."""
-    return [*of_documents(), *of_models(), *of_dtds(), *of_sessions(), *of_ranges(), *of_packs()]
+    return [*of_documents(), *of_models(), *of_dtds(), *of_sessions(), *of_ranges(), *of_packs(), *of_wide_lists()]

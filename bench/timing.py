@@ -16,9 +16,9 @@ TIME = "/usr/bin/time"
 HERE = os.path.dirname(os.path.abspath(__file__))
 
 
-def program_of(top):
-    """The built program of the repository, or the one that the variable PVTAG names."""
-    return os.path.abspath(os.environ.get("PVTAG", f"{top}/build/pvtag"))
+def program_of(top, name="pvtag"):
+    """The built program of the repository, or the one that the variable of its name names: PVTAG or PVLONG."""
+    return os.path.abspath(os.environ.get(name.upper(), f"{top}/build/{name}"))
 
 
 class Ran(NamedTuple):

@@ -14,7 +14,7 @@ from typing import NamedTuple
 sys.path.insert(0, os.path.join(os.path.dirname(os.path.dirname(os.path.abspath(__file__))), "tests"))
 import published  # noqa: E402
 from lib.dictionaries import dictionary, dictionary_dtd  # noqa: E402
-from timing import run  # noqa: E402
+from timing import program_of, run  # noqa: E402
 
 # The most seconds on the clock for one run.
 LONGEST = 120
@@ -94,7 +94,7 @@ def rows():
 
 def main():
     top, rounds, part = sys.argv[1], int(sys.argv[2]), "".join(sys.argv[3:4])
-    program = os.path.abspath(os.environ.get("PVLONG", f"{top}/build/pvlong"))
+    program = program_of(top, "pvlong")
     os.environ["XML_CATALOG_FILES"] = published.CATALOGS
     os.environ.pop("PVLONG_SECONDS", None)
     print("| On | Printed | Took | Memory |\n|---|---|---|---|")

@@ -1,5 +1,5 @@
 """Measures each command on the shapes that a hostile author would try, at a size and at ten times that size. Words: the repository's folder, and how
-many runs of each.
+many runs of each. Those of `pvlong` are left out where it isn't built.
 
 Told are the least processor time and the memory at the peak of each, with the exponent by which they grow: the logarithm to base 10 of how many
 times as much the larger one takes, 1 where it is linear. What the larger one takes is meant to stay within ten seconds and 2 GiB. With `--write` the
@@ -26,9 +26,11 @@ def line_of(one: Measured) -> str:
 def main() -> None:
     words = [it for it in sys.argv[1:] if not it.startswith("--")]
     top, rounds = words[0], int(words[1])
-    program, load, lines = program_of(top), os.getloadavg()[0], []
+    load, lines = os.getloadavg()[0], []
+    os.environ.pop("PVLONG_SECONDS", None)
     for shape in catalogue():
-        if len(words) < 3 or words[2] in shape.name:
+        program = program_of(top, shape.program)
+        if (len(words) < 3 or words[2] in shape.name) and os.access(program, os.X_OK):
             one = measured(program, shape, rounds)
             lines.append(line_of(one))
             print(lines[-1], flush=True)

@@ -74,7 +74,7 @@ CHECKS = [
         "a session in which an edit of each kind is made, undone and made again, and the other commands, each of whose allocations "
         "fails in turn; of `check`, on lists that one thread judges, and on more that several do, one in 41 and in 1,009 of those "
         "before the last verdicts"),
-    row("worst", "worst cases: how time and memory grow", "", 3600, "python3 tests/worst.py PVTAG",
+    row("worst", "worst cases: how time and memory grow", "", 3600, "python3 tests/worst.py PVTAG PVLONG",
         "each command on what a hostile author would try, at a size and at ten times that size: how time and memory grow, and how much "
         "the larger one takes"),
     row("threads", "how many threads do work", "", 3600, "python3 tests/threads.py PVTAG",

@@ -1,8 +1,8 @@
-"""Holds what the program takes for what a hostile author would try (`bench/shapes.py`) against bounds: how it grows with the size, and how much it is.
+"""Holds what the programs take for what a hostile author would try (`bench/shapes.py`) against bounds: how it grows with the size, and how much it is.
 
-Words: PROGRAM, and a part of the names of shapes where not all are wanted. At ten times the size a run may take ten times as much processor time and
-memory, with some room: exponents of 1.2 and 1.1; and ten seconds of the machine for which they are counted, and 2 GiB. Shapes that are known to take
-more stand in KNOWN with their bound and why. Where a measure is past its bound it is taken again, since a busy machine makes it stray. Prints what is
+Words: PVTAG PVLONG, and a part of the names of shapes where not all are wanted; those of `pvlong` are skipped where it isn't built. At ten times the
+size a run may take ten times as much processor time and memory, with some room: exponents of 1.2 and 1.1; and ten seconds of the machine for which
+they are counted, and 2 GiB. Shapes that are known to take more stand in KNOWN with their bound and why. Where a measure is past its bound it is taken again, since a busy machine makes it stray. Prints what is
 past its bound and which of the known ones no longer are, and how many passed; ends with 1 where one failed.
 """
 import os
@@ -27,10 +27,11 @@ TRIES = 4
 
 
 class Bound(NamedTuple):
-    """The exponents of time and of memory up to which a shape passes, and why it takes so much."""
+    """The exponents of time and of memory up to which a shape passes, and why it takes so much; and the seconds of the larger one."""
     why: str
     time: float = TIME
     memory: float = MEMORY
+    seconds: float = SECONDS
 
 
 SPANS = "a table has a row for each span of the list, and goes over its cuts: cubic in the kids"
@@ -39,7 +40,19 @@ PLACES = "a model of m parts that isn't deterministic, over a word of n tokens, 
 LIST = "an edit costs the list in which it is made"
 CACHE = "the nodes no longer fit the processor's nearer memory"
 THREADS = "behind 65,536 tokens of long lists that aren't valid the document is opened for threads: a step in time and memory, and linear beyond"
+FRONTS = "what leads on from the places of a list is tested in more than linear time, and all of it is made where windows don't close"
+BEGUN = "a list that was begun is finished, whatever the clock says"
+# The most seconds where `pvlong` has one to look for bounds, or none.
+SOON = 5
 KNOWN: dict[str, Bound] = {
+    "`pvlong need`, recursion in the middle": Bound(FRONTS, 2.2),
+    "`pvlong need`, left recursion": Bound(FRONTS, 3.1, 2.2),
+    "`pvlong need`, left recursion, in a second": Bound(FRONTS, 3.1, 2.2, SOON),
+    "`pvlong need`, left recursion, in no time": Bound(FRONTS, 3.1, 2.2, SOON),
+    "`pvlong need`, two names in turn": Bound(FRONTS, 3.4, 2.2),
+    "`pvlong need`, two names in turn, in a second": Bound(BEGUN, 3.4, 2.2, 40),
+    "`pvlong need`, two names in turn, in no time": Bound("a list is completed in one way", 1.6, 1.6, SOON),
+    "`pvlong need`, a nest of optional groups": Bound(FRONTS, 2.2, 2.2),
     "`check`, every other kid missing, (b, c)*": Bound(THREADS, 1.8, 1.9),
     "`check`, left recursion": Bound(THREADS, 1.8, 1.9),
     "`check`, right recursion": Bound(THREADS, 1.8, 1.9),
@@ -77,7 +90,7 @@ def faults_of(one: Measured, pace: float) -> list[str]:
         faults.append(f"time by {one.time_growth:.2f}, and not {bound.time}: {one.small.seconds:.3f} s, {one.large.seconds:.3f} s")
     if one.memory_growth > bound.memory:
         faults.append(f"memory by {one.memory_growth:.2f}, and not {bound.memory}: {one.small.memory:,} kB, {one.large.memory:,} kB")
-    if one.large.seconds > SECONDS * pace:
+    if one.large.seconds > bound.seconds * pace:
         faults.append(f"{one.large.seconds:.1f} s")
     if one.large.memory > KILOBYTES:
         faults.append(f"{one.large.memory:,} kB")
@@ -100,14 +113,19 @@ def judged(program: str, shape: Shape, pace: float) -> tuple[Measured, list[str]
 
 
 def main() -> int:
-    trial, program, part = Expecting(), os.path.abspath(sys.argv[1]), "".join(sys.argv[2:3])
-    pace = max(1.0, min(run([program, "drill", "20000"]).seconds for _ in range(3)) / DRILL)
+    trial, part = Expecting(), "".join(sys.argv[3:4])
+    programs = {name: os.path.abspath(word) for name, word in zip(("pvtag", "pvlong"), sys.argv[1:3])}
+    os.environ.pop("PVLONG_SECONDS", None)
+    pace = max(1.0, min(run([programs["pvtag"], "drill", "20000"]).seconds for _ in range(3)) / DRILL)
     shapes = [it for it in catalogue() if part in it.name]
     unknown = [] if part else [name for name in KNOWN if name not in {it.name for it in shapes}]
     trial.expect("shapes that are known", unknown == [], unknown)
     spent = 0.0
+    if not os.access(programs["pvlong"], os.X_OK):
+        print("skipped: the shapes of pvlong (it isn't built)")
+        shapes = [it for it in shapes if it.program != "pvlong"]
     for shape in shapes:
-        one, faults = judged(program, shape, pace)
+        one, faults = judged(programs[shape.program], shape, pace)
         spent += one.small.seconds + one.large.seconds
         trial.expect(f"{shape.name}, {shape.size:,} and {10 * shape.size:,} {shape.unit}", faults == [], "; ".join(faults))
         if shape.name in KNOWN and one.time_growth <= TIME and one.memory_growth <= MEMORY:
