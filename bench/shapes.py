@@ -310,6 +310,8 @@ def of_sessions() -> Iterator[Shape]:
     yield in_session("documents shown", 50, "lines", lambda size: "show\n" * size, wide("<b/>", SMALL.dtd)(5_000))
     yield in_session("insertions at a list's end", 300, "kids", lambda size: "".join(f"insert 0 {at} c\n" for at in range(2, size)))
     yield in_session("cuts of a text from its front", 300, "cuts", lambda size: "".join(f"split 0.{at} 1\n" for at in range(size)), wide("x" * 4_000, TEXT)(1))
+    yield in_session("cuts of a text from its back", 300, "cuts",
+                     lambda size: "".join(f"split 0.0 {4_000 - at}\n" for at in range(1, size)), wide("é" * 4_000, TEXT)(1))
     yield in_session("offers", 500, "lines", lambda size: "offer 0 0 1\n" * size)
     yield Shape("`offer`", "names with six optional others", 40, "names", optional_others, lambda _: "offer 0 0 1\n")
     yield Shape("`offer`", "100 names, a sequence of 99 groups", 100, "kids", groups, lambda size: f"offer 0 {size // 2} {size // 2 + 1}\n")

@@ -74,6 +74,7 @@ KNOWN: dict[str, Bound] = {
     "`check`, a possible list of each name of a ring": Bound("each list's table goes over the rules of all names that its owner leads to", 2.2),
     "a session, insertions at a list's end": Bound(LIST, 2.2),
     "a session, cuts of a text from its front": Bound(LIST, 2.2),
+    "a session, cuts of a text from its back": Bound(LIST, 2.2),
     "an opening, towers of 511 elements": Bound(CACHE, 1.4),
     "`check`, towers of 511 elements": Bound(CACHE, 1.4),
 }
