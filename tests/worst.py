@@ -51,7 +51,6 @@ KNOWN: dict[str, Bound] = {
     "`pvlong need`, left recursion, in no time": Bound(FRONTS, 3.1, 2.2, SOON),
     "`pvlong need`, two names in turn": Bound(FRONTS, 3.4, 2.2),
     "`pvlong need`, two names in turn, in a second": Bound(BEGUN, 3.4, 2.2, 40),
-    "`pvlong need`, two names in turn, in no time": Bound("a list is completed in one way", 1.6, 1.6, SOON),
     "`pvlong need`, a nest of optional groups": Bound(FRONTS, 2.2, 2.2),
     "`check`, every other kid missing, (b, c)*": Bound(THREADS, 1.8, 1.9),
     "`check`, left recursion": Bound(THREADS, 1.8, 1.9),
