@@ -41,7 +41,7 @@ LIST = "an edit costs the list in which it is made"
 CACHE = "the nodes no longer fit the processor's nearer memory"
 THREADS = "behind 65,536 tokens of long lists that aren't valid the document is opened for threads: a step in time and memory, and linear beyond"
 FRONTS = "what leads on from the places of a list is tested in more than linear time, and all of it is made where windows don't close"
-BEGUN = "a list that was begun is finished, whatever the clock says"
+BEGUN = "a step of a list that was begun is finished, whatever the clock says"
 # The most seconds where `pvlong` has one to look for bounds, or none.
 SOON = 5
 KNOWN: dict[str, Bound] = {
